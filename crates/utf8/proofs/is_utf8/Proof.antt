@@ -1,0 +1,66 @@
+-- `is_utf8` meets its contract. The loop's invariant: what is left decides. Assumes nothing.
+use Prim.Native.Nat.{ℕ, _-_, _<_, _≤_}
+use mathlib.Core.Path.{_≡_, refl, sym, _∙_}
+use mathlib.Core.List.{List}
+use mathlib.Core.Bool.{true, false, not}
+use native.Mathlib.Omega.{arith}
+use borrow.Author.Needs.{needs}
+use borrow.Author.Tests.{not-true, not-false}
+use lib.ListN.{length, drop}
+use Rattle.utf8.specs.Utf8.{utf8}
+use Rattle.utf8.specs.At.{character-at}
+use Rattle.utf8.specs.declared.Character.{Character}
+use Rattle.utf8.proofs.Walk.{walk-onward, walk-utf8, utf8-end}
+use Rattle.utf8.proofs.is_utf8.Statement.{statement}
+use Rattle.utf8.proofs.is_utf8.Tie as tie
+
+abbrev Inv-loop : tie.InvT-loop
+Inv-loop s at₀ at = utf8 s ≡ utf8 (drop at s)
+
+abbrev μ-loop : tie.MeasureT-loop
+μ-loop s at₀ at = length s - at
+
+module _ (s : List ℕ) (at : ℕ) (f : Character) (e : f ≡ character-at s at) (h : at < length s) where
+  less : length s - f .next < length s - at
+  less = omega (arith, walk-onward s at f e h)
+
+  module _ (left : utf8 s ≡ utf8 (drop at s)) where
+    bad : not (f .good) ≡ true → false ≡ utf8 s
+    bad b = sym (left ∙ walk-utf8 s at f e h ∙ rw (not-true (f .good) b))
+
+    good : not (f .good) ≡ false → utf8 s ≡ utf8 (drop (f .next) s)
+    good b = left ∙ walk-utf8 s at f e h ∙ rw (not-false (f .good) b)
+
+end : (s : List ℕ) (at : ℕ) → utf8 s ≡ utf8 (drop at s) → length s ≤ at → true ≡ utf8 s
+end s at left h = sym (left ∙ utf8-end s at h)
+
+loop-holds : tie.Need-loop-holds Inv-loop μ-loop
+loop-holds c = refl
+
+character-at-requires : tie.Need-character-at-requires Inv-loop μ-loop
+character-at-requires c κs = search needs
+
+returns : tie.Need-returns Inv-loop μ-loop
+returns c = search bad
+
+loop-less : tie.Need-loop-less Inv-loop μ-loop
+loop-less c = search less
+
+loop-again : tie.Need-loop-again Inv-loop μ-loop
+loop-again c = search good
+
+returns-2 : tie.Need-returns-2 Inv-loop μ-loop
+returns-2 c = search end
+
+pub is-utf8-spec : {M : Type 1} → statement M
+is-utf8-spec =
+    tie.close
+    (tie.spec
+    Inv-loop
+    μ-loop
+    loop-holds
+    character-at-requires
+    returns
+    loop-less
+    loop-again
+    returns-2)
