@@ -12,6 +12,10 @@ pub record Piece (B : Type 0) : Type 0 where
   pub more : ℕ
   pub good : Bool
 
+-- a well formed piece that takes k items more
+abbrev pub piece : {B : Type 0} → B → ℕ → Piece B
+piece b k = record { what = b; more = k; good = true }
+
 abbrev pub Reader : Type 0 → Type 0 → Type 0
 Reader A B = A → List A → Piece B
 

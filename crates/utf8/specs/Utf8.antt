@@ -7,7 +7,7 @@ use mathlib.Core.List.{List, [], _∷_, _++_}
 use mathlib.Core.Bool.{Bool, true, false, cond, _&&_, _||_}
 use lib.ListN.{getD}
 use lib.Dec.{ltb, leb}
-use Rattle.lists.specs.Pieces.{Piece, Reader, pieces, sound}
+use Rattle.lists.specs.Pieces.{Piece, piece, Reader, pieces, sound}
 
 -- "characters from the U+0000..U+10FFFF range"; "The definition of UTF-8 prohibits encoding character numbers between U+D800 and U+DFFF"
 unfoldable pub scalar : ℕ → Bool
@@ -18,6 +18,7 @@ scalars [] = true
 scalars (c ∷ cs) = scalar c && scalars cs
 
 -- "Char. number range | UTF-8 octet sequence
+--  (hexadecimal)       | (binary)
 --  0000 0000-0000 007F | 0xxxxxxx
 --  0000 0080-0000 07FF | 110xxxxx 10xxxxxx
 --  0000 0800-0000 FFFF | 1110xxxx 10xxxxxx 10xxxxxx
@@ -35,7 +36,7 @@ encoding (c ∷ cs) = encode c ++ encoding cs
 
 -- ---- and back. A character with the number of bytes behind its first; where none starts, U+FFFD, one byte, and not well formed
 unfoldable pub character : ℕ → ℕ → Piece ℕ
-character c m = record { what = c; more = m; good = true }
+character c m = piece c m
 
 unfoldable pub none : Piece ℕ
 none = record { what = 0xFFFD; more = 0; good = false }
@@ -48,7 +49,8 @@ when false p = none
 unfoldable pub tail : ℕ → Bool
 tail b = leb 0x80 b && ltb b 0xC0
 
--- "Determine which bits … belong to the character number": those that the table marks x
+-- "Determine which bits encode the character number from the number of octets in the sequence and the second column of the table above (the bits
+-- marked x)."
 abbrev pub bits-two : ℕ → ℕ → ℕ
 bits-two a b = a % 0x20 * 0x40 + b % 0x40
 

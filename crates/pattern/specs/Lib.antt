@@ -1,0 +1,4 @@
+pub mod Patterns
+pub mod Storing
+pub mod Tests
+pub mod Post

@@ -1,0 +1,19 @@
+-- The bytes that are stored of a glob. Assumes nothing.
+use Prim.Native.Nat.{ℕ}
+use mathlib.Core.List.{List, [], _∷_}
+use mathlib.Core.Bool.{Bool, false, cond, _&&_}
+use lib.Dec.{eqb}
+use Rattle.lists.specs.Signs.{bang, caret, opening}
+use Rattle.pattern.specs.declared.Edition.{Edition}
+
+-- a byte of a glob as it is stored; `b` says that a `[` stands just before it
+unfoldable pub stored-byte : Bool → ℕ → ℕ
+stored-byte b c = cond (b && eqb c caret) bang c
+
+unfoldable pub negated-from : Bool → List ℕ → List ℕ
+negated-from b [] = []
+negated-from b (c ∷ s) = stored-byte b c ∷ negated-from (eqb c opening) s
+
+-- "each `[^` is stored as `[!`"
+unfoldable pub stored : Edition → List ℕ → List ℕ
+stored e s = negated-from false s
