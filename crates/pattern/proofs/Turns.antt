@@ -9,6 +9,7 @@ use native.Mathlib.Nat.{add-zero, le-refl, suc-mul, mul-le-mul-right}
 use native.Mathlib.Omega.{arith}
 use borrow.Author.Tests.{not-true, not-false}
 use lib.ListN.{length, drop}
+use Rattle.numbers.specs.Limits.{token-limit, name-limit}
 use Rattle.lists.proofs.PiecesLaws.{pieces-few}
 use Rattle.utf8.specs.Utf8.{chars}
 use Rattle.utf8.specs.At.{character-at}
@@ -73,7 +74,7 @@ after-fails {x = x} s (differs m q r d) a = after-test m x (rw (r, turn-differs 
 
 -- 01's limits
 abbrev Limits : List ℕ → List ℕ → Type 0
-Limits p n = (length p ≤ 65536) × (length n ≤ 65536)
+Limits p n = (length p ≤ token-limit) × (length n ≤ name-limit)
 
 elements-few : (e : Edition) (p : List ℕ) → length (elements e p) ≤ length p
 unfolding elements
@@ -87,8 +88,8 @@ module _ (e : Edition) (p n : List ℕ) (k : ℕ) where
   -- the number of tests fits
   fits : (r : Trial) → After (whole e p n) k r → Limits p n → k < 18446744073709551616
   fits r a l =
-      let h : length (elements e p) ≤ 65536 = omega (arith, elements-few e p, l .0) in
-      let m : length (elements e p) * (length (chars n) + 1) ≤ 65536 * (length (chars n) + 1) = mul-le-mul-right (length (chars n) + 1) h in
+      let h : length (elements e p) ≤ token-limit = omega (arith, elements-few e p, l .0) in
+      let m : length (elements e p) * (length (chars n) + 1) ≤ token-limit * (length (chars n) + 1) = mul-le-mul-right (length (chars n) + 1) h in
       omega (arith, a .tests, chars-few n, l .1, trial-few (elements e p) (chars n))
 
 -- ---- the loop of `match_name`

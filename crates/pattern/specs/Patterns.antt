@@ -8,7 +8,8 @@ use mathlib.Core.Bool.{Bool, true, false, not, cond, _&&_, _||_}
 use lib.ListN.{length}
 use lib.Dec.{eqb, leb, ltb}
 use Rattle.lists.specs.Pieces.{Piece, piece, Reader, pieces, sound}
-use Rattle.lists.specs.Signs.{asterisk, bang, closing, dash, opening, question}
+use Rattle.numbers.specs.Refusals.{bad-pattern, glob-not-utf8}
+use Rattle.numbers.specs.Signs.{asterisk, bang, closing, dash, opening, question}
 use Rattle.utf8.specs.Utf8.{chars, utf8}
 use Rattle.pattern.specs.declared.Edition.{Edition}
 
@@ -113,6 +114,6 @@ adjacent-from b (one m ∷ p) = adjacent-from false p
 unfoldable pub shaped-from : Edition → Bool → List ℕ → Bool
 shaped-from e b s = sound (element e) s && not (adjacent-from b (pieces (element e) s))
 
--- "5 glob not UTF-8", "6 bracket not closed, or adjacent `*` outside one", in this order; 0 where neither holds
+-- "glob not UTF-8", then "bracket not closed, or adjacent `*` outside one"; 0 where neither holds
 unfoldable pub refusal : Edition → List ℕ → ℕ
-refusal e p = cond (utf8 p) (cond (shaped-from e false (chars p)) 0 6) 5
+refusal e p = cond (utf8 p) (cond (shaped-from e false (chars p)) 0 bad-pattern) glob-not-utf8

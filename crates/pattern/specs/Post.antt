@@ -8,7 +8,7 @@ use mathlib.Core.Bool.{Bool, true, false, cond, _&&_, _||_}
 use lib.ListN.{length, drop}
 use lib.Dec.{eqb}
 use Rattle.lists.specs.Pieces.{pieces}
-use Rattle.lists.specs.Signs.{bang, caret}
+use Rattle.numbers.specs.Signs.{bang, caret}
 use Rattle.utf8.specs.Utf8.{chars}
 use Rattle.pattern.specs.declared.Edition.{Edition}
 use Rattle.pattern.specs.declared.bracket.MemberAt.{MemberAt}

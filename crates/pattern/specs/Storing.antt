@@ -3,7 +3,7 @@ use Prim.Native.Nat.{ℕ}
 use mathlib.Core.List.{List, [], _∷_}
 use mathlib.Core.Bool.{Bool, false, cond, _&&_}
 use lib.Dec.{eqb}
-use Rattle.lists.specs.Signs.{bang, caret, opening}
+use Rattle.numbers.specs.Signs.{bang, caret, opening}
 use Rattle.pattern.specs.declared.Edition.{Edition}
 
 -- a byte of a glob as it is stored; `b` says that a `[` stands just before it

@@ -4,6 +4,7 @@ ghost use mathlib.Core.Path.{_≡_};
 ghost use mathlib.Core.List.{[]};
 ghost use Prim.Native.Nat.{_+_, _<_, _≤_};
 ghost use lib.ListN.{length, drop};
+ghost use Rattle.numbers.specs.Limits.{token-limit, name-limit};
 ghost use Rattle.pattern.specs.Patterns.{elements, matches};
 ghost use Rattle.pattern.specs.Post.{Trial-ok};
 use crate::Edition;
@@ -33,7 +34,7 @@ pub struct Tried {
 
 // The pattern's stored bytes are p, the name's bytes n. The lengths are 01's limits, so that the number of tests fits.
 pub fn match_name(edition: Edition, p: &[u8], n: &[u8]) -> Tried
-    requires { ⌜ (length (now p) ≤ 65536) × (length (now n) ≤ 65536) ⌝ }
+    requires { ⌜ (length (now p) ≤ token-limit) × (length (now n) ≤ name-limit) ⌝ }
     ensures { λ r. ⌜ Trial-ok edition (now (p .entry)) (now (n .entry)) r ⌝ }
 {
     let mut at = 0;

@@ -4,12 +4,15 @@ ghost use mathlib.Core.Path.{_≡_};
 ghost use mathlib.Core.Bool.{cond, false};
 ghost use Prim.Native.Nat.{_≤_};
 ghost use lib.ListN.{length};
+ghost use Rattle.numbers.specs.Refusals.{bad-pattern};
 ghost use Rattle.utf8.specs.Utf8.{chars};
 ghost use Rattle.pattern.specs.Patterns.{refusal, shaped-from};
 ghost use Rattle.pattern.specs.Post.{Closing-ok, read-as, chars-as};
 use crate::Edition;
 use crate::bracket::between_length;
 use crate::bracket::mark_at;
+use numbers::BAD_PATTERN;
+use numbers::GLOB_NOT_UTF8;
 
 // Where the bracket closes whose `[` stands just before a place: the place behind its `]`, or nowhere.
 pub enum Closing {
@@ -31,7 +34,7 @@ fn closing_of(edition: Edition, p: &[u8], at: usize, token: bool) -> Closing
 
 // 6, or 0 where the brackets are closed and the stars apart.
 fn shape_refusal(edition: Edition, p: &[u8], token: bool) -> u32
-    ensures { λ r. ⌜ r ≡ cond (shaped-from edition false (chars-as token false (chars (now (p .entry))))) 0 6 ⌝ }
+    ensures { λ r. ⌜ r ≡ cond (shaped-from edition false (chars-as token false (chars (now (p .entry))))) 0 bad-pattern ⌝ }
 {
     let mut at = 0;
     let mut starred = false;
@@ -41,7 +44,7 @@ fn shape_refusal(edition: Edition, p: &[u8], token: bool) -> u32
         let next = f.next;
         if c == 42 {
             if starred {
-                return 6;
+                return BAD_PATTERN;
             }
             starred = true;
             at = next;
@@ -57,7 +60,7 @@ fn shape_refusal(edition: Edition, p: &[u8], token: bool) -> u32
                 at = n;
             }
             Closing::Open => {
-                return 6;
+                return BAD_PATTERN;
             }
         }
     }
@@ -69,7 +72,7 @@ pub fn pattern_refusal(edition: Edition, p: &[u8], token: bool) -> u32
     ensures { λ r. ⌜ r ≡ refusal edition (read-as edition token (now (p .entry))) ⌝ }
 {
     if !utf8::is_utf8(p) {
-        return 5;
+        return GLOB_NOT_UTF8;
     }
     shape_refusal(edition, p, token)
 }

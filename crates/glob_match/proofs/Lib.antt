@@ -1,0 +1,4 @@
+mod Scanning
+pub mod Keeping
+mod Answers
+mod Telling

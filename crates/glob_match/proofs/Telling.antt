@@ -1,0 +1,151 @@
+-- What a host is told, exit by exit, and that it fits a `u64`. Assumes nothing.
+use Prim.Native.Nat.{ℕ, _+_, _*_, _<_, _≤_}
+use mathlib.Core.Path.{_≡_, sym, _∙_}
+use mathlib.Core.List.{List}
+use mathlib.Core.Bool.{Bool, true, false, not, cond, _||_}
+use native.Mathlib.Omega.{arith}
+use borrow.Author.Tests.{ne-eqb, lt-ltb, le-ltb, not-true, not-false}
+use mir.Syntax.{w64}
+use mir.Val.{Fits}
+use lib.Dec.{leb}
+use lib.ListN.{length}
+use Rattle.numbers.specs.Limits.{name-limit, token-limit}
+use Rattle.utf8.specs.Utf8.{utf8}
+use Rattle.pattern.specs.declared.Edition.{Edition}
+use Rattle.pattern.specs.declared.matching.Tried.{Tried}
+use Rattle.pattern.specs.Patterns.{refusal}
+use Rattle.pattern.specs.Post.{Trial-ok}
+use Rattle.glob_match.specs.declared.Class.{Class}
+use Rattle.glob_match.specs.declared.Class.the-variants.{Exact, Escaped, NonStar, Star, All}
+use Rattle.glob_match.specs.declared.Stored.{Stored}
+use Rattle.glob_match.specs.declared.Stored.the-variants.{As, Refused}
+use Rattle.glob_match.specs.Classes.{class-number, class-of}
+use Rattle.glob_match.specs.Keeping.{over, unescape, Keep, kept, refused, keep}
+use Rattle.glob_match.specs.Answers.{over-name, keep-answer, keep-buffer, answer-told, class-told, length-told, match-told, match-when, store-told, unasked-told, unescape-leaves, unescape-told}
+use Rattle.glob_match.proofs.Keeping.{bytes, keep-few, unescape-few}
+
+-- ---- how many bytes are told
+told-long : (x : Keep) (m : ℕ) (k : Class) (n : ℕ) → As k n ≡ keep-answer x m → n ≡ length (bytes x)
+unfolding keep-answer
+told-long (kept j b) m k n e = by (leb (length b) m) e
+  where
+    by : (t : Bool) → As k n ≡ cond t (As j (length b)) (Refused 8) → n ≡ length b
+    by true e = cc
+    by false e = let z : _≡_ {A = ℕ} 0 1 = cc in absurd (omega arith)
+told-long (refused j) m k n e = let z : _≡_ {A = ℕ} 0 1 = cc in absurd (omega arith)
+
+class-few : (k : Class) → class-number k ≤ 4
+class-few Exact = omega arith
+class-few Escaped = omega arith
+class-few NonStar = omega arith
+class-few Star = omega arith
+class-few All = omega arith
+
+-- ---- the class
+module _ (t : List ℕ) where
+  pub class-over : token-limit < length t → 1 ≡ class-told t
+  unfolding class-told
+  class-over h = rw (lt-ltb token-limit (length t) h)
+
+  pub class-within : length t ≤ token-limit → (k : Class) → k ≡ class-of t → (n : ℕ) → n ≡ class-number k → 256 * n ≡ class-told t
+  unfolding class-told
+  class-within h k e n q = rw (le-ltb token-limit (length t) h, ← e, q)
+
+-- ---- a pattern without its escapes; r is what `unescape_pattern` answers
+module _ (t d : List ℕ) where
+  pub unescape-over : token-limit < length t → 1 ≡ unescape-told t (length d)
+  unfolding unescape-told
+  unescape-over h = rw (lt-ltb token-limit (length t) h)
+
+  pub unescape-over-leaves : token-limit < length t → d ≡ unescape-leaves t d
+  unfolding unescape-leaves
+  unescape-over-leaves h = rw (lt-ltb token-limit (length t) h)
+
+  module _ (h : length t ≤ token-limit) where
+    pub unescape-within-leaves : (d′ : List ℕ) → d′ ≡ keep-buffer (kept Escaped (unescape t)) d → d′ ≡ unescape-leaves t d
+    unfolding unescape-leaves
+    unescape-within-leaves d′ q = rw (le-ltb token-limit (length t) h) q
+
+    module _ (r : Stored) (a : r ≡ keep-answer (kept Escaped (unescape t)) (length d)) where
+      within : unescape-told t (length d) ≡ length-told r
+      unfolding unescape-told
+      within = rw (le-ltb token-limit (length t) h, ← a)
+
+      pub unescape-refused : (n : ℕ) → r ≡ Refused n → n ≡ unescape-told t (length d)
+      unfolding length-told
+      unescape-refused n q = sym (within ∙ rw q)
+
+      module _ (k : Class) (n : ℕ) (q : r ≡ As k n) where
+        pub unescape-fits : Fits w64 (256 * n)
+        unescape-fits = omega (arith, told-long (kept Escaped (unescape t)) (length d) k n (sym q ∙ a), unescape-few t)
+
+        pub unescape-done : 256 * n ≡ unescape-told t (length d)
+        unfolding length-told
+        unescape-done = sym (within ∙ rw q)
+
+-- ---- a token as it is stored; r is what `store_token` answers
+module _ (e : Edition) (t : List ℕ) (m : ℕ) (r : Stored) (a : r ≡ keep-answer (keep e t) m) where
+  pub store-refused : (n : ℕ) → r ≡ Refused n → n ≡ store-told (keep-answer (keep e t) m)
+  unfolding store-told
+  store-refused n q = rw (← a, q)
+
+  module _ (k : Class) (n : ℕ) (q : r ≡ As k n) (j : ℕ) (c : j ≡ class-number k) where
+    pub store-done : 256 * (j + 8 * n) ≡ store-told (keep-answer (keep e t) m)
+    unfolding store-told
+    store-done = rw (← a, q, c)
+
+    small : (j ≤ 4) × (n ≤ token-limit)
+    small = (omega (arith, class-few k), omega (arith, told-long (keep e t) m k n (sym q ∙ a), keep-few e t))
+
+    pub store-fits-length : Fits w64 (8 * n)
+    store-fits-length = omega (arith, small)
+
+    pub store-fits-sum : Fits w64 (j + 8 * n)
+    store-fits-sum = omega (arith, small)
+
+    pub store-fits : Fits w64 (256 * (j + 8 * n))
+    store-fits = omega (arith, small)
+
+-- ---- a pattern p and a name n
+module _ (p n : List ℕ) where
+  pub pattern-over : token-limit < length p → over p || over-name n ≡ true
+  pattern-over h = rw (lt-ltb token-limit (length p) h)
+
+  module _ (h : length p ≤ token-limit) where
+    pub name-over : name-limit < length n → over p || over-name n ≡ true
+    name-over g = rw (le-ltb token-limit (length p) h, lt-ltb name-limit (length n) g)
+
+    pub none-over : length n ≤ name-limit → over p || over-name n ≡ false
+    none-over g = rw (le-ltb token-limit (length p) h, le-ltb name-limit (length n) g)
+
+module _ (e : Edition) (p n : List ℕ) where
+  module _ (o : over p || over-name n ≡ true) where
+    pub match-over : 1 ≡ match-told e p n
+    unfolding match-told
+    match-over = rw o
+
+    pub unasked-over : 1 ≡ unasked-told e p n
+    unfolding unasked-told
+    unasked-over = rw o
+
+  module _ (o : over p || over-name n ≡ false) where
+    -- m is what `match_name` answers, and v what `told` makes of it
+    module _ (m : Tried) (t : Trial-ok e p n m) (v : ℕ) (a : v ≡ answer-told (m .matched)) where
+      pub unasked-done : v ≡ unasked-told e p n
+      unfolding unasked-told
+      unasked-done = rw (o, ← t .matched) a
+
+    -- c is what `pattern_refusal` answers, and u what `is_utf8` does
+    module _ (c : ℕ) (r : c ≡ refusal e p) where
+      pub match-refused : (c ≡ 0 → ⊥) → c ≡ match-told e p n
+      unfolding match-told match-when
+      match-refused z = rw (o, ← r, ne-eqb c 0 z)
+
+      module _ (z : c ≡ 0) (u : Bool) (w : u ≡ utf8 n) where
+        pub match-not-utf8 : not u ≡ true → 9 ≡ match-told e p n
+        unfolding match-told match-when
+        match-not-utf8 f = rw (o, ← r, z, ← w, not-true u f)
+
+        pub match-done : not u ≡ false → (m : Tried) → Trial-ok e p n m → (v : ℕ) → v ≡ answer-told (m .matched) → v ≡ match-told e p n
+        unfolding match-told match-when
+        match-done f m t v a = rw (o, ← r, z, ← w, not-false u f, ← t .matched) a

@@ -1,0 +1,71 @@
+-- What the functions answer, and what they leave in a lent buffer. Assumes nothing.
+use Prim.Native.Nat.{ℕ, _+_, _*_}
+use mathlib.Core.List.{List}
+use mathlib.Core.Bool.{Bool, true, false, cond, _||_}
+use lib.Dec.{eqb, leb, ltb}
+use lib.ListN.{length}
+use Rattle.numbers.specs.Limits.{name-limit}
+use Rattle.numbers.specs.Refusals.{name-not-utf8, no-room, too-long}
+use Rattle.lists.specs.Front.{front}
+use Rattle.utf8.specs.Utf8.{chars, utf8}
+use Rattle.pattern.specs.declared.Edition.{Edition}
+use Rattle.pattern.specs.Patterns.{elements, matches, refusal}
+use Rattle.glob_match.specs.declared.Class.the-variants as class
+use Rattle.glob_match.specs.declared.Stored.{Stored}
+use Rattle.glob_match.specs.declared.Stored.the-variants.{As, Refused}
+use Rattle.glob_match.specs.Classes.{class-number, class-of}
+use Rattle.glob_match.specs.Keeping.{over, unescape, Keep, kept, refused}
+
+-- ---- in a lent buffer
+-- the bytes that are kept stand at the front of the buffer where there is room for them; "a … byte … room would be passed" is asked last
+unfoldable pub keep-answer : Keep → ℕ → Stored
+keep-answer (kept k b) room = cond (leb (length b) room) (As k (length b)) (Refused no-room)
+keep-answer (refused n) room = Refused n
+
+-- what stands behind them stays, and a refusal leaves all as it was
+unfoldable pub keep-buffer : Keep → List ℕ → List ℕ
+keep-buffer (kept k b) d = cond (leb (length b) (length d)) (front b d) d
+keep-buffer (refused n) d = d
+
+-- ---- what a host is told: a refusal's number, or 256 times a value
+abbrev pub done : ℕ → ℕ
+done v = 256 * v
+
+-- the class of a token
+unfoldable pub class-told : List ℕ → ℕ
+class-told t = cond (over t) too-long (done (class-number (class-of t)))
+
+-- a pattern of any class without its escapes: how many bytes are written
+unfoldable pub length-told : Stored → ℕ
+length-told (As k n) = done n
+length-told (Refused n) = n
+
+unfoldable pub unescape-told : List ℕ → ℕ → ℕ
+unescape-told t room = cond (over t) too-long (length-told (keep-answer (kept class.Escaped (unescape t)) room))
+
+unfoldable pub unescape-leaves : List ℕ → List ℕ → List ℕ
+unescape-leaves t d = cond (over t) d (keep-buffer (kept class.Escaped (unescape t)) d)
+
+-- a token as it is stored: the class, and eight times how many bytes are written
+unfoldable pub store-told : Stored → ℕ
+store-told (As k n) = done (class-number k + 8 * n)
+store-told (Refused n) = n
+
+-- whether stored bytes p, not a token, match a name n
+abbrev pub answer-told : Bool → ℕ
+answer-told true = done 1
+answer-told false = done 0
+
+abbrev pub over-name : List ℕ → Bool
+over-name n = ltb name-limit (length n)
+
+-- the matcher alone, on bytes as they stand: the pattern's and the name's refusals are not asked
+unfoldable pub unasked-told : Edition → List ℕ → List ℕ → ℕ
+unasked-told e p n = cond (over p || over-name n) too-long (answer-told (matches (elements e p) (chars n)))
+
+-- with the pattern's refusals, then the name's
+unfoldable pub match-when : ℕ → Bool → Bool → ℕ
+match-when r good matched = cond (eqb r 0) (cond good (answer-told matched) name-not-utf8) r
+
+unfoldable pub match-told : Edition → List ℕ → List ℕ → ℕ
+match-told e p n = cond (over p || over-name n) too-long (match-when (refusal e p) (utf8 n) (matches (elements e p) (chars n)))

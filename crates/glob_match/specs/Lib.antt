@@ -1,0 +1,3 @@
+pub mod Classes
+pub mod Keeping
+pub mod Answers

@@ -1,0 +1,106 @@
+// The class of a token.
+ghost use mathlib.Core.Path.{_≡_};
+ghost use mathlib.Core.Bool.{Bool, true, false};
+ghost use Rattle.glob_match.specs.Classes.{class-number, class-of, escaped, lone-star, nonstar, quoted, scan, scanned};
+use crate::Class;
+
+// The paper's number of a class.
+pub fn class_number(class: Class) -> u32
+    ensures { λ r. ⌜ r ≡ class-number class ⌝ }
+{
+    match class {
+        Class::Exact => 0,
+        Class::Escaped => 1,
+        Class::NonStar => 2,
+        Class::Star => 3,
+        Class::All => 4,
+    }
+}
+
+// A `\` makes an Exact into Escaped.
+fn with_escape(class: Class) -> Class
+    ensures { λ r. ⌜ r ≡ escaped class ⌝ }
+{
+    match class {
+        Class::Exact => Class::Escaped,
+        Class::Escaped => Class::Escaped,
+        Class::NonStar => Class::NonStar,
+        Class::Star => Class::Star,
+        Class::All => Class::All,
+    }
+}
+
+fn is_nonstar(c: u8) -> bool
+    ensures { λ r. ⌜ r ≡ nonstar c ⌝ }
+{
+    c == b'[' || (c == b']' || c == b'?')
+}
+
+// The class behind one byte more, which is no `*`.
+fn with_byte(class: Class, c: u8) -> Class
+    ensures { λ r. ⌜ r ≡ scanned class c ⌝ }
+{
+    if c == b'\\' {
+        return with_escape(class);
+    }
+    if is_nonstar(c) {
+        return Class::NonStar;
+    }
+    class
+}
+
+// The scan: a `*` decides at once, a `\` skips a byte.
+pub fn analyze_glob_pattern(pattern: &[u8]) -> Class
+    ensures { λ r. ⌜ r ≡ scan Class.Exact false (now (pattern .entry)) ⌝ }
+{
+    let mut class = Class::Exact;
+    let mut i = 0;
+    while i < pattern.len() {
+        let c = pattern[i];
+        if c == b'*' {
+            return Class::Star;
+        }
+        class = with_byte(class, c);
+        if c == b'\\' {
+            i += 2;
+            continue;
+        }
+        i += 1;
+    }
+    class
+}
+
+pub fn is_quoted(token: &[u8]) -> bool
+    ensures { λ r. ⌜ r ≡ quoted (now (token .entry)) ⌝ }
+{
+    let n = token.len();
+    if n < 2 {
+        return false;
+    }
+    if token[0] != b'"' {
+        return false;
+    }
+    token[n - 1] == b'"'
+}
+
+pub fn is_lone_star(token: &[u8]) -> bool
+    ensures { λ r. ⌜ r ≡ lone-star (now (token .entry)) ⌝ }
+{
+    if token.len() == 1 {
+        return token[0] == b'*';
+    }
+    false
+}
+
+// The class of a token, by its quotes, as `*`, or by the scan, in this order.
+pub fn classify(token: &[u8]) -> Class
+    ensures { λ r. ⌜ r ≡ class-of (now (token .entry)) ⌝ }
+{
+    if is_quoted(token) {
+        return Class::Exact;
+    }
+    if is_lone_star(token) {
+        return Class::All;
+    }
+    analyze_glob_pattern(token)
+}

@@ -1,0 +1,123 @@
+// Which names does a token match? Standard input (65,536 bytes at most): the token's line, then one name a line; a last LF may lack. It prints the
+// token's class and what is stored of it, then for each name whether the token matches: `yes`, `no`, or `!` and the number of the refusal. A token that
+// is refused prints `refused` and the number.
+use glob_match::Class;
+use glob_match::Stored;
+use libc::STDIN_FILENO;
+use libc::STDOUT_FILENO;
+use pattern::Edition;
+
+fn print(bytes: &[u8]) {
+    io::write_all(STDOUT_FILENO, bytes);
+}
+
+fn print_class(class: Class) {
+    match class {
+        Class::Exact => print(b"Exact "),
+        Class::Escaped => print(b"Escaped "),
+        Class::NonStar => print(b"NonStar "),
+        Class::Star => print(b"Star "),
+        Class::All => print(b"All "),
+    }
+}
+
+fn is_glob(class: Class) -> bool {
+    match class {
+        Class::Exact => false,
+        Class::Escaped => false,
+        Class::NonStar => true,
+        Class::Star => true,
+        Class::All => false,
+    }
+}
+
+fn is_all(class: Class) -> bool {
+    match class {
+        Class::Exact => false,
+        Class::Escaped => false,
+        Class::NonStar => false,
+        Class::Star => false,
+        Class::All => true,
+    }
+}
+
+fn print_answer(matched: bool) {
+    if matched {
+        print(b" yes\n");
+    } else {
+        print(b" no\n");
+    }
+}
+
+fn print_name(class: Class, stored: &[u8], name: &[u8]) {
+    print(name);
+    if is_all(class) {
+        return print_answer(true);
+    }
+    if !is_glob(class) {
+        return print_answer(check::same(stored, name));
+    }
+    let told = glob_match::exports::glob_match_matches(stored, name);
+    if told == 256 {
+        return print_answer(true);
+    }
+    if told == 0 {
+        return print_answer(false);
+    }
+    print(b" ! ");
+    io::print_decimal(STDOUT_FILENO, told);
+    print(b"\n");
+}
+
+fn print_names(class: Class, stored: &[u8], text: &[u8]) {
+    let mut at = 0;
+    while at < text.len() {
+        let end = bytes::scan::find(text, at, text.len(), b'\n');
+        print_name(class, stored, &text[at..end]);
+        at = end + 1;
+    }
+}
+
+// The first n bytes of s, or all of it.
+fn front(s: &[u8], n: usize) -> &[u8] {
+    if n < s.len() {
+        return &s[0..n];
+    }
+    s
+}
+
+// What stands from a place of s on, or nothing.
+fn behind(s: &[u8], at: usize) -> &[u8] {
+    if at < s.len() {
+        return &s[at..];
+    }
+    &s[..0]
+}
+
+fn print_all(text: &[u8], room: &mut [u8]) {
+    let end = bytes::scan::find(text, 0, text.len(), b'\n');
+    match glob_match::storing::store_token(Edition::Reld, front(text, end), room) {
+        Stored::Refused(no) => {
+            print(b"refused ");
+            io::print_decimal(STDOUT_FILENO, no as u64);
+            print(b"\n");
+        }
+        Stored::As(class, n) => {
+            print_class(class);
+            print(front(room, n));
+            print(b"\n");
+            print_names(class, front(room, n), behind(text, end + 1));
+        }
+    }
+}
+
+fn main() {
+    let mut text = [0u8; 65537];
+    let mut room = [0u8; 65536];
+    let n = io::read_full(STDIN_FILENO, &mut text);
+    if 65536 < n {
+        print(b"refused 1\n");
+        return;
+    }
+    print_all(front(&text, n), &mut room);
+}

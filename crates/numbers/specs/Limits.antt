@@ -1,0 +1,10 @@
+-- 01's limits, last accepted. Assumes nothing.
+use Prim.Native.Nat.{ℕ}
+
+-- "token or `add_symbol` text 65,536"
+abbrev pub token-limit : ℕ
+token-limit = 65536
+
+-- "raw name … 4,096, demangled 65,536": a match takes either, so the larger; who looks a raw name up asks the smaller before
+abbrev pub name-limit : ℕ
+name-limit = 65536

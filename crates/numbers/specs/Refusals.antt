@@ -1,0 +1,22 @@
+-- 01's 'Numbers that say no', as far as they are given yet. Assumes nothing.
+use Prim.Native.Nat.{ℕ}
+
+-- "script, text, trimmed token or name over its limit"
+abbrev pub too-long : ℕ
+too-long = 1
+
+-- "glob not UTF-8"
+abbrev pub glob-not-utf8 : ℕ
+glob-not-utf8 = 5
+
+-- "bracket not closed, or adjacent `*` outside one"
+abbrev pub bad-pattern : ℕ
+bad-pattern = 6
+
+-- "a row, byte or journal limit or room would be passed"
+abbrev pub no-room : ℕ
+no-room = 8
+
+-- "raw or demangled name not UTF-8"
+abbrev pub name-not-utf8 : ℕ
+name-not-utf8 = 9

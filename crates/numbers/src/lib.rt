@@ -1,0 +1,18 @@
+// The numbers of document 01, each under one name: limits and refusals. The same names stand in specs/, and each promise that uses one of these
+// constants cites its name there, so the two are shown equal wherever they are used.
+
+// "Limits, last accepted".
+pub const TOKEN_LIMIT: usize = 65536;
+
+pub const NAME_LIMIT: usize = 65536;
+
+// "Numbers that say no".
+pub const TOO_LONG: u32 = 1;
+
+pub const GLOB_NOT_UTF8: u32 = 5;
+
+pub const BAD_PATTERN: u32 = 6;
+
+pub const NO_ROOM: u32 = 8;
+
+pub const NAME_NOT_UTF8: u32 = 9;
