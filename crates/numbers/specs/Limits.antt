@@ -1,6 +1,10 @@
 -- 01's limits, last accepted. Assumes nothing.
 use Prim.Native.Nat.{ℕ}
 
+-- "script 1,048,576 bytes"
+abbrev pub script-limit : ℕ
+script-limit = 1048576
+
 -- "token or `add_symbol` text 65,536"
 abbrev pub token-limit : ℕ
 token-limit = 65536

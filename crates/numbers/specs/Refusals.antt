@@ -5,6 +5,18 @@ use Prim.Native.Nat.{ℕ}
 abbrev pub too-long : ℕ
 too-long = 1
 
+-- "no reading rule fits, or bytes remain"
+abbrev pub unreadable : ℕ
+unreadable = 2
+
+-- "`#` without LF, `/*` without `*/`, or an extern token to `}` with no `}` left"
+abbrev pub unclosed : ℕ
+unclosed = 3
+
+-- "extern of another language, or within extern"
+abbrev pub bad-extern : ℕ
+bad-extern = 4
+
 -- "glob not UTF-8"
 abbrev pub glob-not-utf8 : ℕ
 glob-not-utf8 = 5

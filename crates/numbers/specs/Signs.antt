@@ -36,3 +36,47 @@ closing = 93
 -- `^`
 abbrev pub caret : ℕ
 caret = 94
+
+-- tab, LF, FF, CR, space
+abbrev pub tab : ℕ
+tab = 9
+
+abbrev pub line-feed : ℕ
+line-feed = 10
+
+abbrev pub form-feed : ℕ
+form-feed = 12
+
+abbrev pub carriage-return : ℕ
+carriage-return = 13
+
+abbrev pub space : ℕ
+space = 32
+
+-- `#`
+abbrev pub hash : ℕ
+hash = 35
+
+-- `(`
+abbrev pub opening-paren : ℕ
+opening-paren = 40
+
+-- `)`
+abbrev pub closing-paren : ℕ
+closing-paren = 41
+
+-- `/`
+abbrev pub slash : ℕ
+slash = 47
+
+-- `;`
+abbrev pub semicolon : ℕ
+semicolon = 59
+
+-- `{`
+abbrev pub opening-brace : ℕ
+opening-brace = 123
+
+-- `}`
+abbrev pub closing-brace : ℕ
+closing-brace = 125

@@ -2,6 +2,7 @@
 // constants cites its name there, so the two are shown equal wherever they are used.
 
 // "Limits, last accepted".
+pub const SCRIPT_LIMIT: usize = 1048576;
 pub const TOKEN_LIMIT: usize = 65536;
 
 pub const NAME_LIMIT: usize = 65536;
@@ -9,6 +10,9 @@ pub const NAME_LIMIT: usize = 65536;
 // "Numbers that say no".
 pub const TOO_LONG: u32 = 1;
 
+pub const UNREADABLE: u32 = 2;
+pub const UNCLOSED: u32 = 3;
+pub const BAD_EXTERN: u32 = 4;
 pub const GLOB_NOT_UTF8: u32 = 5;
 
 pub const BAD_PATTERN: u32 = 6;

@@ -1,0 +1,4 @@
+pub mod Searches
+pub mod Skipping
+pub mod Trimming
+mod Points

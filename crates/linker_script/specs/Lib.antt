@@ -1,0 +1,3 @@
+pub mod Finding
+pub mod Skip
+pub mod Trim

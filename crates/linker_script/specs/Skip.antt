@@ -1,0 +1,52 @@
+-- 01, 'Reading': "Skip: spaces, tabs, CR, LF; `#` up to LF, which must come; `/*` up to the first `*/` that starts at least one byte after the `/`. So
+-- `/*/` is a whole comment."
+-- Assumes nothing.
+use Prim.Native.Nat.{ℕ, zero, suc, _+_, _-_}
+use mathlib.Core.List.{List, [], _∷_}
+use mathlib.Core.Bool.{Bool, true, false, cond, _&&_, _||_}
+use lib.Dec.{eqb}
+use lib.ListN.{getD, drop}
+use Rattle.numbers.specs.Signs.{asterisk, carriage-return, hash, line-feed, slash, space, tab}
+use Rattle.linker_script.specs.declared.Found.{Found}
+use Rattle.linker_script.specs.declared.Found.the-variants.{Here, Nowhere}
+use Rattle.linker_script.specs.declared.Skipped.{Skipped}
+use Rattle.linker_script.specs.declared.Skipped.the-variants.{At, Open}
+use Rattle.linker_script.specs.Finding.{first-in, is, are}
+
+-- "spaces, tabs, CR, LF"
+unfoldable pub blank : ℕ → Bool
+blank b = eqb b space || (eqb b tab || (eqb b carriage-return || eqb b line-feed))
+
+-- what a skip does at a byte: it stops there, passes k bytes more than that one, or finds a comment that nothing closes
+pub data Move : Type 0 where
+  stop : Move
+  pass : ℕ → Move
+  open-comment : Move
+
+-- up to a place q that was found, and `more` bytes behind it, from the place p of a comment's first byte
+abbrev pub past : ℕ → ℕ → Found → Move
+past p more (Here q) = pass (q + more - p)
+past p more Nowhere = open-comment
+
+-- at the byte b, which stands at the place p with the text l behind it
+unfoldable pub move : ℕ → ℕ → List ℕ → Move
+move p b l =
+    cond (blank b) (pass 0)
+    (cond (eqb b hash) (past p 0 (first-in (is line-feed) (p + 1) l))
+    (cond (eqb b slash && eqb (getD l 0 0) asterisk) (past p 1 (first-in (are asterisk slash) (p + 1) l))
+    stop))
+
+abbrev pub go : Move → ℕ → (ℕ → Skipped) → Skipped
+go stop p on = At p
+go (pass k) p on = on k
+go open-comment p on = Open p
+
+-- behind the first k bytes of the text l, which begins at the place p
+unfoldable pub skip-past : ℕ → ℕ → List ℕ → Skipped
+skip-past k p [] = At p
+skip-past (suc k) p (b ∷ l) = skip-past k (p + 1) l
+skip-past zero p (b ∷ l) = go (move p b l) p (λ k. skip-past k (p + 1) l)
+
+-- where a skip that starts at the place p of s ends, or the place of the comment that nothing closes
+unfoldable pub skip : List ℕ → ℕ → Skipped
+skip s p = skip-past 0 p (drop p s)

@@ -1,0 +1,156 @@
+// The skip function of linker_script.rs, and what the readers above it search a text with: the first place of a byte, of two bytes, the last `};`, and
+// the end of a token without its blanks. A text is a slice, a place a number; every place is answered, also past the end.
+ghost use mathlib.Core.Path.{_≡_};
+ghost use Prim.Native.Nat.{_+_, _<_, _≤_};
+ghost use lib.ListN.{length, getD, take};
+ghost use Rattle.linker_script.specs.Finding.{first-from, is, are, closes, last-close};
+ghost use Rattle.linker_script.specs.Skip.{blank, skip};
+ghost use Rattle.linker_script.specs.Trim.{white, trim-end};
+
+// The first place of what was looked for.
+pub enum Found {
+    Here(usize),
+    Nowhere,
+}
+
+// Where a skip ends, or the place of the comment that nothing closes.
+pub enum Skipped {
+    At(usize),
+    Open(usize),
+}
+
+// The byte at a place, 0 past the end.
+pub fn byte_at(s: &[u8], at: usize) -> u8
+    ensures { λ r. ⌜ r ≡ getD (now (s .entry)) at 0 ⌝ }
+{
+    if at < s.len() {
+        return s[at];
+    }
+    0
+}
+
+// The first place of the byte x, from a place on.
+pub fn find(s: &[u8], x: u8, at: usize) -> Found
+    ensures { λ r. ⌜ r ≡ first-from (is x) (now (s .entry)) at ⌝ }
+{
+    let mut i = at;
+    while i < s.len() {
+        if s[i] == x {
+            return Found::Here(i);
+        }
+        i += 1;
+    }
+    Found::Nowhere
+}
+
+fn is_pair(s: &[u8], i: usize, x: u8, y: u8) -> bool
+    requires { ⌜ i < length (now s) ⌝ }
+    ensures { λ r. ⌜ r ≡ are x y (getD (now (s .entry)) i 0) (getD (now (s .entry)) (i + 1) 0) ⌝ }
+{
+    if s[i] == x {
+        return byte_at(s, i + 1) == y;
+    }
+    false
+}
+
+// The first place of x with y behind it, from a place on.
+pub fn find_pair(s: &[u8], x: u8, y: u8, at: usize) -> Found
+    ensures { λ r. ⌜ r ≡ first-from (are x y) (now (s .entry)) at ⌝ }
+{
+    let mut i = at;
+    while i < s.len() {
+        if is_pair(s, i, x, y) {
+            return Found::Here(i);
+        }
+        i += 1;
+    }
+    Found::Nowhere
+}
+
+// One more than the last place of `};`, or 0: from there on none is left.
+pub fn last_close(s: &[u8]) -> usize
+    ensures { λ r. ⌜ r ≡ last-close (now (s .entry)) ⌝ }
+{
+    let mut r = 0;
+    let mut i = 0;
+    while i < s.len() {
+        let close = is_pair(s, i, b'}', b';');
+        i += 1;
+        if close {
+            r = i;
+        }
+    }
+    r
+}
+
+fn is_blank(b: u8) -> bool
+    ensures { λ r. ⌜ r ≡ blank b ⌝ }
+{
+    b == b' ' || (b == b'\t' || (b == b'\r' || b == b'\n'))
+}
+
+// Past blanks and comments.
+pub fn skip_comments_and_whitespace(s: &[u8], at: usize) -> Skipped
+    ensures { λ r. ⌜ r ≡ skip (now (s .entry)) at ⌝ }
+{
+    let mut i = at;
+    while i < s.len() {
+        let b = s[i];
+        if is_blank(b) {
+            i += 1;
+            continue;
+        }
+        if b == b'#' {
+            match find(s, b'\n', i + 1) {
+                Found::Here(q) => {
+                    i = q + 1;
+                    continue;
+                }
+                Found::Nowhere => {
+                    return Skipped::Open(i);
+                }
+            }
+        }
+        if !is_pair(s, i, b'/', b'*') {
+            return Skipped::At(i);
+        }
+        match find_pair(s, b'*', b'/', i + 1) {
+            Found::Here(q) => {
+                i = q + 2;
+            }
+            Found::Nowhere => {
+                return Skipped::Open(i);
+            }
+        }
+    }
+    Skipped::At(i)
+}
+
+fn is_white(b: u8) -> bool
+    ensures { λ r. ⌜ r ≡ white b ⌝ }
+{
+    b == b' ' || (b == b'\t' || (b == b'\n' || (b == b'\x0C' || b == b'\r')))
+}
+
+// How many bytes are left without the blanks at the end.
+pub fn trimmed_length(s: &[u8]) -> usize
+    ensures { λ r. ⌜ (r ≤ length (now (s .entry))) × (take r (now (s .entry)) ≡ trim-end (now (s .entry))) ⌝ }
+{
+    let mut e = s.len();
+    while 0 < e {
+        let k = e - 1;
+        if !is_white(s[k]) {
+            return e;
+        }
+        e = k;
+    }
+    e
+}
+
+// The text without the blanks at its end, as a part of it: it begins where the text begins.
+pub fn trim_ascii_end(s: &[u8]) -> &[u8]
+    ensures { λ r. ⌜ (now r ≡ trim-end (now (s .entry))) × (r .ptr ≡ s .entry .ptr) ⌝ }
+{
+    let e = trimmed_length(s);
+    &s[..e]
+}
