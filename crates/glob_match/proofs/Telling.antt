@@ -14,7 +14,7 @@ use Rattle.utf8.specs.Utf8.{utf8}
 use Rattle.pattern.specs.declared.Edition.{Edition}
 use Rattle.pattern.specs.declared.matching.Tried.{Tried}
 use Rattle.pattern.specs.Patterns.{refusal}
-use Rattle.pattern.specs.Post.{Trial-ok}
+use Rattle.pattern.specs.Tests.{match-of}
 use Rattle.glob_match.specs.declared.Class.{Class}
 use Rattle.glob_match.specs.declared.Class.the-variants.{Exact, Escaped, NonStar, Star, All}
 use Rattle.glob_match.specs.declared.Stored.{Stored}
@@ -130,10 +130,10 @@ module _ (e : Edition) (p n : List ℕ) where
 
   module _ (o : over p || over-name n ≡ false) where
     -- m is what `match_name` answers, and v what `told` makes of it
-    module _ (m : Tried) (t : Trial-ok e p n m) (v : ℕ) (a : v ≡ answer-told (m .matched)) where
+    module _ (m : Tried) (t : m ≡ match-of e p n) (v : ℕ) (a : v ≡ answer-told (m .matched)) where
       pub unasked-done : v ≡ unasked-told e p n
-      unfolding unasked-told
-      unasked-done = rw (o, ← t .matched) a
+      unfolding unasked-told match-of
+      unasked-done = rw o (a ∙ rw t)
 
     -- c is what `pattern_refusal` answers, and u what `is_utf8` does
     module _ (c : ℕ) (r : c ≡ refusal e p) where
@@ -146,6 +146,6 @@ module _ (e : Edition) (p n : List ℕ) where
         unfolding match-told match-when
         match-not-utf8 f = rw (o, ← r, z, ← w, not-true u f)
 
-        pub match-done : not u ≡ false → (m : Tried) → Trial-ok e p n m → (v : ℕ) → v ≡ answer-told (m .matched) → v ≡ match-told e p n
-        unfolding match-told match-when
-        match-done f m t v a = rw (o, ← r, z, ← w, not-false u f, ← t .matched) a
+        pub match-done : not u ≡ false → (m : Tried) → m ≡ match-of e p n → (v : ℕ) → v ≡ answer-told (m .matched) → v ≡ match-told e p n
+        unfolding match-told match-when match-of
+        match-done f m t v a = rw (o, ← r, z, ← w, not-false u f) (a ∙ rw t)

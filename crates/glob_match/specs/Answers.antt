@@ -63,7 +63,7 @@ over-name n = ltb name-limit (length n)
 unfoldable pub unasked-told : Edition → List ℕ → List ℕ → ℕ
 unasked-told e p n = cond (over p || over-name n) too-long (answer-told (matches (elements e p) (chars n)))
 
--- with the pattern's refusals, then the name's
+-- "Refusals, in order: 1 …, 5, 6, 9" (02, request 08, of the other matcher): the pattern's, then the name's
 unfoldable pub match-when : ℕ → Bool → Bool → ℕ
 match-when r good matched = cond (eqb r 0) (cond good (answer-told matched) name-not-utf8) r
 

@@ -1,6 +1,6 @@
 // The class of a token.
 ghost use mathlib.Core.Path.{_≡_};
-ghost use mathlib.Core.Bool.{Bool, true, false};
+ghost use mathlib.Core.Bool.{false};
 ghost use Rattle.glob_match.specs.Classes.{class-number, class-of, escaped, lone-star, nonstar, quoted, scan, scanned};
 use crate::Class;
 
@@ -50,7 +50,7 @@ fn with_byte(class: Class, c: u8) -> Class
 }
 
 // The scan: a `*` decides at once, a `\` skips a byte.
-pub fn analyze_glob_pattern(pattern: &[u8]) -> Class
+pub(crate) fn analyze_glob_pattern(pattern: &[u8]) -> Class
     ensures { λ r. ⌜ r ≡ scan Class.Exact false (now (pattern .entry)) ⌝ }
 {
     let mut class = Class::Exact;
@@ -70,7 +70,7 @@ pub fn analyze_glob_pattern(pattern: &[u8]) -> Class
     class
 }
 
-pub fn is_quoted(token: &[u8]) -> bool
+pub(crate) fn is_quoted(token: &[u8]) -> bool
     ensures { λ r. ⌜ r ≡ quoted (now (token .entry)) ⌝ }
 {
     let n = token.len();
@@ -83,7 +83,7 @@ pub fn is_quoted(token: &[u8]) -> bool
     token[n - 1] == b'"'
 }
 
-pub fn is_lone_star(token: &[u8]) -> bool
+pub(crate) fn is_lone_star(token: &[u8]) -> bool
     ensures { λ r. ⌜ r ≡ lone-star (now (token .entry)) ⌝ }
 {
     if token.len() == 1 {

@@ -1,10 +1,10 @@
-// For a host in another language: numbers and slices only. An answer is a refusal's number, or 256 times a value (specs/Answers.antt).
+// For a host in another language: numbers and slices only. An answer is a refusal's number, or 256 times a value (specs/Answers.antt). Patterns are read
+// as reld reads them. The host owes what Rust's slices owe: each pointer is valid for its length, and a buffer that is written overlaps no other.
 ghost use mathlib.Core.Path.{_≡_};
-ghost use Prim.Native.Nat.{_≤_};
 ghost use lib.ListN.{length};
 ghost use Rattle.pattern.specs.declared.Edition.the-variants.{Reld};
 ghost use Rattle.glob_match.specs.Keeping.{keep};
-ghost use Rattle.glob_match.specs.Answers.{class-told, keep-answer, keep-buffer, length-told, match-told, store-told, unasked-told, unescape-leaves, unescape-told, answer-told};
+ghost use Rattle.glob_match.specs.Answers.{class-told, keep-answer, keep-buffer, match-told, store-told, unasked-told, unescape-leaves, unescape-told, answer-told};
 use crate::Stored;
 use crate::classes::class_number;
 use crate::classes::classify;

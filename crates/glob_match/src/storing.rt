@@ -1,4 +1,5 @@
-// The bytes that are stored of a token, at the front of a lent buffer. What is refused writes nothing.
+// The bytes that are stored of a token, at the front of a lent buffer. What is refused writes nothing. `store_token` asks the token's limit; what it calls
+// does not ask it again.
 ghost use mathlib.Core.Path.{_≡_};
 ghost use mathlib.Core.List.{List, []};
 ghost use Prim.Native.Nat.{_≤_};
@@ -31,7 +32,7 @@ fn store_exact(exact: &[u8], out: &mut [u8]) -> Stored
 }
 
 // How many bytes `unescape_pattern` leaves: a `\` with a byte behind it goes, and that byte stays.
-pub fn unescaped_length(pattern: &[u8]) -> usize
+fn unescaped_length(pattern: &[u8]) -> usize
     ensures { λ r. ⌜ r ≡ length (unescape (now (pattern .entry))) ⌝ }
 {
     let mut i = 0;
@@ -70,7 +71,7 @@ fn copy_unescaped(src: &[u8], out: &mut [u8])
 }
 
 // An Escaped token, without its escapes; a final `\` stays.
-pub fn unescape_pattern(pattern: &[u8], out: &mut [u8]) -> Stored
+pub(crate) fn unescape_pattern(pattern: &[u8], out: &mut [u8]) -> Stored
     ensures { λ r. ⌜ (r ≡ keep-answer (kept Class.Escaped (unescape (now (pattern .entry)))) (length (now (out .entry))))
         × (now (out .exit) ≡ keep-buffer (kept Class.Escaped (unescape (now (pattern .entry)))) (now (out .entry))) ⌝ }
 {
@@ -109,7 +110,7 @@ fn copy_stored(edition: Edition, src: &[u8], out: &mut [u8])
 }
 
 // A glob of the given class: its refusal, 5 or 6, or its bytes with each `[^` as `[!`.
-pub fn compile_glob_pattern(edition: Edition, class: Class, token: &[u8], out: &mut [u8]) -> Stored
+fn compile_glob_pattern(edition: Edition, class: Class, token: &[u8], out: &mut [u8]) -> Stored
     ensures { λ r. ⌜ (r ≡ keep-answer (keep-glob edition class (now (token .entry))) (length (now (out .entry))))
         × (now (out .exit) ≡ keep-buffer (keep-glob edition class (now (token .entry))) (now (out .entry))) ⌝ }
 {
@@ -126,7 +127,7 @@ pub fn compile_glob_pattern(edition: Edition, class: Class, token: &[u8], out: &
 }
 
 // A token by its class, without a look at quotes.
-pub fn store_scanned(edition: Edition, token: &[u8], out: &mut [u8]) -> Stored
+fn store_scanned(edition: Edition, token: &[u8], out: &mut [u8]) -> Stored
     ensures { λ r. ⌜ (r ≡ keep-answer (keep-scanned edition (now (token .entry))) (length (now (out .entry))))
         × (now (out .exit) ≡ keep-buffer (keep-scanned edition (now (token .entry))) (now (out .entry))) ⌝ }
 {

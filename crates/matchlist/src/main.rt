@@ -1,6 +1,6 @@
-// Which names does a token match? Standard input (65,536 bytes at most): the token's line, then one name a line; a last LF may lack. It prints the
-// token's class and what is stored of it, then for each name whether the token matches: `yes`, `no`, or `!` and the number of the refusal. A token that
-// is refused prints `refused` and the number.
+// Which names does a token match? Standard input (65,536 bytes at most): the token's line, taken as it stands, then one name a line; a last LF may lack. It
+// prints the token's class and what is stored of it, then for each name whether the token matches: `yes`, `no`, or `!` and 9 where the name is not
+// UTF-8. A token that is refused prints `refused` and the number.
 use glob_match::Class;
 use glob_match::Stored;
 use libc::STDIN_FILENO;
@@ -51,22 +51,16 @@ fn print_answer(matched: bool) {
 
 fn print_name(class: Class, stored: &[u8], name: &[u8]) {
     print(name);
+    if !utf8::is_utf8(name) {
+        return print(b" ! 9\n");
+    }
     if is_all(class) {
         return print_answer(true);
     }
-    if !is_glob(class) {
-        return print_answer(check::same(stored, name));
+    if is_glob(class) {
+        return print_answer(glob_match::exports::glob_match_matches(stored, name) == 256);
     }
-    let told = glob_match::exports::glob_match_matches(stored, name);
-    if told == 256 {
-        return print_answer(true);
-    }
-    if told == 0 {
-        return print_answer(false);
-    }
-    print(b" ! ");
-    io::print_decimal(STDOUT_FILENO, told);
-    print(b"\n");
+    print_answer(check::same(stored, name));
 }
 
 fn print_names(class: Class, stored: &[u8], text: &[u8]) {

@@ -3,6 +3,7 @@
 
 // "Limits, last accepted".
 pub const SCRIPT_LIMIT: usize = 1048576;
+
 pub const TOKEN_LIMIT: usize = 65536;
 
 pub const NAME_LIMIT: usize = 65536;
@@ -11,8 +12,11 @@ pub const NAME_LIMIT: usize = 65536;
 pub const TOO_LONG: u32 = 1;
 
 pub const UNREADABLE: u32 = 2;
+
 pub const UNCLOSED: u32 = 3;
+
 pub const BAD_EXTERN: u32 = 4;
+
 pub const GLOB_NOT_UTF8: u32 = 5;
 
 pub const BAD_PATTERN: u32 = 6;

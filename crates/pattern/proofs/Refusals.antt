@@ -19,8 +19,8 @@ use Rattle.pattern.specs.declared.Edition.{Edition}
 use Rattle.pattern.specs.declared.refusal.Closing.{Closing}
 use Rattle.pattern.specs.declared.refusal.Closing.the-variants.{Behind, Open}
 use Rattle.pattern.specs.Patterns.{literal, any-one, Element, one, bracketed, opened, element, adjacent-from, shaped-from, refusal}
-use Rattle.pattern.specs.Storing.{stored-byte, negated-from}
-use Rattle.pattern.specs.Post.{read-as, chars-as, Closed-ok, Closing-ok}
+use Rattle.pattern.specs.Storing.{stored-byte, negated-from, read-as}
+use Rattle.pattern.specs.Post.{chars-as, Closed-ok, Closing-ok}
 use Rattle.pattern.proofs.Stored.{chars-read, utf8-read}
 use Rattle.pattern.proofs.Negations.{opened-by}
 

@@ -15,8 +15,8 @@ use Rattle.utf8.specs.Utf8.{tail, read, chars, utf8}
 use Rattle.utf8.proofs.Walk.{chars-nil, chars-cons, utf8-cons, chars-cons-ascii, utf8-cons-ascii}
 use Rattle.utf8.proofs.Ascii.{tails, tails-cons, tails-none, tail-high, read-high, Tail-blind, blind-chars, blind-utf8}
 use Rattle.pattern.specs.declared.Edition.{Edition}
-use Rattle.pattern.specs.Storing.{stored-byte, negated-from, stored}
-use Rattle.pattern.specs.Post.{read-as, chars-as}
+use Rattle.pattern.specs.Storing.{stored-byte, negated-from, stored, read-as}
+use Rattle.pattern.specs.Post.{chars-as}
 
 -- ---- what is no ASCII stays, and what is stays ASCII
 negated-high : (b : Bool) (c : ℕ) (s : List ℕ) → 128 ≤ c → negated-from b (c ∷ s) ≡ c ∷ negated-from false s

@@ -19,8 +19,8 @@ use Rattle.pattern.specs.declared.Edition.{Edition}
 use Rattle.pattern.specs.declared.elements.ElementAt.{ElementAt}
 use Rattle.pattern.specs.declared.elements.ElementAt.the-variants.{Star, Takes, Fails}
 use Rattle.pattern.specs.Patterns.{Taker, element, elements, ended, first, somewhere, matches}
-use Rattle.pattern.specs.Tests.{Trial, tested, attempt, trial}
-use Rattle.pattern.specs.Post.{Element-star, Element-takes, Element-fails, ends, differs, Element-ok, Trial-ok}
+use Rattle.pattern.specs.Tests.{Trial, tested, attempt, trial, match-of}
+use Rattle.pattern.specs.Post.{Element-star, Element-takes, Element-fails, ends, differs, Element-ok}
 use Rattle.pattern.proofs.Places.{walk-pieces}
 use Rattle.pattern.proofs.ElementExits.{elements-end, element-one, is-star}
 use Rattle.pattern.proofs.Latest.{trial-matches, trial-few, count, left-to, turn-back, turn-star, turn-takes, turn-differs, turn-short, turn-last, turn-end}
@@ -82,8 +82,12 @@ elements-few e p = omega (arith, pieces-few (element e) (chars p), chars-few p)
 
 module _ (e : Edition) (p n : List ℕ) (k : ℕ) where
   -- no test is left
-  over : (b : Bool) → After (whole e p n) k (record { yes = b; tests = [] }) → Trial-ok e p n (record { matched = b; tests = k })
-  over b a = record { matched = sym (a .yes) ∙ trial-matches (elements e p) (chars n); tests = omega (arith, a .tests) }
+  over : (b : Bool) → After (whole e p n) k (record { yes = b; tests = [] }) → record { matched = b; tests = k } ≡ match-of e p n
+  unfolding match-of
+  over b a =
+      let y : b ≡ matches (elements e p) (chars n) = sym (a .yes) ∙ trial-matches (elements e p) (chars n) in
+      let k : k ≡ count (whole e p n) = omega (arith, a .tests) in
+      rw (← y, ← k)
 
   -- the number of tests fits
   fits : (r : Trial) → After (whole e p n) k r → Limits p n → k < 18446744073709551616
@@ -108,7 +112,7 @@ steps-left p n at from = (length n - from) * (length p + 1) + (length p - at)
 
 module _ (e : Edition) (p n : List ℕ) (at i : ℕ) (starred : Bool) (behind from tests : ℕ) (inv : Held e p n at i starred behind from tests) where
   -- the name ends
-  pub held-end : (b : Bool) → length n ≤ i → b ≡ matches (elements e (drop at p)) [] → Trial-ok e p n (record { matched = b; tests = tests })
+  pub held-end : (b : Bool) → length n ≤ i → b ≡ matches (elements e (drop at p)) [] → record { matched = b; tests = tests } ≡ match-of e p n
   held-end b h k = over e p n tests b (rw (chars-end n i h, turn-end, ← k) at (inv .after))
 
   -- a star
@@ -117,7 +121,7 @@ module _ (e : Edition) (p n : List ℕ) (at i : ℕ) (starred : Bool) (behind fr
     star-ok = rw t at g
 
     -- nothing stands behind it
-    pub held-last : length p ≤ next → Trial-ok e p n (record { matched = true; tests = tests })
+    pub held-last : length p ≤ next → record { matched = true; tests = tests } ≡ match-of e p n
     held-last l = over e p n tests true (rw (star-ok .reads, elements-end e p next l, turn-last) at (inv .after))
 
     pub held-star : Held e p n next i true next i tests
@@ -159,7 +163,7 @@ module _ (e : Edition) (p n : List ℕ) (at i : ℕ) (starred : Bool) (behind fr
       fails-fits = fits e p n (tests + made) _ back
 
       -- and there is no star
-      pub held-none : not starred ≡ true → Trial-ok e p n (record { matched = false; tests = tests + made })
+      pub held-none : not starred ≡ true → record { matched = false; tests = tests + made } ≡ match-of e p n
       unfolding left-to
       held-none s = over e p n (tests + made) false (rw (not-true starred s) at back)
 

@@ -17,10 +17,8 @@ use Rattle.pattern.specs.declared.elements.ElementAt.{ElementAt}
 use Rattle.pattern.specs.declared.elements.ElementAt.the-variants.{Star, Takes, Fails}
 use Rattle.pattern.specs.declared.refusal.Closing.{Closing}
 use Rattle.pattern.specs.declared.refusal.Closing.the-variants.{Behind, Open}
-use Rattle.pattern.specs.declared.matching.Tried.{Tried}
-use Rattle.pattern.specs.Patterns.{Member, holds, member, Taker, takes, Element, star, one, opened, elements, matches}
-use Rattle.pattern.specs.Storing.{negated-from, stored}
-use Rattle.pattern.specs.Tests.{Trial, trial}
+use Rattle.pattern.specs.Patterns.{Member, holds, member, Taker, takes, Element, star, one, opened, elements}
+use Rattle.pattern.specs.Storing.{negated-from}
 
 -- ---- brackets
 pub record Member-ok (e : Edition) (body : List ℕ) (at x : ℕ) (r : MemberAt) : Type 0 where
@@ -82,18 +80,8 @@ Element-ok e p at x (Star n) = Element-star e p at n
 Element-ok e p at x (Takes n) = Element-takes e p at x n
 Element-ok e p at x (Fails k) = Element-fails e p at x k
 
--- ---- the matcher
-pub record Trial-ok (e : Edition) (p n : List ℕ) (r : Tried) : Type 0 where
-  pub matched : r .matched ≡ matches (elements e p) (chars n)
-  pub tests : r .tests ≡ length (trial (elements e p) (chars n) .tests)
-
 -- ---- what is refused
--- the bytes that are asked: those of a token as they will be stored, others as they stand
-abbrev pub read-as : Edition → Bool → List ℕ → List ℕ
-read-as e true p = stored e p
-read-as e false p = p
-
--- the same of characters; `b` says that a `[` stands just before
+-- the characters that are asked, as `read-as` has the bytes; `b` says that a `[` stands just before
 abbrev pub chars-as : Bool → Bool → List ℕ → List ℕ
 chars-as true b s = negated-from b s
 chars-as false b s = s

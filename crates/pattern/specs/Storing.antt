@@ -1,7 +1,7 @@
 -- The bytes that are stored of a glob. Assumes nothing.
 use Prim.Native.Nat.{ℕ}
 use mathlib.Core.List.{List, [], _∷_}
-use mathlib.Core.Bool.{Bool, false, cond, _&&_}
+use mathlib.Core.Bool.{Bool, true, false, cond, _&&_}
 use lib.Dec.{eqb}
 use Rattle.numbers.specs.Signs.{bang, caret, opening}
 use Rattle.pattern.specs.declared.Edition.{Edition}
@@ -17,3 +17,8 @@ negated-from b (c ∷ s) = stored-byte b c ∷ negated-from (eqb c opening) s
 -- "each `[^` is stored as `[!`"
 unfoldable pub stored : Edition → List ℕ → List ℕ
 stored e s = negated-from false s
+
+-- the bytes that a refusal is asked of: those of a token as they will be stored, others as they stand
+abbrev pub read-as : Edition → Bool → List ℕ → List ℕ
+read-as e true p = stored e p
+read-as e false p = p

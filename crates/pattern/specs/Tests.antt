@@ -4,7 +4,11 @@
 use Prim.Native.Nat.{ℕ}
 use mathlib.Core.List.{List, [], _∷_}
 use mathlib.Core.Bool.{Bool, true, false, cond}
-use Rattle.pattern.specs.Patterns.{Taker, Element, star, one, takes, ended}
+use lib.ListN.{length}
+use Rattle.utf8.specs.Utf8.{chars}
+use Rattle.pattern.specs.declared.Edition.{Edition}
+use Rattle.pattern.specs.declared.matching.Tried.{Tried}
+use Rattle.pattern.specs.Patterns.{Taker, Element, star, one, takes, ended, elements, matches}
 
 pub record Test : Type 0 where
   pub taker : Taker
@@ -47,3 +51,7 @@ attempt (one m ∷ p) s back = test m (attempt p) s back
 -- the whole match
 unfoldable pub trial : List Element → List ℕ → Trial
 trial p s = attempt p s failed
+
+-- what a match answers of a pattern's bytes p and a name's bytes n: whether they match, and "the length of a definition's list of these tests"
+unfoldable pub match-of : Edition → List ℕ → List ℕ → Tried
+match-of e p n = record { matched = matches (elements e p) (chars n); tests = length (trial (elements e p) (chars n) .tests) }

@@ -1,12 +1,13 @@
 // The matcher. It remembers its latest star alone: where a test fails, or the pattern ends before the name, that star takes one character more. So it
-// makes at most as many tests as the pattern has elements, times one more than the name has characters, and it needs no stack for its stars.
+// makes at most as many tests as the pattern has elements, times one more than the name has characters, and it needs no stack for its stars. A test of a
+// bracket reads the bracket's bytes.
 ghost use mathlib.Core.Path.{_≡_};
 ghost use mathlib.Core.List.{[]};
 ghost use Prim.Native.Nat.{_+_, _<_, _≤_};
 ghost use lib.ListN.{length, drop};
 ghost use Rattle.numbers.specs.Limits.{token-limit, name-limit};
 ghost use Rattle.pattern.specs.Patterns.{elements, matches};
-ghost use Rattle.pattern.specs.Post.{Trial-ok};
+ghost use Rattle.pattern.specs.Tests.{match-of};
 use crate::Edition;
 use crate::elements::ElementAt;
 use crate::elements::element_at;
@@ -35,7 +36,7 @@ pub struct Tried {
 // The pattern's stored bytes are p, the name's bytes n. The lengths are 01's limits, so that the number of tests fits.
 pub fn match_name(edition: Edition, p: &[u8], n: &[u8]) -> Tried
     requires { ⌜ (length (now p) ≤ token-limit) × (length (now n) ≤ name-limit) ⌝ }
-    ensures { λ r. ⌜ Trial-ok edition (now (p .entry)) (now (n .entry)) r ⌝ }
+    ensures { λ r. ⌜ r ≡ match-of edition (now (p .entry)) (now (n .entry)) ⌝ }
 {
     let mut at = 0;
     let mut i = 0;
