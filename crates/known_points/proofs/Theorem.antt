@@ -1,12 +1,21 @@
 -- The known points hold of the definitions: each side computes to the other. Assumes nothing.
 use mathlib.Core.Path.{refl}
+use Rattle.lists.specs.Texts.{codes}
 use Rattle.lists.specs.Pieces.{pieces, pieces-past, sound, sound-past}
 use Rattle.utf8.specs.Utf8.{scalar, encode, encoding, character, none, when, tail, two, three, four, starts, read, chars, utf8}
 use Rattle.pattern.specs.Patterns.{holds, some-holds, member, inside, between, takes, bracketed, opened, element, elements, ended, first, somewhere, matches, adjacent-from, shaped-from, refusal}
 use Rattle.pattern.specs.Storing.{stored-byte, negated-from, stored}
 use Rattle.glob_match.specs.Classes.{quoted, unquoted, lone-star, nonstar, scanned, scan, class-of}
 use Rattle.glob_match.specs.Keeping.{unescaped, unescape, keep-when, keep-glob, keep-as, keep-scanned, keep-class, keep}
-use Rattle.known_points.specs.KnownPoints.{codes, bytes, keeps, kept-matches, fits, Points}
+use Rattle.linker_script.specs.Finding.{first-in, first-from, last-in, last-close}
+use Rattle.linker_script.specs.Skip.{blank, move, skip-past, skip}
+use Rattle.linker_script.specs.Trim.{white, trim-end}
+use Rattle.reading.specs.Places.{start}
+use Rattle.reading.specs.Tokens.{begins, named, name-in, to-semicolon, to-brace, extern-end, bare-extern-end, bare-end, bare-skip}
+use Rattle.reading.specs.Matchers.{line-to, extern-open, extern-at, extern-inside, in-extern, in-bare, matcher, bare-line, bare-matcher}
+use Rattle.reading.specs.Scripts.{name-to, node-at, script-at, parent-to, parent-at, node-end, sole-end, inside-body, body-at, sole-at, list-at, opening-at, start-script, go-node, go-body, go-sole, go-list, next-script, next-list, next-symbol, next}
+use Rattle.reading.specs.Events.{reading-within, reading-from, reading}
+use Rattle.known_points.specs.KnownPoints.{bytes, keeps, kept-matches, fits, Points}
 
 pub known-points : Points
 unfolding pieces pieces-past sound sound-past
@@ -15,6 +24,14 @@ unfolding pieces pieces-past sound sound-past
     stored-byte negated-from stored
     quoted unquoted lone-star nonstar scanned scan class-of
     unescaped unescape keep-when keep-glob keep-as keep-scanned keep-class keep
+    first-in first-from last-in last-close
+    blank move skip-past skip white trim-end
+    start
+    begins named name-in to-semicolon to-brace extern-end bare-extern-end bare-end bare-skip
+    line-to extern-open extern-at extern-inside in-extern in-bare matcher bare-line bare-matcher
+    name-to node-at script-at parent-to parent-at node-end sole-end inside-body body-at sole-at list-at opening-at
+    start-script go-node go-body go-sole go-list next-script next-list next-symbol next
+    reading-within reading-from reading
     codes bytes keeps kept-matches fits
 known-points =
     record {
@@ -26,4 +43,6 @@ known-points =
       p6 = record { yes = refl; unclosed = refl };
       p7 = record { yes = refl; no = refl };
       p8 = record { yes = refl };
+      p9 = record { accepted-so-far = refl };
+      p10 = record { nodes = refl; text = refl };
     }

@@ -1,23 +1,23 @@
--- The first eight of 01's 'Known points', of the definitions that the code is proved to meet: one row for each, in 01's words. The others join the table as
--- what they speak of is defined. proofs/Theorem.antt proves it.
+-- 01's 'Known points', as far as what they speak of is defined: P1 to P8, and of P9 and P10 what a reader says. One row for each, in 01's words, of the
+-- definitions that the code is proved to meet. proofs/Theorem.antt proves the table.
 -- Assumes nothing.
 use Prim.Native.Nat.{ℕ}
-use Prim.Native.Char.{code}
-use Prim.Native.String.{String, [] as none, _∷_ as _then_}
+use Prim.Native.String.{String}
 use mathlib.Core.Path.{_≡_}
 use mathlib.Core.List.{List, [], _∷_}
 use mathlib.Core.Bool.{Bool, true, false}
+use lib.ListN.{take, drop}
+use Rattle.lists.specs.Texts.{codes}
 use Rattle.utf8.specs.Utf8.{encoding, chars}
 use Rattle.pattern.specs.declared.Edition.the-variants.{Reld}
 use Rattle.pattern.specs.Patterns.{elements, matches}
 use Rattle.glob_match.specs.declared.Class.the-variants.{Exact, Escaped, NonStar, Star, All}
+use Rattle.reading.specs.declared.Event.the-variants.{Node, Body, Parent}
+use Rattle.reading.specs.Places.{at-script}
+use Rattle.reading.specs.Events.{accepted, reading}
 use Rattle.glob_match.specs.Keeping.{Keep, kept, refused, keep}
 
 -- ---- quoted texts, as bytes in UTF-8
-unfoldable pub codes : String → List ℕ
-codes none = []
-codes (c then s) = code c ∷ codes s
-
 unfoldable pub bytes : String → List ℕ
 bytes t = encoding (codes t)
 
@@ -75,6 +75,16 @@ pub record P7 : Type 0 where
 pub record P8 : Type 0 where
   pub yes : fits "h?" (0x68 ∷ 0xC3 ∷ 0xA9 ∷ []) ≡ true
 
+-- "P9 `/*/{};` accepted, version count 0." Accepted; the count comes with the book
+pub record P9 : Type 0 where
+  pub accepted-so-far : reading at-script (bytes "/*/{};") .outcome ≡ accepted
+
+-- "P10 `A {}; B {}; A {}; C {} A;` parent of C is 1; wanted A gives 4." The parent text, and before it the nodes; their numbers come with the book
+pub record P10 : Type 0 where
+  pub nodes : reading at-script (bytes "A {}; B {}; A {}; C {} A;") .events
+      ≡ Node 0 1 ∷ Body ∷ Parent 4 0 ∷ Node 6 1 ∷ Body ∷ Parent 10 0 ∷ Node 12 1 ∷ Body ∷ Parent 16 0 ∷ Node 18 1 ∷ Body ∷ Parent 23 1 ∷ []
+  pub text : take 1 (drop 23 (bytes "A {}; B {}; A {}; C {} A;")) ≡ bytes "A"
+
 -- the table
 pub record Points : Type 0 where
   pub p1 : P1
@@ -85,3 +95,5 @@ pub record Points : Type 0 where
   pub p6 : P6
   pub p7 : P7
   pub p8 : P8
+  pub p9 : P9
+  pub p10 : P10

@@ -1,0 +1,11 @@
+pub mod Words
+pub mod Enders
+pub mod Stepping
+pub mod Exits
+pub mod Deciding
+pub mod Ends
+pub mod Bounds
+pub mod Steps
+pub mod Onward
+pub mod Refusals
+pub mod Points

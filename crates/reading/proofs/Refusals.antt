@@ -1,0 +1,78 @@
+-- The reader refuses with 1, 2, 3 or 4 only (`next-refuses`, `reading-refuses`), at a place of the text, and with 1 exactly where the text is over its limit
+-- at the place at which its reading starts (`too-long-exactly`).
+-- Assumes nothing.
+use Prim.Native.Nat.{ℕ, zero, suc, _+_, _-_, _≤_}
+use mathlib.Core.Path.{_≡_, refl, sym}
+use mathlib.Core.List.{List}
+use mathlib.Core.Bool.{Bool, true, _||_, or-true, true≢false}
+use native.Mathlib.Omega.{arith}
+use borrow.Author.Tests.{lt-ltb}
+use lib.Dec.{eqb}
+use lib.ListN.{length}
+use Rattle.numbers.specs.Limits.{script-limit, token-limit}
+use Rattle.numbers.specs.Refusals.{too-long}
+use Rattle.reading.specs.declared.Cursor.{Cursor}
+use Rattle.reading.specs.declared.Step.{Step}
+use Rattle.reading.specs.declared.Step.the-variants.{Go, End, Refused}
+use Rattle.reading.specs.Places.{start}
+use Rattle.reading.specs.Scripts.{start-script, next-script, next-list, next-symbol, next}
+use Rattle.reading.specs.Events.{refused, on-step, reading-within, reading-from, reading}
+use Rattle.reading.proofs.Bounds.{of-grammar}
+use Rattle.reading.proofs.Steps.{Over, script, list, symbol, bare, Refusal, long, grammar, Fits, refused as refuses, next-fits}
+
+-- 1, 2, 3 or 4
+abbrev pub of-reader : ℕ → Bool
+of-reader n = eqb n too-long || of-grammar n
+
+module _ (s : List ℕ) (c : Cursor) where
+  refusal : (n p : ℕ) → next s c ≡ Refused n p → Refusal s c n p
+  refusal n p h = go (rw h at (next-fits s c))
+    where
+      go : Fits s c (Refused n p) → Refusal s c n p
+      go (refuses r) = r
+
+  pub next-refuses : (n p : ℕ) → next s c ≡ Refused n p → (of-reader n ≡ true) × (c .at ≤ length s → p ≤ length s)
+  next-refuses n p h = go n p (refusal n p h)
+    where
+      go : (n p : ℕ) → Refusal s c n p → (of-reader n ≡ true) × (c .at ≤ length s → p ≤ length s)
+      go n p (long o) = (refl, λ _. omega arith)
+      go n p (grammar k l) = (rw k (or-true (eqb n too-long)), l)
+
+  too-long-only : (p : ℕ) → next s c ≡ Refused too-long p → Over s (c .place)
+  too-long-only p h = go too-long p refl (refusal too-long p h)
+    where
+      go : (n p : ℕ) → n ≡ too-long → Refusal s c n p → Over s (c .place)
+      go n p z (long o) = o
+      go n p z (grammar k l) = absurd (true≢false (sym (rw z at k)))
+
+  too-long-always : Over s (c .place) → next s c ≡ Refused too-long 0
+  unfolding next next-script next-list next-symbol start-script
+  too-long-always o = go (c .place) refl o
+    where
+      go : (place : ℕ) → c .place ≡ place → Over s place → next s c ≡ Refused too-long 0
+      go place z (script h) = rw (z, lt-ltb script-limit (length s) h)
+      go place z (list h) = rw (z, lt-ltb script-limit (length s) h)
+      go place z (symbol h) = rw (z, lt-ltb token-limit (length s) h)
+      go place z (bare h) = rw (z, lt-ltb token-limit (length s) h)
+
+  pub too-long-exactly : ((p : ℕ) → next s c ≡ Refused too-long p → Over s (c .place)) × (Over s (c .place) → next s c ≡ Refused too-long 0)
+  too-long-exactly = (too-long-only, too-long-always)
+
+-- so of a whole reading
+module _ (s : List ℕ) (n p : ℕ) where
+  within-refuses : (m : ℕ) (c : Cursor) → reading-within m s c .outcome ≡ refused n p → of-reader n ≡ true
+  unfolding reading-within
+  within-refuses zero c h = absurd (true≢false (cc))
+  within-refuses (suc m) c h = go (next s c) refl h (within-refuses m)
+    where
+      go : (t : Step) → next s c ≡ t → on-step t (λ d. reading-within m s d) .outcome ≡ refused n p
+          → ((d : Cursor) → reading-within m s d .outcome ≡ refused n p → of-reader n ≡ true) → of-reader n ≡ true
+      go (Go e d) z k more = more d k
+      go End z k more = absurd (true≢false (cc))
+      go (Refused a b) z k more =
+          let e : a ≡ n = cc in
+          rw (← e) (next-refuses s c a b z .0)
+
+  pub reading-refuses : (place : ℕ) → reading place s .outcome ≡ refused n p → of-reader n ≡ true
+  unfolding reading reading-from
+  reading-refuses place h = within-refuses (length s + 2 - start place s .at) (start place s) h

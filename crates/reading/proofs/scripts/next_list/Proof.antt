@@ -1,0 +1,43 @@
+-- `next_list` meets its contract. Assumes nothing.
+use borrow.Author.Needs.{needs}
+use Rattle.reading.specs.Scripts.{next-list}
+use Rattle.reading.proofs.Deciding.{ways}
+use Rattle.reading.proofs.scripts.next_list.Statement.{statement}
+use Rattle.reading.proofs.scripts.next_list.Tie as tie
+
+returns : tie.Need-returns
+unfolding next-list
+returns c = search ways
+
+opening-at-requires : tie.Need-opening-at-requires
+opening-at-requires c κs = search needs
+
+returns-2 : tie.Need-returns-2
+unfolding next-list
+returns-2 c = search ways
+
+go-list-requires : tie.Need-go-list-requires
+go-list-requires c κs = search needs
+
+returns-3 : tie.Need-returns-3
+unfolding next-list
+returns-3 c = search ways
+
+in-extern-requires : tie.Need-in-extern-requires
+in-extern-requires c κs = search needs
+
+returns-4 : tie.Need-returns-4
+unfolding next-list
+returns-4 c = search ways
+
+pub next-list-spec : {M : Type 1} → statement M
+next-list-spec =
+    tie.close
+    (tie.spec
+    returns
+    opening-at-requires
+    returns-2
+    go-list-requires
+    returns-3
+    in-extern-requires
+    returns-4)

@@ -1,0 +1,62 @@
+-- `next_symbol` meets its contract. Assumes nothing.
+use borrow.Author.Needs.{needs}
+use Rattle.reading.specs.Scripts.{next-symbol}
+use Rattle.reading.proofs.Deciding.{ways}
+use Rattle.reading.proofs.scripts.next_symbol.Statement.{statement}
+use Rattle.reading.proofs.scripts.next_symbol.Tie as tie
+
+returns : tie.Need-returns
+unfolding next-symbol
+returns c = search ways
+
+parse-matcher-requires : tie.Need-parse-matcher-requires
+parse-matcher-requires c κs = search needs
+
+returns-2 : tie.Need-returns-2
+unfolding next-symbol
+returns-2 c = search ways
+
+in-extern-requires : tie.Need-in-extern-requires
+in-extern-requires c κs = search needs
+
+returns-3 : tie.Need-returns-3
+unfolding next-symbol
+returns-3 c = search ways
+
+returns-4 : tie.Need-returns-4
+unfolding next-symbol
+returns-4 c = search ways
+
+parse-bare-matcher-requires : tie.Need-parse-bare-matcher-requires
+parse-bare-matcher-requires c κs = search needs
+
+returns-5 : tie.Need-returns-5
+unfolding next-symbol
+returns-5 c = search ways
+
+in-bare-requires : tie.Need-in-bare-requires
+in-bare-requires c κs = search needs
+
+returns-6 : tie.Need-returns-6
+unfolding next-symbol
+returns-6 c = search ways
+
+returns-7 : tie.Need-returns-7
+unfolding next-symbol
+returns-7 c = search ways
+
+pub next-symbol-spec : {M : Type 1} → statement M
+next-symbol-spec =
+    tie.close
+    (tie.spec
+    returns
+    parse-matcher-requires
+    returns-2
+    in-extern-requires
+    returns-3
+    returns-4
+    parse-bare-matcher-requires
+    returns-5
+    in-bare-requires
+    returns-6
+    returns-7)
