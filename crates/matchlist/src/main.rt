@@ -1,14 +1,44 @@
 // Which names does a token match? Standard input (65,536 bytes at most): the token's line, taken as it stands, then one name a line; a last LF may lack. It
 // prints the token's class and what is stored of it, then for each name whether the token matches: `yes`, `no`, or `!` and 9 where the name is not
-// UTF-8. A token that is refused prints `refused` and the number.
+// UTF-8. A token that is refused prints `refused` and the number, and standard error says what the number means.
 use glob_match::Class;
 use glob_match::Stored;
+use libc::STDERR_FILENO;
 use libc::STDIN_FILENO;
 use libc::STDOUT_FILENO;
 use pattern::Edition;
 
 fn print(bytes: &[u8]) {
     io::write_all(STDOUT_FILENO, bytes);
+}
+
+// What a refused token's number means, for a person.
+fn explain(no: u32) {
+    if no == 1 {
+        io::write_all(
+            STDERR_FILENO,
+            b"matchlist: the token or the input is over 65,536 bytes\n",
+        );
+        return;
+    }
+    if no == 5 {
+        io::write_all(
+            STDERR_FILENO,
+            b"matchlist: the token is a glob and not UTF-8\n",
+        );
+        return;
+    }
+    io::write_all(
+        STDERR_FILENO,
+        b"matchlist: a bracket of the token is not closed, or two stars stand side by side\n",
+    );
+}
+
+fn refuse(no: u32) {
+    print(b"refused ");
+    io::print_decimal(STDOUT_FILENO, no as u64);
+    print(b"\n");
+    explain(no);
 }
 
 fn print_class(class: Class) {
@@ -91,11 +121,7 @@ fn behind(s: &[u8], at: usize) -> &[u8] {
 fn print_all(text: &[u8], room: &mut [u8]) {
     let end = bytes::scan::find(text, 0, text.len(), b'\n');
     match glob_match::storing::store_token(Edition::Reld, front(text, end), room) {
-        Stored::Refused(no) => {
-            print(b"refused ");
-            io::print_decimal(STDOUT_FILENO, no as u64);
-            print(b"\n");
-        }
+        Stored::Refused(no) => refuse(no),
         Stored::As(class, n) => {
             print_class(class);
             print(front(room, n));
@@ -110,7 +136,7 @@ fn main() {
     let mut room = [0u8; 65536];
     let n = io::read_full(STDIN_FILENO, &mut text);
     if 65536 < n {
-        print(b"refused 1\n");
+        refuse(1);
         return;
     }
     print_all(front(&text, n), &mut room);
