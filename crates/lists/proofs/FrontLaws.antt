@@ -1,11 +1,12 @@
--- The front of a buffer, store by store: one store more behind what stands there, and a list that is written whole, one item at a turn. Assumes nothing.
-use Prim.Native.Nat.{ℕ, _+_, _<_, _≤_}
+-- The front of a buffer, store by store: one store more behind what stands there, or a run of them, and a list that is written whole, one item at a turn.
+-- Assumes nothing.
+use Prim.Native.Nat.{ℕ, suc, _+_, _<_, _≤_}
 use mathlib.Core.Path.{_≡_, refl, ap, _∙_}
 use mathlib.Core.List.{List, [], _∷_, _++_, append-assoc, append-nil}
 use native.Mathlib.Numerals.{add-one}
 use native.Mathlib.Omega.{arith}
 use lib.ListN.{length, set, length-append, length-drop, length-set}
-use lib.Seq.{drop-cons, set-append-seam}
+use lib.Seq.{drop-cons, set-append-seam, sets}
 use Rattle.lists.specs.Front.{front}
 
 module _ {A : Type 0} where
@@ -17,6 +18,13 @@ module _ {A : Type 0} where
   unfolding front
   front-more u d x h =
       rw (drop-cons d (length u) x h) (set-append-seam u _ _ x ∙ simp (append-assoc, length-append, add-one))
+
+  pub front-run : (u d v : List A) → length u + length v ≤ length d → sets (front u d) (length u) v ≡ front (u ++ v) d
+  front-run u d [] h = rw append-nil
+  front-run u d (x ∷ v) h =
+      let e : suc (length u) ≡ length (u ++ x ∷ []) = simp length-append (omega arith) in
+      rw (front-more u d x (omega arith), e)
+      (front-run (u ++ x ∷ []) d v (omega (arith, e)) ∙ rw append-assoc)
 
   pub length-front : (u d : List A) → length u ≤ length d → length (front u d) ≡ length d
   unfolding front

@@ -9,3 +9,4 @@ pub mod Steps
 pub mod Onward
 pub mod Refusals
 pub mod Points
+pub mod Tabling

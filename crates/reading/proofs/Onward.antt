@@ -4,15 +4,16 @@
 use Prim.Native.Nat.{ℕ, zero, suc, _+_, _-_, _<_, _≤_}
 use mathlib.Core.Path.{_≡_, refl, sym, _∙_}
 use mathlib.Core.List.{List}
-use mathlib.Core.Bool.{true≢false}
+use mathlib.Core.Bool.{false, true≢false}
 use native.Mathlib.Omega.{arith}
+use lib.Dec.{eqb}
 use lib.ListN.{length}
 use Rattle.linker_script.specs.Finding.{last-close}
 use Rattle.reading.specs.declared.Cursor.{Cursor}
 use Rattle.reading.specs.declared.Event.{Event}
 use Rattle.reading.specs.declared.Step.{Step}
 use Rattle.reading.specs.declared.Step.the-variants.{Go, End, Refused}
-use Rattle.reading.specs.Places.{start}
+use Rattle.reading.specs.Places.{behind-symbol, start}
 use Rattle.reading.specs.Tokens.{to-either, extern-end}
 use Rattle.reading.specs.Scripts.{next}
 use Rattle.reading.specs.Events.{Reading, on-step, reading-within, reading-from, reading}
@@ -30,15 +31,16 @@ pub record Standing (s : List ℕ) (c : Cursor) : Type 0 where
   pub fresh : Fresh c
   pub within : c .at ≤ length s + 1
   pub last : c .last ≡ last-close s
+  pub inside : eqb (c .place) behind-symbol ≡ false → c .at ≤ length s
 
 pub start-stands : (place : ℕ) (s : List ℕ) → Standing s (start place s)
 unfolding start
-start-stands place s = record { fresh = λ _. refl; within = omega arith; last = refl }
+start-stands place s = record { fresh = λ _. refl; within = omega arith; last = refl; inside = λ _. omega arith }
 
 pub next-stands : (s : List ℕ) (c d : Cursor) (e : Event) → Standing s c → next s c ≡ Go e d → Standing s d
 next-stands s c d e k h =
     let o = next-onward s c d e (k .fresh) h in
-    record { fresh = λ b. absurd (true≢false (sym b ∙ o .begun)); within = o .within; last = o .same ∙ k .last }
+    record { fresh = λ b. absurd (true≢false (sym b ∙ o .begun)); within = o .within; last = o .same ∙ k .last; inside = o .inside }
 
 -- so a token of an extern block ends there as 01 says
 pub standing-ends : (s : List ℕ) (c : Cursor) → Standing s c → (p : ℕ) → extern-end (c .last) s p ≡ to-either s p

@@ -5,7 +5,7 @@
 use Prim.Native.Nat.{ℕ, _+_, _<_, _≤_}
 use mathlib.Core.Path.{_≡_, refl}
 use mathlib.Core.List.{List}
-use mathlib.Core.Bool.{Bool, true, false, cond, _||_}
+use mathlib.Core.Bool.{Bool, true, false, cond, _||_, true≢false}
 use native.Mathlib.Omega.{arith}
 use borrow.Author.Tests.{eqb-true, ne-eqb, ltb-true}
 use lib.Dec.{eqb, ltb}
@@ -49,6 +49,8 @@ pub record Onward (s : List ℕ) (c d : Cursor) : Type 0 where
   pub within : d .at ≤ length s + 1
   pub same : d .last ≡ c .last
   pub begun : symbol-start (d .place) ≡ false
+  -- past the text it stands only where nothing more is read
+  pub inside : eqb (d .place) behind-symbol ≡ false → d .at ≤ length s
 
 -- a text over its limit, at the places where a reading starts
 pub data Over (s : List ℕ) : ℕ → Type 0 where
@@ -88,7 +90,7 @@ module _ (s : List ℕ) (c : Cursor) where
 
   go-on : {e : Event} {d : Cursor} (p : ℕ) → Reached s c p → p < d .at → d .at ≤ length s → d .last ≡ c .last → symbol-start (d .place) ≡ false
       → Fits s c (Go e d)
-  go-on {d = d} p r h k l b = goes {d = d} (λ f. record { onward = omega (arith, r .ahead f); within = omega arith; same = l; begun = b })
+  go-on {d = d} p r h k l b = goes {d = d} (λ f. record { onward = omega (arith, r .ahead f); within = omega arith; same = l; begun = b; inside = λ _. k })
 
   on-cond : (t : Bool) {a b : Step} → (t ≡ true → Fits s c a) → (t ≡ false → Fits s c b) → Fits s c (cond t a b)
   on-cond true f g = f refl
@@ -173,12 +175,18 @@ module _ (s : List ℕ) (c : Cursor) where
         (λ _. extern-at-fits inner p a r)
         (λ _. line-to-fits place p b r (to-semicolon s p) (semicolon-ends s p))
 
-    module _ (r : Reached s c 0) where
+    module _ (r : Reached s c 0) (z : place ≡ behind-symbol) where
       bare-line-fits : (e : TokenEnd) → bare-end s ≡ e → Fits s c (bare-line c s place e)
       unfolding bare-line
       bare-line-fits (To q) _ =
           on-skipping (bare-skip s) (further 0 (bare-skip s) r (omega arith) (λ _. bare-skip-within s)) (λ _ _ _.
-          goes (λ f. record { onward = omega (arith, r .ahead f); within = omega arith; same = refl; begun = b }))
+          goes (λ f. record {
+            onward = omega (arith, r .ahead f);
+            within = omega arith;
+            same = refl;
+            begun = b;
+            inside = λ h. absurd (true≢false (rw z at h));
+          }))
       bare-line-fits (token.Refused n) e = refuse n 0 (bare-refuses s n e) r
 
       bare-matcher-fits : Fits s c (bare-matcher c s inner place)
@@ -287,7 +295,7 @@ module _ (s : List ℕ) (c : Cursor) where
   next-symbol-fits =
       at-place at-symbol (λ z. on-within token-limit (λ h. rw z (symbol h)) (matcher-fits in-symbol-extern behind-symbol refl refl 0 (first (rw z))))
       (at-place in-symbol-extern (λ z. in-extern-fits behind-symbol refl (rw z))
-      (at-place at-bare (λ z. on-within token-limit (λ h. rw z (bare h)) (bare-matcher-fits in-bare-extern behind-symbol refl refl (first (rw z))))
+      (at-place at-bare (λ z. on-within token-limit (λ h. rw z (bare h)) (bare-matcher-fits in-bare-extern behind-symbol refl refl (first (rw z)) refl))
       (at-place in-bare-extern (λ z. in-bare-fits behind-symbol refl (rw z))
       done)))
 

@@ -4,3 +4,4 @@ pub mod Matchers
 pub mod Scripts
 pub mod Events
 pub mod KnownReadings
+pub mod Rows
