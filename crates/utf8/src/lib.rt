@@ -136,7 +136,19 @@ fn of_many(at: usize, a: u32, b: u32, c: u32, d: u32) -> Character
     not_found(at)
 }
 
-// The character at a place of s. ASCII, which most names are, is answered without a look at what follows.
+// The character at a place of s whose byte there, a, is no ASCII. It stands apart so that a caller's loop holds only the way of ASCII, which most names
+// are.
+fn longer(s: &[u8], at: usize, a: u32) -> Character
+    requires { ⌜ (at < length (now s)) × (a ≡ getD (now s) at 0) × (0x80 ≤ a) × (a < 256) ⌝ }
+    ensures { λ r. ⌜ r ≡ character-at (now (s .entry)) at ⌝ }
+{
+    let b = byte_or_zero(s, at + 1);
+    let c = byte_or_zero(s, at + 2);
+    let d = byte_or_zero(s, at + 3);
+    of_many(at, a, b, c, d)
+}
+
+// The character at a place of s.
 pub fn character_at(s: &[u8], at: usize) -> Character
     ensures { λ r. ⌜ r ≡ character-at (now (s .entry)) at ⌝ }
 {
@@ -151,10 +163,7 @@ pub fn character_at(s: &[u8], at: usize) -> Character
     if a < 0x80 {
         return found(at, a, 0);
     }
-    let b = byte_or_zero(s, at + 1);
-    let c = byte_or_zero(s, at + 2);
-    let d = byte_or_zero(s, at + 3);
-    of_many(at, a, b, c, d)
+    longer(s, at, a)
 }
 
 // Whether s is UTF-8.
@@ -163,7 +172,12 @@ pub fn is_utf8(s: &[u8]) -> bool
 {
     let mut at = 0;
     while at < s.len() {
-        let f = character_at(s, at);
+        let a = wide(s[at]);
+        if a < 0x80 {
+            at += 1;
+            continue;
+        }
+        let f = longer(s, at, a);
         if !f.good {
             return false;
         }

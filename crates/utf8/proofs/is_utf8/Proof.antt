@@ -1,16 +1,16 @@
 -- `is_utf8` meets its contract. The loop's invariant: what is left decides. Assumes nothing.
-use Prim.Native.Nat.{ℕ, _-_, _<_, _≤_}
+use Prim.Native.Nat.{ℕ, _+_, _-_, _<_, _≤_}
 use mathlib.Core.Path.{_≡_, refl, sym, _∙_}
 use mathlib.Core.List.{List}
 use mathlib.Core.Bool.{true, false, not}
 use native.Mathlib.Omega.{arith}
 use borrow.Author.Needs.{needs}
 use borrow.Author.Tests.{not-true, not-false}
-use lib.ListN.{length, drop}
+use lib.ListN.{length, getD, drop}
 use Rattle.utf8.specs.Utf8.{utf8}
 use Rattle.utf8.specs.At.{character-at}
 use Rattle.utf8.specs.declared.Character.{Character}
-use Rattle.utf8.proofs.Walk.{walk-onward, walk-utf8, utf8-end}
+use Rattle.utf8.proofs.Walk.{walk-onward, walk-utf8, utf8-end, utf8-ascii-at}
 use Rattle.utf8.proofs.is_utf8.Statement.{statement}
 use Rattle.utf8.proofs.is_utf8.Tie as tie
 
@@ -31,23 +31,41 @@ module _ (s : List ℕ) (at : ℕ) (f : Character) (e : f ≡ character-at s at)
     good : not (f .good) ≡ false → utf8 s ≡ utf8 (drop (f .next) s)
     good b = left ∙ walk-utf8 s at f e h ∙ rw (not-false (f .good) b)
 
+ascii : (s : List ℕ) (at : ℕ) → utf8 s ≡ utf8 (drop at s) → at < length s → (a : ℕ) → a ≡ getD s at 0 → a < 0x80 → utf8 s ≡ utf8 (drop (at + 1) s)
+ascii s at left h a i l = left ∙ utf8-ascii-at s at h (rw i at l)
+
 end : (s : List ℕ) (at : ℕ) → utf8 s ≡ utf8 (drop at s) → length s ≤ at → true ≡ utf8 s
 end s at left h = sym (left ∙ utf8-end s at h)
 
 loop-holds : tie.Need-loop-holds Inv-loop μ-loop
 loop-holds c = refl
 
-character-at-requires : tie.Need-character-at-requires Inv-loop μ-loop
-character-at-requires c κs = search needs
+shared-slice-read-wide : tie.Need-shared-slice-read-wide Inv-loop μ-loop
+shared-slice-read-wide c = search needs
+
+wide-requires : tie.Need-wide-requires Inv-loop μ-loop
+wide-requires c κs = search needs
+
+add-at : tie.Need-add-at Inv-loop μ-loop
+add-at c = search needs
+
+loop-less : tie.Need-loop-less Inv-loop μ-loop
+loop-less c = omega arith
+
+loop-again : tie.Need-loop-again Inv-loop μ-loop
+loop-again c = search ascii
+
+longer-requires : tie.Need-longer-requires Inv-loop μ-loop
+longer-requires c κs = search needs
 
 returns : tie.Need-returns Inv-loop μ-loop
 returns c = search bad
 
-loop-less : tie.Need-loop-less Inv-loop μ-loop
-loop-less c = search less
+loop-less-2 : tie.Need-loop-less-2 Inv-loop μ-loop
+loop-less-2 c = search less
 
-loop-again : tie.Need-loop-again Inv-loop μ-loop
-loop-again c = search good
+loop-again-2 : tie.Need-loop-again-2 Inv-loop μ-loop
+loop-again-2 c = search good
 
 returns-2 : tie.Need-returns-2 Inv-loop μ-loop
 returns-2 c = search end
@@ -59,8 +77,13 @@ is-utf8-spec =
     Inv-loop
     μ-loop
     loop-holds
-    character-at-requires
-    returns
+    shared-slice-read-wide
+    wide-requires
+    add-at
     loop-less
     loop-again
+    longer-requires
+    returns
+    loop-less-2
+    loop-again-2
     returns-2)
