@@ -1,0 +1,42 @@
+// The reader that holds the script and its place.
+ghost use mathlib.Core.Path.{_≡_};
+ghost use Rattle.reading.specs.Places.{start};
+ghost use Rattle.reading.specs.Scripts.{next};
+use crate::Cursor;
+use crate::Step;
+use crate::moves::start_at;
+use crate::scripts::next_event;
+
+pub struct Reader<'a> {
+    pub text: &'a [u8],
+    pub cursor: Cursor,
+}
+
+pub fn new<'a>(text: &'a [u8], cursor: Cursor) -> Reader<'a>
+    ensures { λ r. ⌜ (r .text ≡ text .entry) × (r .cursor ≡ cursor) ⌝ }
+{
+    Reader { text, cursor }
+}
+
+// The next event of the text, or its end, or its refusal.
+pub fn next<'a>(r: Reader<'a>) -> Step
+    ensures { λ s. ⌜ s ≡ next (now (r .entry .text)) (r .entry .cursor) ⌝ }
+{
+    next_event(r.text, r.cursor)
+}
+
+pub fn moved<'a>(r: Reader<'a>, cursor: Cursor) -> Reader<'a>
+    ensures { λ q. ⌜ (q .text ≡ r .entry .text) × (q .cursor ≡ cursor) ⌝ }
+{
+    Reader {
+        text: r.text,
+        cursor,
+    }
+}
+
+// The first event of a text that starts at a place of the grammar.
+pub fn first(place: u32, text: &[u8]) -> Step
+    ensures { λ s. ⌜ s ≡ next (now (text .entry)) (start place (now (text .entry))) ⌝ }
+{
+    next(new(text, start_at(place, text)))
+}
