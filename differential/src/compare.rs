@@ -1,11 +1,11 @@
 //! One case at a time: what the published Rust answers, what the proved library answers, and
 //! whether the two agree.
 
-use crate::domain::{adjacent_stars, stored_text};
+use differential::domain::{adjacent_stars, stored_text};
+use differential::hex;
+use differential::tally::Tally;
 use host::published::{self, Pattern};
 use host::{ours, refusal, LIMIT};
-use std::fmt::Write;
-use std::time::{Duration, Instant};
 
 /// Why a case lies outside the domain of equality. What must be answered there is the interface's
 /// refusal, not the Rust's answer.
@@ -16,19 +16,18 @@ enum Outside {
     Name,
 }
 
-/// The differences that are printed; the others are only counted.
-const SHOWN: u64 = 10;
+/// The same in words, by their numbers.
+const REASONS: [&str; 3] = [
+    "over the limit",
+    "adjacent stars",
+    "a name that is not UTF-8",
+];
 
 /// The bytes on either side of an output that no call may touch.
 const GUARD: usize = 16;
 
 pub struct Comparison {
-    same: u64,
-    outside: [u64; 3],
-    different: u64,
-    phase: &'static str,
-    before_phase: u64,
-    said: Instant,
+    tally: Tally<3>,
     noise: Vec<u8>,
     memory: Vec<u8>,
 }
@@ -39,12 +38,7 @@ impl Comparison {
             .map(|i| (i * 37 + 91) as u8)
             .collect();
         Self {
-            same: 0,
-            outside: [0; 3],
-            different: 0,
-            phase: "",
-            before_phase: 0,
-            said: Instant::now(),
+            tally: Tally::new(REASONS),
             memory: noise.clone(),
             noise,
         }
@@ -52,29 +46,14 @@ impl Comparison {
 
     /// Runs a named part, and prints how many comparisons it made.
     pub fn phase(&mut self, name: &'static str, run: impl FnOnce(&mut Self)) {
-        self.phase = name;
-        self.before_phase = self.total();
+        self.tally.begin(name);
         run(self);
-        println!("{name}: {}", self.total() - self.before_phase);
+        self.tally.end();
     }
 
     /// The last line; true when nothing differed.
     pub fn finish(self) -> bool {
-        let Self {
-            same,
-            outside: [limit, stars, name],
-            different,
-            ..
-        } = self;
-        println!(
-            "same {same}; outside the domain: over the limit {limit}, adjacent stars {stars}, \
-             a name that is not UTF-8 {name}; different {different}"
-        );
-        different == 0
-    }
-
-    fn total(&self) -> u64 {
-        self.same + self.outside.iter().sum::<u64>() + self.different
+        self.tally.finish()
     }
 
     /// Class, unescaping and storing of one token.
@@ -181,24 +160,8 @@ impl Comparison {
     }
 
     fn judge(&mut self, outside: Option<Outside>, agree: bool, case: impl FnOnce() -> String) {
-        match outside {
-            _ if !agree => {
-                self.different += 1;
-                if self.different <= SHOWN {
-                    println!("different: {}", case());
-                }
-            }
-            Some(reason) => self.outside[reason as usize] += 1,
-            None => self.same += 1,
-        }
-        if self.total() % 1024 == 0 && self.said.elapsed() > Duration::from_secs(1) {
-            self.said = Instant::now();
-            eprintln!(
-                "{}: {} so far",
-                self.phase,
-                self.total() - self.before_phase
-            );
-        }
+        let outside = outside.map(|reason| reason as usize);
+        self.tally.judge(outside, agree, case);
     }
 }
 
@@ -217,15 +180,4 @@ impl Stored {
             pattern: published::pattern(bytes),
         }
     }
-}
-
-/// Lowercase digits; `-` for no bytes.
-pub fn hex(bytes: &[u8]) -> String {
-    if bytes.is_empty() {
-        return "-".to_string();
-    }
-    bytes.iter().fold(String::new(), |mut text, byte| {
-        write!(text, "{byte:02x}").expect("a string takes all");
-        text
-    })
 }

@@ -81,7 +81,7 @@ impl Random {
         ((x ^ (x >> 31)) % bound as u64) as usize
     }
 
-    fn one_in(&mut self, chances: usize) -> bool {
+    pub fn one_in(&mut self, chances: usize) -> bool {
         self.below(chances) == 0
     }
 

@@ -9,14 +9,12 @@
 //! what lies outside is counted by its reason, and must be refused as the interface says.
 
 mod compare;
-mod domain;
-mod inputs;
 mod sample;
 
 use compare::{Comparison, Stored};
-use domain::stored_text;
+use differential::domain::stored_text;
+use differential::inputs::{every, long, Random, EDGES, EDGE_BYTES, SPECIAL};
 use host::LIMIT;
-use inputs::{every, long, Random, EDGES, EDGE_BYTES, SPECIAL};
 use std::process::ExitCode;
 
 const USAGE: &str =

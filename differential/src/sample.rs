@@ -9,9 +9,9 @@
 //!
 //! All lie within the domain of equality, and are the same for the same seed.
 
-use crate::compare::hex;
-use crate::domain::{adjacent_stars, stored_text};
-use crate::inputs::{Random, SPECIAL};
+use differential::domain::{adjacent_stars, stored_text};
+use differential::hex;
+use differential::inputs::{Random, SPECIAL};
 use host::{class, published};
 use std::collections::HashSet;
 use std::fs::File;

@@ -1,0 +1,129 @@
+//! A child of the published version_script.rs, whose private parts it sees: what a script is read
+//! as, and what is kept of it.
+
+use super::*;
+use crate::kept::{self, Kept, KeptNode, Line, Lines, Matcher};
+use crate::published::Accepted;
+use host::class;
+
+pub(crate) fn parse(text: &[u8]) -> bool {
+    VersionScript::parse(ScriptData { raw: text }).is_ok()
+}
+
+pub(crate) fn script(text: &[u8]) -> Option<Accepted> {
+    let script = VersionScript::parse(ScriptData { raw: text }).ok()?;
+    let kept = match &script {
+        VersionScript::Regular(script) => Kept::Nodes(script.versions.iter().map(node).collect()),
+        VersionScript::Rust(script) => {
+            Kept::Listed(script.global.iter().map(|name| name.to_vec()).collect())
+        }
+    };
+    let nodes = nodes(text).expect("an accepted script is read again");
+    Some(Accepted { nodes, kept })
+}
+
+/// The nodes in order of reading: the steps of `parse_version_script`, by its own functions, with
+/// the bodies as they are before they become sets.
+fn nodes(text: &[u8]) -> winnow::Result<Vec<kept::Node>> {
+    let input = &mut BStr::new(text);
+    skip_comments_and_whitespace(input)?;
+    if input.starts_with(b"{") {
+        return Ok(vec![kept::Node {
+            matchers: both(parse_version_section(input)?),
+            ..Default::default()
+        }]);
+    }
+    let mut nodes = vec![kept::Node::default()];
+    while !input.is_empty() {
+        let name = parse_token(input)?.to_vec();
+        skip_comments_and_whitespace(input)?;
+        let matchers = both(parse_version_section(input)?);
+        let parent: &[u8] = take_until(0.., b';').parse_next(input)?;
+        let parent = parent.to_vec();
+        ";".parse_next(input)?;
+        skip_comments_and_whitespace(input)?;
+        nodes.push(kept::Node {
+            name,
+            matchers,
+            parent,
+        });
+    }
+    Ok(nodes)
+}
+
+pub(crate) fn refused_for_meaning(text: &[u8]) -> bool {
+    is_for_meaning(parse_version_script(&mut BStr::new(text)))
+}
+
+/// Whether a reading failed for a glob or a parent.
+pub(crate) fn is_for_meaning<T>(answer: winnow::Result<T>) -> bool {
+    let error = answer.err();
+    let cause = error.as_ref().and_then(ContextError::cause);
+    matches!(
+        cause.and_then(|cause| cause.downcast_ref()),
+        Some(
+            VersionScriptError::UnknownParentVersion
+                | VersionScriptError::InvalidUtf8String
+                | VersionScriptError::InvalidGlobPattern
+        )
+    )
+}
+
+fn both(body: RawVersionBody) -> [Vec<Matcher>; 2] {
+    [body.globals, body.locals].map(|section| section.into_iter().map(matcher).collect())
+}
+
+pub(crate) fn matcher(read: ParsedSymbolMatcher) -> Matcher {
+    let block = |language, matchers: Vec<SymbolMatcher>| Matcher::Extern {
+        language,
+        lines: matchers.into_iter().map(line).collect(),
+    };
+    match read {
+        ParsedSymbolMatcher::Single(matcher) => Matcher::Bare(line(matcher)),
+        ParsedSymbolMatcher::Multiple(matchers) => block(0, matchers),
+        ParsedSymbolMatcher::CxxMatchers(matchers) => block(1, matchers),
+    }
+}
+
+fn line(matcher: SymbolMatcher) -> Line {
+    let (class, bytes) = match matcher {
+        SymbolMatcher::Exact(bytes) => (class::EXACT, bytes.to_vec()),
+        // Unescaped when it is kept.
+        SymbolMatcher::EscapedExact(bytes) => (class::ESCAPED, unescape_pattern(bytes)),
+        SymbolMatcher::NonstarGlob(glob) => (class::NON_STAR, bytes(&glob)),
+        SymbolMatcher::StarGlob(glob) => (class::STAR, bytes(&glob)),
+        SymbolMatcher::MatchesAll => (class::ALL, Vec::new()),
+    };
+    Line { class, bytes }
+}
+
+fn bytes(glob: &Pattern) -> Vec<u8> {
+    glob.as_str().as_bytes().to_vec()
+}
+
+fn node(version: &Version) -> KeptNode {
+    let VersionBody { globals, locals } = &version.version_body;
+    KeptNode {
+        name: version.name.to_vec(),
+        parent: version.parent_index.map(usize::from),
+        lines: [languages(globals), languages(locals)],
+    }
+}
+
+pub(crate) fn languages(rules: &MatchRules) -> [Lines; 2] {
+    [lines(&rules.general), lines(&rules.cxx)]
+}
+
+fn lines(rules: &BasicMatchRules) -> Lines {
+    Lines {
+        exact: rules
+            .exact
+            .iter()
+            .map(|name| name.bytes().to_vec())
+            .collect(),
+        escaped: rules.escaped_exact.iter().cloned().collect(),
+        non_star: rules.nonstar_globs.iter().map(bytes).collect(),
+        star: rules.star_globs.iter().map(bytes).collect(),
+        all: rules.matches_all,
+    }
+}
