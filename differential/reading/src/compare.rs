@@ -88,8 +88,9 @@ impl Comparison {
         let memory = &mut self.memory;
         self.tally.judge(outside, agree, || {
             let (text, what) = memory.smallest(source, text);
-            let shown = text.escape_ascii();
-            format!("{source:?} {} `{shown}`: {what}", hex(&text))
+            let shown = text.escape_ascii().to_string();
+            let [hex, shown, what] = [hex(&text), shown, what].map(cut);
+            format!("{source:?} {hex} `{shown}`, {} bytes: {what}", text.len())
         });
     }
 }
@@ -229,6 +230,15 @@ impl Memory {
         }
         (text, what)
     }
+}
+
+/// Words short enough to be printed.
+fn cut(mut words: String) -> String {
+    if let Some((at, _)) = words.char_indices().nth(600) {
+        words.truncate(at);
+        words += "..";
+    }
+    words
 }
 
 fn expect(holds: bool, what: impl FnOnce() -> String) -> Result<(), String> {

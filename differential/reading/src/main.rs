@@ -27,8 +27,8 @@ use std::process::ExitCode;
 
 const USAGE: &str = "usage: reading [--seed N] [--rounds N], or reading sample FILE [--seed N]";
 
-/// The published reader calls itself once for each `extern "C"{` within another: with the usual
-/// stack it overflows at some ten thousand.
+/// The published reader calls itself once for each `extern "C"{` within another: five thousand of
+/// them take more than 1.5 MiB.
 const STACK: usize = 1 << 28;
 
 fn main() -> ExitCode {

@@ -27,8 +27,7 @@ pub mod kind {
     pub const PARENT: u64 = 7;
 }
 
-/// Room for the events of any text of this length: each takes a byte at least, but for those of a
-/// text without bytes.
+/// Room for the events of any text of this length: each but two takes a byte of it at least.
 pub const fn room(length: usize) -> usize {
     WIDTH * (length + 2)
 }

@@ -48,5 +48,5 @@ pub fn refused_for_meaning(source: Source, text: &[u8]) -> bool {
 /// Reads a script as the linker does, for the clock; true when it is accepted.
 #[inline]
 pub fn parse_script(text: &[u8]) -> bool {
-    version_script::probe::parse(text)
+    if_it_ends(|| version_script::probe::parse(text)).unwrap_or(false)
 }
