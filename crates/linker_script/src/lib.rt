@@ -53,7 +53,7 @@ fn is_pair(s: &[u8], i: usize, x: u8, y: u8) -> bool
     false
 }
 
-// The first place of x with y behind it, from a place on.
+// The first place of x with y behind it, from a place on. A 0 stands behind the last byte.
 pub fn find_pair(s: &[u8], x: u8, y: u8, at: usize) -> Found
     ensures { λ r. ⌜ r ≡ first-from (are x y) (now (s .entry)) at ⌝ }
 {

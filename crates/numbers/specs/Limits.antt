@@ -1,4 +1,4 @@
--- 01's limits, last accepted. Assumes nothing.
+-- 01's limits, last accepted, as far as they are asked yet. An export list is a script here. Assumes nothing.
 use Prim.Native.Nat.{ℕ}
 
 -- "script 1,048,576 bytes"

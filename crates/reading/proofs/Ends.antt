@@ -17,7 +17,7 @@ use Rattle.linker_script.proofs.Searches.{First, first-within, last-close-none,
 use Rattle.reading.specs.declared.TokenEnd.{TokenEnd}
 use Rattle.reading.specs.Tokens.{to-semicolon, to-either, brace-before, extern-end, bare-extern-end}
 
-and-both : (a b : Bool) → a && b ≡ true → (a ≡ true) × (b ≡ true)
+pub and-both : (a b : Bool) → a && b ≡ true → (a ≡ true) × (b ≡ true)
 and-both true b h = (refl, h)
 and-both false b h = absurd (true≢false (sym h))
 

@@ -8,5 +8,9 @@ pub mod Bounds
 pub mod Steps
 pub mod Onward
 pub mod Refusals
+pub mod Absence
+pub mod Coming
+pub mod Exactly
+pub mod Looking
 pub mod Points
 pub mod Tabling

@@ -17,8 +17,9 @@ use Rattle.reading.specs.declared.Step.the-variants.{Go, End, Refused}
 use Rattle.reading.specs.Places.{start}
 use Rattle.reading.specs.Scripts.{start-script, next-script, next-list, next-symbol, next}
 use Rattle.reading.specs.Events.{refused, on-step, reading-within, reading-from, reading}
+use Rattle.reading.specs.Rules.{Over, script, list, symbol, bare}
 use Rattle.reading.proofs.Bounds.{of-grammar}
-use Rattle.reading.proofs.Steps.{Over, script, list, symbol, bare, Refusal, long, grammar, Fits, refused as refuses, next-fits}
+use Rattle.reading.proofs.Steps.{Refusal, long, grammar, Fits, refused as refuses, next-fits}
 
 -- 1, 2, 3 or 4
 abbrev pub of-reader : ℕ → Bool

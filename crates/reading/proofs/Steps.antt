@@ -33,6 +33,7 @@ use Rattle.reading.specs.Places.{at-script, at-node, at-body, in-body, i
 use Rattle.reading.specs.Tokens.{stands, name-end, to-semicolon, extern-end, bare-extern-end, bare-end, bare-skip}
 use Rattle.reading.specs.Matchers.{extern-word, cxx-word, c-word, close-word, line-to, extern-open, extern-at, extern-inside, in-extern, in-bare, matcher, bare-line, bare-matcher}
 use Rattle.reading.specs.Scripts.{global-word, local-word, name-to, node-at, script-at, parent-to, parent-at, node-end, sole-end, inside-body, body-at, sole-at, list-at, opening-at, within, start-script, go-node, go-body, go-sole, go-list, next-script, next-list, next-symbol, next}
+use Rattle.reading.specs.Rules.{Over, script, list, symbol, bare}
 use Rattle.reading.proofs.Bounds.{byte-stands, word-stands, name-within, Past, past-semicolon-within, of-grammar, Ends, ends, refuses, semicolon-ends, extern-ends, bare-extern-ends, bare-skip-within, bare-refuses}
 
 -- ---- what a step keeps to
@@ -51,13 +52,6 @@ pub record Onward (s : List ℕ) (c d : Cursor) : Type 0 where
   pub begun : symbol-start (d .place) ≡ false
   -- past the text it stands only where nothing more is read
   pub inside : eqb (d .place) behind-symbol ≡ false → d .at ≤ length s
-
--- a text over its limit, at the places where a reading starts
-pub data Over (s : List ℕ) : ℕ → Type 0 where
-  script : script-limit < length s → Over s at-script
-  list : script-limit < length s → Over s at-list
-  symbol : token-limit < length s → Over s at-symbol
-  bare : token-limit < length s → Over s at-bare
 
 -- a refusal with the number n at the place p
 pub data Refusal (s : List ℕ) (c : Cursor) : ℕ → ℕ → Type 0 where

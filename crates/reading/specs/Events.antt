@@ -1,4 +1,5 @@
--- All events of a text, and how its reading ends. Assumes nothing.
+-- All events of a text, and how its reading ends. Of 01's refusals these are 1, of the script or text, and 2 to 4. Row 0's room, a token's 1, 5, 6, and 7 and
+-- 8 are asked by who takes the events; an opening asks 1 and row 0's room before the first of them. Assumes nothing.
 use Prim.Native.Nat.{ℕ, zero, suc, _+_, _-_}
 use mathlib.Core.List.{List, [], _∷_}
 use lib.ListN.{length}
@@ -34,7 +35,7 @@ unfoldable pub reading-within : ℕ → List ℕ → Cursor → Reading
 reading-within zero s c = ends accepted
 reading-within (suc n) s c = on-step (next s c) (λ d. reading-within n s d)
 
--- each event moves on in the text, so there are no more than its bytes and two (proofs/Onward.antt)
+-- each event of a reading that began at the start moves on in the text, so there are no more than its bytes and two (proofs/Onward.antt)
 unfoldable pub reading-from : List ℕ → Cursor → Reading
 reading-from s c = reading-within (length s + 2 - c .at) s c
 

@@ -1,5 +1,6 @@
 -- Readings of known texts, one row for each: how they end, and where it is told, the lines that they give. Most are texts that 01 can be read two ways of, and
--- the decided reading; P9 and P10 are 01's known points, as far as a reader goes. proofs/Points.antt proves the table.
+-- the decided reading; P9 and P10 are 01's known points. All of it as far as a reader goes: whether a parent is known, or a pattern good, is not its question.
+-- proofs/Points.antt proves the table.
 -- Assumes nothing.
 use Prim.Native.Nat.{ℕ}
 use Prim.Native.String.{String}
@@ -59,7 +60,8 @@ pub record Braces : Type 0 where
   pub none-left : refuses 3 14 (as-script "{ extern \"C\" {")
   pub no-pattern : refuses 3 15 (as-script "{ extern \"C\" { [")
 
--- "when the remaining text has no `};`, or has one with no `;` before it", asked of all bytes behind the token's start, comments too
+-- "when the remaining text has no `};`, or has one with no `;` before it", asked of all bytes behind the token's start, comments too; in a body
+-- a token goes to its `;`, comments too
 pub record Remaining : Type 0 where
   pub comment : gives (Line 0 0 15 4 ∷ Line 0 0 22 4 ∷ []) (as-script "{ extern \"C\" { f /* ; */ g }; };")
   pub outer : refuses 2 17 (as-script "{ extern \"C\" { f } };")
@@ -71,7 +73,7 @@ pub record Sections : Type 0 where
   pub in-extern : gives (Line 0 0 15 9 ∷ []) (as-script "{ extern \"C\" { global: f; }; };")
   pub blank : gives (Line 0 0 2 10 ∷ []) (as-script "{ global : f; };")
 
--- "`};` with nothing between", in a list and in an extern block; "`}` ends it and skips" is of a body
+-- "`};` with nothing between" closes a list, and an extern block too; "`}` ends it and skips" is of a body
 pub record Closings : Type 0 where
   pub in-body : gives (Line 0 0 2 1 ∷ []) (as-script "{ f; } ;")
   pub in-extern : gives (Line 0 0 15 2 ∷ Line 0 0 20 1 ∷ []) (as-script "{ extern \"C\" { a} ; b }; };")
@@ -84,7 +86,9 @@ pub record Nodes : Type 0 where
   pub semicolon : as-script "A;b {};" ≡ record { events = Node 0 3 ∷ Body ∷ Parent 6 0 ∷ []; outcome = accepted }
   pub return : as-script "A\r\n{};" ≡ record { events = Node 0 2 ∷ Body ∷ Parent 5 0 ∷ []; outcome = accepted }
   pub raw : as-script "B {} A/*c*/;" ≡ record { events = Node 0 1 ∷ Body ∷ Parent 5 6 ∷ []; outcome = accepted }
-  pub behind : as-script "B {} /*c*/A;" ≡ record { events = Node 0 1 ∷ Body ∷ Parent 10 1 ∷ []; outcome = accepted }
+  pub behind : 
+      as-script "A {}; B {} /*c*/A;"
+      ≡ record { events = Node 0 1 ∷ Body ∷ Parent 4 0 ∷ Node 6 1 ∷ Body ∷ Parent 16 1 ∷ []; outcome = accepted }
 
 -- "at least one" byte, before "A token loses trailing space, tab, LF, FF, CR"
 pub record Tokens : Type 0 where

@@ -5,3 +5,5 @@ pub mod Scripts
 pub mod Events
 pub mod KnownReadings
 pub mod Rows
+pub mod Rules
+pub mod Refusing

@@ -1,10 +1,11 @@
--- Matchers, as 01 has them under 'Reading'. Assumes nothing.
+-- Matchers, as 01 has them under 'Reading'. Here p, q and r are places of the text, and `place` and `inner` places of the grammar (specs/Places.antt): where
+-- the reading goes on. Assumes nothing.
 use Prim.Native.Nat.{ℕ, _+_}
 use mathlib.Core.List.{List, [], _∷_}
 use mathlib.Core.Bool.{cond}
 use lib.Dec.{eqb}
 use lib.ListN.{length, getD}
-use Rattle.numbers.specs.Refusals.{bad-extern, unreadable}
+use Rattle.numbers.specs.Refusals.{bad-extern}
 use Rattle.numbers.specs.Signs.{opening-brace, semicolon}
 use Rattle.reading.specs.declared.Cursor.{Cursor}
 use Rattle.reading.specs.declared.Event.{Event}
@@ -58,7 +59,7 @@ extern-at c s place p =
     (Refused bad-extern p))
 
 -- "In … an extern block a skip stands before each … token and before the closing `};`"; "`};`, skip"; "`extern ` within it is refused 4 at once";
--- the block was opened at `place`, and e is the end of the token at p
+-- behind the block the reading goes on at `place`, and e is the end of the token at p
 unfoldable pub extern-inside : Cursor → List ℕ → ℕ → ℕ → TokenEnd → Step
 extern-inside c s place p e =
     cond (stands close-word s p) (skipping s (p + 2) (λ r. Go Closed (moved (in-language c 0) place r)))
@@ -75,7 +76,8 @@ in-bare c s place = skipping s (c .at) (λ p. extern-inside c s place p (bare-ex
 unfoldable pub matcher : Cursor → List ℕ → ℕ → ℕ → ℕ → Step
 matcher c s inner place p = cond (stands extern-word s p) (extern-at c s inner p) (line-to c s place p (to-semicolon s p))
 
--- "With `without_semicolon`" the token is that of `bare-end`, and behind it nothing is read
+-- "With `without_semicolon`" the token is that of `bare-end`, and behind it only the skip is read: the reading then stands past the text, which moves it on
+-- also where the text is empty
 unfoldable pub bare-line : Cursor → List ℕ → ℕ → TokenEnd → Step
 bare-line c s place (To q) = skipping s (bare-skip s) (λ r. Go (line c s 0 q) (moved c place (length s + 1)))
 bare-line c s place (token.Refused n) = Refused n 0

@@ -1,7 +1,7 @@
 -- Where a reading stands, and what a step of it answers. Assumes nothing.
-use Prim.Native.Nat.{ℕ, suc, _+_}
+use Prim.Native.Nat.{ℕ, _+_}
 use mathlib.Core.List.{List}
-use mathlib.Core.Bool.{Bool, cond}
+use mathlib.Core.Bool.{cond}
 use lib.Dec.{eqb}
 use lib.ListN.{length, getD}
 use Rattle.numbers.specs.Refusals.{unclosed, unreadable}
@@ -10,9 +10,8 @@ use Rattle.linker_script.specs.declared.Skipped.the-variants.{At, Open}
 use Rattle.linker_script.specs.Finding.{last-close}
 use Rattle.linker_script.specs.Skip.{skip}
 use Rattle.reading.specs.declared.Cursor.{Cursor}
-use Rattle.reading.specs.declared.Event.{Event}
 use Rattle.reading.specs.declared.Step.{Step}
-use Rattle.reading.specs.declared.Step.the-variants.{Go, End, Refused}
+use Rattle.reading.specs.declared.Step.the-variants.{End, Refused}
 
 -- a version script: at its start; between nodes; behind a node's name; in a named node's body, in an extern block there; in the one body of a script
 -- without names, in an extern block there
@@ -78,7 +77,8 @@ in-section c section = record { at = c .at; place = c .place; section = section;
 abbrev pub in-language : Cursor → ℕ → Cursor
 in-language c language = record { at = c .at; place = c .place; section = c .section; language = language; last = c .last }
 
--- ---- how a step goes on
+-- ---- how a step goes on. A refusal has the place at which the rule began that failed: of a token, a parent text, a comment or an `extern `, its first byte;
+-- else the byte where a name, `{`, `;` or the end was due
 -- behind a skip
 abbrev pub on-skip : Skipped → (ℕ → Step) → Step
 on-skip (At p) on = on p

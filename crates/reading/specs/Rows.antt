@@ -1,7 +1,7 @@
 -- The events of a text as rows of numbers, for a host in another language. Assumes nothing.
 use Prim.Native.Nat.{ℕ, _+_, _*_, _/_}
 use mathlib.Core.List.{List, [], _∷_, _++_}
-use mathlib.Core.Bool.{Bool, cond}
+use mathlib.Core.Bool.{cond}
 use lib.Dec.{eqb, leb, ltb}
 use lib.ListN.{length, take}
 use Rattle.numbers.specs.Limits.{script-limit}
@@ -30,7 +30,7 @@ rows (e ∷ es) = row e ++ rows es
 unfoldable pub place-of : ℕ → ℕ
 place-of source = cond (eqb source 0) at-script (cond (eqb source 1) at-list (cond (eqb source 2) at-symbol at-bare))
 
--- a refusal's number with 256 times its place, or 256 times the number of events; too few rows are refused 8
+-- a refusal's number with 256 times its place, or 256 times the number of events; too few rows, `room` of them, are refused 8
 unfoldable pub outcome-told : Outcome → ℕ → ℕ
 outcome-told accepted n = 256 * n
 outcome-told (refused x p) n = x + 256 * p
@@ -38,7 +38,7 @@ outcome-told (refused x p) n = x + 256 * p
 unfoldable pub told : Reading → ℕ → ℕ
 told r room = cond (leb (length (r .events)) room) (outcome-told (r .outcome) (length (r .events))) no-room
 
--- over the largest limit nothing is read
+-- into a buffer of `room` numbers; a text over the largest limit is not looked at
 unfoldable pub events-told : ℕ → List ℕ → ℕ → ℕ
 events-told source s room = cond (ltb script-limit (length s)) too-long (told (reading (place-of source) s) (room / 5))
 

@@ -2,7 +2,7 @@
 -- Assumes nothing.
 use Prim.Native.Nat.{ℕ, _+_, _-_}
 use mathlib.Core.List.{List, [], _∷_}
-use mathlib.Core.Bool.{Bool, true, false, cond}
+use mathlib.Core.Bool.{cond}
 use lib.Dec.{eqb, ltb}
 use lib.ListN.{length, getD}
 use Rattle.numbers.specs.Limits.{script-limit, token-limit}
@@ -12,7 +12,6 @@ use Rattle.linker_script.specs.declared.Found.{Found}
 use Rattle.linker_script.specs.declared.Found.the-variants.{Here, Nowhere}
 use Rattle.linker_script.specs.Finding.{first-from, is}
 use Rattle.reading.specs.declared.Cursor.{Cursor}
-use Rattle.reading.specs.declared.Event.{Event}
 use Rattle.reading.specs.declared.Event.the-variants.{Node, Body, Section, Parent}
 use Rattle.reading.specs.declared.Step.{Step}
 use Rattle.reading.specs.declared.Step.the-variants.{Go, End, Refused}
@@ -48,7 +47,7 @@ parent-to c p Nowhere = Refused unreadable p
 unfoldable pub parent-at : Cursor → List ℕ → ℕ → Step
 parent-at c s p = parent-to c p (first-from (is semicolon) s p)
 
--- behind the `}` of a named node's body, and of a sole body
+-- behind the `}` of a named node's body, where the next body begins "global at first"; and of a sole body
 unfoldable pub node-end : Cursor → List ℕ → ℕ → Step
 node-end c s p = skipping s p (λ q. parent-at (in-section c 0) s q)
 
@@ -56,7 +55,7 @@ unfoldable pub sole-end : List ℕ → ℕ → Step
 sole-end s p = skipping s p (λ q. expecting semicolon s q (λ r. skipping s r (λ e. ending s e)))
 
 -- ---- "Body: `{`, then repeatedly skip; `}` ends it and skips; `global:` and `local:` set the section (global at first); else a matcher."
--- not at a `}`, at the place p; `inner` is where an extern block is read
+-- at the place p, where no `}` stands; an extern block goes on at `inner`
 unfoldable pub inside-body : Cursor → List ℕ → ℕ → ℕ → Step
 inside-body c s inner p =
     cond (stands global-word s p) (Go (Section 0) (moved (in-section c 0) (c .place) (p + 7)))
@@ -122,5 +121,6 @@ next-symbol s c =
     (cond (eqb (c .place) in-bare-extern) (in-bare c s behind-symbol)
     End)))
 
+-- at a place of the grammar that there is not, nothing is read
 unfoldable pub next : List ℕ → Cursor → Step
 next s c = cond (ltb (c .place) at-list) (next-script s c) (cond (ltb (c .place) at-symbol) (next-list s c) (next-symbol s c))

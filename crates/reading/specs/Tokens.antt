@@ -60,6 +60,7 @@ no-semicolon-before (Here c) (Here q) = ltb c q
 no-semicolon-before (Here c) Nowhere = true
 no-semicolon-before Nowhere q = true
 
+-- (what `next` asks instead, and why the two are the same, stands below)
 unfoldable pub to-either : List ℕ → ℕ → TokenEnd
 to-either s p = cond (no-semicolon-before (first-from closes s p) (first-from (is semicolon) s p)) (to-brace s p) (to-semicolon s p)
 

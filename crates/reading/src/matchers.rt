@@ -112,7 +112,8 @@ fn extern_at(c: Cursor, s: &[u8], place: u32, p: usize) -> Step
     Step::Refused(BAD_EXTERN, p)
 }
 
-// In an extern block, behind a skip: its `};`, or a token with the given end. The block was opened at `place`.
+// In an extern block, behind a skip: its `};`, or a token with the given end. Behind the block the reading
+// goes on at `place`.
 fn extern_inside(c: Cursor, s: &[u8], place: u32, p: usize, end: TokenEnd) -> Step
     ensures { λ r. ⌜ r ≡ extern-inside c (now (s .entry)) place p end ⌝ }
 {

@@ -2,11 +2,19 @@
 //! Rust. Fields are split by one blank; a text is in hex, and `-` is no bytes. A source is a number:
 //! 0 version script, 1 export list, 2 `add_symbol`, 3 `add_symbol` without semicolon.
 //!
-//!     R source text 0                         refused
-//!     R source text 1 nodes globals locals    accepted
+//!     R source text 0          refused
+//!     R source text 1 words    accepted
 //!
-//! Nodes are counted with node 0, which an export list and a text of `add_symbol` have alone;
-//! globals and locals are the lines of all nodes as they are read, before any becomes one of a set.
+//! The words are the nodes twice, first with their globals and then with their locals, as they are
+//! read, before any becomes one of a set. Sections (1 for locals), languages (1 for C++) and classes
+//! are digits, and no blank is between digits:
+//!
+//!     N name                              a node; node 0, which an export list and a text of
+//!                                         `add_symbol` have alone, has neither this nor a parent
+//!     E section language                  an extern block
+//!     L section language class, bytes     a line, the bytes as they are stored
+//!     C                                   the end of the extern block
+//!     P parent                            the end of the node, and its parent's text
 //!
 //! All lie within the domain of equality, and are the same for the same seed. A text that the Rust
 //! refuses for a glob or for an unknown parent is left out: the reader, which knows syntax only,
@@ -17,35 +25,40 @@ use differential::domain::adjacent_stars;
 use differential::hex;
 use differential::inputs::Random;
 use host::class;
-use reading_host::kept::{Matcher, Node};
+use reading_host::kept::{Line, Matcher, Node};
 use reading_host::published::{self, Answer};
 use reading_host::Source;
 use std::collections::HashSet;
 use std::fs::File;
 use std::io::{BufWriter, Write};
 
-/// How many lines for each source. Every second one is accepted.
-const LINES: usize = 750;
+/// How many texts for each source. Every second one is accepted.
+const TEXTS: [(Source, usize); 4] = [
+    (Source::Script, 800),
+    (Source::ExportList, 400),
+    (Source::AddSymbol, 320),
+    (Source::AddSymbolWithoutSemicolon, 320),
+];
 
 const LONGEST: usize = 200;
 
 pub fn write(file: &str, mut random: Random) -> std::io::Result<()> {
     let mut out = BufWriter::new(File::create(file)?);
-    for source in Source::ALL {
-        let mut lines = HashSet::new();
-        while lines.len() < LINES {
-            // A line that is already there, or not the wanted one, is drawn again.
-            let line = line(&mut random, source, lines.len() % 2 == 0);
-            if let Some(line) = line.filter(|line| lines.insert(line.clone())) {
-                writeln!(out, "R {line}")?;
+    for (source, count) in TEXTS {
+        let mut texts = HashSet::new();
+        while texts.len() < count {
+            // A text that is already there, or not the wanted one, is drawn again.
+            let text = text(&mut random, source, texts.len() % 2 == 0);
+            if let Some(text) = text.filter(|text| texts.insert(text.clone())) {
+                writeln!(out, "R {text}")?;
             }
         }
-        println!("{source:?} {LINES}");
+        println!("{source:?} {count}");
     }
     out.flush()
 }
 
-fn line(random: &mut Random, source: Source, wanted: bool) -> Option<String> {
+fn text(random: &mut Random, source: Source, wanted: bool) -> Option<String> {
     let kind = random.pick(kinds(source));
     let mut text = scripts::random(random, kind);
     if random.one_in(2) {
@@ -56,11 +69,12 @@ fn line(random: &mut Random, source: Source, wanted: bool) -> Option<String> {
     }
     let answer = match published::read(source, &text) {
         Answer::Accepted(rust) if wanted && !with_adjacent_stars(&rust.nodes) => {
-            let [globals, locals] = [0, 1].map(|section| {
-                let matchers = rust.nodes.iter().flat_map(|node| &node.matchers[section]);
-                matchers.map(|matcher| matcher.lines().len()).sum::<usize>()
-            });
-            format!("1 {} {globals} {locals}", rust.nodes.len())
+            // Those that have no line are all alike: most are left out.
+            if lines(&rust.nodes).next().is_none() && !random.one_in(8) {
+                return None;
+            }
+            let [globals, locals] = [0, 1].map(|section| words(&rust.nodes, section));
+            format!("1{globals}{locals}")
         }
         Answer::Refused if !wanted && !published::refused_for_meaning(source, &text) => {
             "0".to_string()
@@ -74,6 +88,8 @@ fn line(random: &mut Random, source: Source, wanted: bool) -> Option<String> {
 fn kinds(source: Source) -> &'static [Kind] {
     match source {
         Source::Script => &[
+            Kind::Nodes,
+            Kind::Nodes,
             Kind::Nodes,
             Kind::Nodes,
             Kind::Nodes,
@@ -93,10 +109,37 @@ fn kinds(source: Source) -> &'static [Kind] {
     }
 }
 
-fn with_adjacent_stars(nodes: &[Node]) -> bool {
+/// The nodes with the matchers of one section.
+fn words(nodes: &[Node], section: usize) -> String {
+    let node = |(number, node): (usize, &Node)| {
+        let matchers = node.matchers[section].iter();
+        let matchers: String = matchers.map(|matcher| block(matcher, section)).collect();
+        match number {
+            0 => matchers,
+            _ => format!(" N {}{matchers} P {}", hex(&node.name), hex(&node.parent)),
+        }
+    };
+    nodes.iter().enumerate().map(node).collect()
+}
+
+fn block(matcher: &Matcher, section: usize) -> String {
+    let language = matcher.language();
+    let lines = matcher.lines().iter();
+    let lines: String = lines
+        .map(|Line { class, bytes }| format!(" L{section}{language}{class} {}", hex(bytes)))
+        .collect();
+    match matcher {
+        Matcher::Bare(_) => lines,
+        Matcher::Extern { .. } => format!(" E{section}{language}{lines} C"),
+    }
+}
+
+fn lines(nodes: &[Node]) -> impl Iterator<Item = &Line> {
     let matchers = nodes.iter().flat_map(|node| node.matchers.iter().flatten());
-    let mut globs = matchers
-        .flat_map(Matcher::lines)
-        .filter(|line| class::is_glob(line.class));
+    matchers.flat_map(Matcher::lines)
+}
+
+fn with_adjacent_stars(nodes: &[Node]) -> bool {
+    let mut globs = lines(nodes).filter(|line| class::is_glob(line.class));
     globs.any(|line| std::str::from_utf8(&line.bytes).is_ok_and(adjacent_stars))
 }

@@ -6,10 +6,10 @@ use Rattle.glob_replay.proofs.replay.Statement.{statement}
 use Rattle.glob_replay.proofs.replay.Tie as tie
 
 abbrev Inv-loop : tie.InvT-loop
-Inv-loop text lines₀ different₀ first₀ at₀ lines different first at = (at ≤ length text + 1) × (lines ≤ at) × (different ≤ lines)
+Inv-loop text lines₀ different₀ at₀ lines different at = (at ≤ length text + 1) × (lines ≤ at) × (different ≤ lines)
 
 abbrev μ-loop : tie.MeasureT-loop
-μ-loop text lines₀ different₀ first₀ at₀ lines different first at = length text - at
+μ-loop text lines₀ different₀ at₀ lines different at = length text - at
 
 loop-holds : tie.Need-loop-holds Inv-loop μ-loop
 loop-holds c = search needs
@@ -44,8 +44,8 @@ loop-again c = search needs
 add-different : tie.Need-add-different Inv-loop μ-loop
 add-different c = search needs
 
-earlier-requires : tie.Need-earlier-requires Inv-loop μ-loop
-earlier-requires c κs = search needs
+print-different-requires : tie.Need-print-different-requires Inv-loop μ-loop
+print-different-requires c κs = search needs
 
 loop-less-2 : tie.Need-loop-less-2 Inv-loop μ-loop
 loop-less-2 c = search needs
@@ -73,7 +73,7 @@ replay-spec =
     loop-less
     loop-again
     add-different
-    earlier-requires
+    print-different-requires
     loop-less-2
     loop-again-2
     returns)

@@ -1,14 +1,14 @@
--- `read_field` is safe and ends: each turn reads a byte, of 64 at most. Assumes nothing.
+-- `read_field` is safe and ends: each turn reads a byte, of 256 at most. Assumes nothing.
 use Prim.Native.Nat.{_-_, _≤_}
 use borrow.Author.Needs.{needs}
-use Rattle.glob_replay.proofs.read_field.Statement.{statement}
-use Rattle.glob_replay.proofs.read_field.Tie as tie
+use Rattle.replay.proofs.read_field.Statement.{statement}
+use Rattle.replay.proofs.read_field.Tie as tie
 
 abbrev Inv-loop : tie.InvT-loop
-Inv-loop line from bytes₀ n₀ bytes n = n ≤ 64
+Inv-loop line from bytes₀ n₀ bytes n = n ≤ 256
 
 abbrev μ-loop : tie.MeasureT-loop
-μ-loop line from bytes₀ n₀ bytes n = 64 - n
+μ-loop line from bytes₀ n₀ bytes n = 256 - n
 
 loop-holds : tie.Need-loop-holds Inv-loop μ-loop
 loop-holds c = search needs

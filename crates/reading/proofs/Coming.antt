@@ -1,0 +1,394 @@
+-- A step comes to the rules and places to which specs/Rules.antt says that it comes (`due-left`, `comes-left`), and there it refuses as specs/Refusing.antt
+-- says (`unreadable-refuses`, `unclosed-refuses`, `bad-extern-refuses`). proofs/Exactly.antt says that it refuses only so.
+-- Assumes nothing.
+use Prim.Native.Nat.{ℕ, zero, suc, _+_, _<_, _≤_}
+use mathlib.Core.Path.{_≡_, refl, sym, _∙_}
+use mathlib.Core.List.{List, [], _∷_}
+use mathlib.Core.Bool.{Bool, true, false, cond, true≢false}
+use native.Mathlib.Decide.{decLt}
+use native.Mathlib.Omega.{arith}
+use borrow.Author.Tests.{eq-eqb, ne-eqb, eqb-true, le-ltb}
+use lib.Dec.{eqb, ltb}
+use lib.ListN.{length, getD, drop, drop-of-length-le}
+use Rattle.numbers.specs.Limits.{script-limit, token-limit}
+use Rattle.numbers.specs.Refusals.{unreadable, unclosed, bad-extern}
+use Rattle.numbers.specs.Signs.{closing-brace, opening-brace, semicolon}
+use Rattle.linker_script.specs.declared.Found.{Found}
+use Rattle.linker_script.specs.declared.Found.the-variants.{Here, Nowhere}
+use Rattle.linker_script.specs.declared.Skipped.the-variants.{At, Open}
+use Rattle.linker_script.specs.Finding.{closes, first-from}
+use Rattle.linker_script.specs.Skip.{skip}
+use Rattle.linker_script.proofs.Searches.{drop-next}
+use Rattle.reading.specs.declared.Cursor.{Cursor}
+use Rattle.reading.specs.declared.Event.{Event}
+use Rattle.reading.specs.declared.Event.the-variants.{Body, Extern, Closed}
+use Rattle.reading.specs.declared.Step.{Step}
+use Rattle.reading.specs.declared.Step.the-variants.{Go, Refused}
+use Rattle.reading.specs.declared.TokenEnd.{TokenEnd}
+use Rattle.reading.specs.declared.TokenEnd.the-variants as no
+use Rattle.reading.specs.Places.{in-body, in-body-extern, in-sole, in-sole-extern, in-list, in-list-extern, in-symbol-extern, in-bare-extern, behind-symbol, moved, in-section, in-language, skipping, expecting, ending}
+use Rattle.reading.specs.Tokens.{begins, stands, named, longer, name-in, name-end, to-semicolon, to-brace, to-either, extern-end, bare-extern-end, bare-end, bare-skip}
+use Rattle.reading.specs.Matchers.{extern-word, cxx-word, c-word, close-word, line-to, extern-open, extern-at, extern-inside, in-extern, in-bare, matcher as matcher-at, line as line-of, bare-line, bare-matcher}
+use Rattle.reading.specs.Scripts.{global-word, local-word, name-to, node-at, script-at, parent-to, parent-at, node-end, sole-end, inside-body, body-at, sole-at, list-at, opening-at, start-script, go-node, go-body, go-sole, go-list, next-script, next-list, next-symbol, next}
+use Rattle.reading.specs.Rules.{Byte, None, Word, No-word, Name-byte, Token, plain-token, extern-token, bare-token, bare-extern-token, to-closing, Rule, skip-to, script-start, node, opening, body, parent, last-semicolon, end, matchers, matcher, block, token, no-more, Due, due-script, due-node, due-opening, due-body, due-body-block, due-sole, due-sole-block, due-list, due-matchers, due-list-block, due-symbol, due-symbol-block, due-bare, due-bare-block, Over, script, list, symbol, bare, Comes, starts, past-blank, past-line, past-comment, skipped, to-nodes, behind-body, of-body, behind-semicolon, behind-list, of-list, behind-cxx, behind-c, behind-block, of-matcher, of-block, all-text}
+use Rattle.reading.specs.Refusing.{Unreadable, no-name, no-opening, no-parent-end, no-semicolon, bytes-remain, no-token-end, empty-to-semicolon, empty-to-closing, Unclosed, line, comment, no-brace-left, Bad-extern, language, within-extern}
+use Rattle.reading.proofs.Absence.{none-nowhere, stands-first, pair-nowhere, skip-blank, skip-line, skip-line-opens, skip-comment, skip-comment-opens, skip-stays}
+use Rattle.reading.proofs.Ends.{and-both, bare-either, bare-extern-01}
+use Rattle.reading.proofs.Onward.{Standing, standing-ends}
+
+-- ---- words
+-- what stands of a word at its places
+begins-byte : (w l : List ℕ) (i : ℕ) → begins w l ≡ true → i < length w → getD l i 0 ≡ getD w i 0
+unfolding begins
+begins-byte [] l i e h = absurd (omega arith)
+begins-byte (x ∷ w) [] i e h = absurd (true≢false (sym e))
+begins-byte (x ∷ w) (b ∷ l) zero e h = eqb-true b x (and-both (eqb b x) (begins w l) e .0)
+begins-byte (x ∷ w) (b ∷ l) (suc i) e h = begins-byte w l i (and-both (eqb b x) (begins w l) e .1) (omega arith)
+
+-- two words that differ in a byte do not stand at one place
+differ : (v w s : List ℕ) (p i : ℕ) → i < length v → i < length w → (getD v i 0 ≡ getD w i 0 → ⊥) → Word v s p → No-word w s p
+differ v w s p i h k n e = go (stands w s p) refl
+  where
+    go : (t : Bool) → stands w s p ≡ t → stands w s p ≡ false
+    go true f = absurd (n (sym (begins-byte v (drop p s) i e h) ∙ begins-byte w (drop p s) i f k))
+    go false f = f
+
+-- ---- names
+name-least : (p : ℕ) (l : List ℕ) → p ≤ name-in p l
+unfolding name-in
+name-least p [] = omega arith
+name-least p (b ∷ l) = go (named b) (name-least (p + 1) l)
+  where
+    go : (t : Bool) → p + 1 ≤ name-in (p + 1) l → p ≤ longer t p (name-in (p + 1) l)
+    go true h = omega arith
+    go false h = omega arith
+
+module _ (s : List ℕ) (p : ℕ) where
+  pub name-goes : Name-byte s p → p < name-end s p
+  unfolding name-in
+  name-goes n = rw (drop-next s p (n .within), n .name) (omega (arith, name-least (p + 1) (drop (p + 1) s)))
+
+  name-stays : (Name-byte s p → ⊥) → name-end s p ≤ p
+  unfolding name-in
+  name-stays n = go (decLt p (length s))
+    where
+      byte : p < length s → (t : Bool) → named (getD s p 0) ≡ t → name-end s p ≤ p
+      byte h true e = absurd (n (record { within = h; name = e }))
+      byte h false e = rw (drop-next s p h, e) (omega arith)
+
+      go : Dec (p < length s) → name-end s p ≤ p
+      go (yes h) = byte h (named (getD s p 0)) refl
+      go (no h) =
+          let l : length s ≤ p = omega arith in
+          rw (drop-of-length-le s l) (omega arith)
+
+-- ---- tokens
+-- those that end at a `;` or a `}`
+abbrev pub usual : Token → Bool
+usual plain-token = true
+usual extern-token = true
+usual bare-token = false
+usual bare-extern-token = true
+
+-- where 01 says that a token at p ends
+abbrev pub token-end : Token → List ℕ → ℕ → TokenEnd
+token-end k s p = cond (to-closing k s p) (to-brace s p) (to-semicolon s p)
+
+module _ (s : List ℕ) (c : Cursor) (g : Standing s c) (p : ℕ) where
+  extern-end-said : extern-end (c .last) s p ≡ token-end extern-token s p
+  unfolding to-either
+  extern-end-said = standing-ends s c g p
+
+  bare-extern-end-said : bare-extern-end (c .last) s p ≡ token-end bare-extern-token s p
+  unfolding to-either
+  bare-extern-end-said = rw (g .last) (bare-extern-01 s p ∙ go (first-from closes s p) refl)
+    where
+      go : (f : Found) → first-from closes s p ≡ f → bare-either s p (first-from closes s p) ≡ token-end bare-extern-token s p
+      go (Here q) e = rw (e, to-either, e)
+      go Nowhere e = rw e
+
+-- ---- what is left of a step that has come to a rule at a place
+pub data Rest (s : List ℕ) (c : Cursor) : Rule → ℕ → Step → Type 0 where
+  skip-rest : {r : Rule} {p : ℕ} (on : ℕ → Step) → ((q : ℕ) → Rest s c r q (on q)) → Rest s c (skip-to r) p (skipping s p on)
+  script-rest : {p : ℕ} → Rest s c script-start p (script-at c s p)
+  node-rest : {p : ℕ} → Rest s c node p (node-at c s p)
+  opening-rest : {p : ℕ} (e : Event) (d : ℕ → Cursor) → Rest s c opening p (expecting opening-brace s p (λ q. Go e (d q)))
+  body-rest : {r : Rule} {p : ℕ} {a : Step} (inner : ℕ) → Rest s c (skip-to r) (p + 1) a
+      → Rest s c (body r) p (cond (eqb (getD s p 0) closing-brace) a (inside-body c s inner p))
+  parent-rest : {p : ℕ} (d : Cursor) → Rest s c parent p (parent-at d s p)
+  semicolon-rest : {p : ℕ} → Rest s c last-semicolon p (expecting semicolon s p (λ r. skipping s r (λ e. ending s e)))
+  end-rest : {p : ℕ} → Rest s c end p (ending s p)
+  list-rest : {p : ℕ} → Rest s c matchers p (list-at c s p)
+  matcher-rest : {k : Token} {p : ℕ} {t : Step} (inner : ℕ) → Rest s c (token k) p t
+      → Rest s c (matcher k) p (cond (stands extern-word s p) (extern-at c s inner p) t)
+  block-rest : {k : Token} {p : ℕ} (place : ℕ) → usual k ≡ true → Rest s c (block k) p (extern-inside c s place p (token-end k s p))
+  token-rest : {k : Token} {p : ℕ} (place : ℕ) → usual k ≡ true → Rest s c (token k) p (line-to c s place p (token-end k s p))
+  bare-rest : {p : ℕ} (place : ℕ) → p ≡ 0 → Rest s c (token bare-token) p (bare-line c s place (bare-end s))
+  no-more-rest : {p : ℕ} (e : Event) (d : Cursor) → Rest s c no-more p (Go e d)
+
+pub record Left (s : List ℕ) (c : Cursor) (r : Rule) (p : ℕ) : Type 0 where
+  pub step : Step
+  pub same : next s c ≡ step
+  pub rest : Rest s c r p step
+
+module _ (s : List ℕ) (c : Cursor) where
+  -- a matcher in a body or a list; the `{` of an extern block
+  plain-rest : (inner place p : ℕ) → Rest s c (matcher plain-token) p (matcher-at c s inner place p)
+  unfolding matcher-at
+  plain-rest inner place p = matcher-rest inner (token-rest place refl)
+
+  extern-rest : (place l p : ℕ) → Rest s c (skip-to opening) p (extern-open c s place l p)
+  unfolding extern-open
+  extern-rest place l p =
+      skip-rest
+      (λ r. expecting opening-brace s r (λ q. Go (Extern (c .section) l) (moved (in-language c l) place q)))
+      (λ q. opening-rest (Extern (c .section) l) (λ r. moved (in-language c l) place r))
+
+  end-skip-rest : (p : ℕ) → Rest s c (skip-to end) p (skipping s p (λ r. ending s r))
+  end-skip-rest p = skip-rest (λ r. ending s r) (λ q. end-rest)
+
+  now-left : {r : Rule} {p : ℕ} (t : Step) → next s c ≡ t → Rest s c r p t → Left s c r p
+  now-left t e x = record { step = t; same = e; rest = x }
+
+  same-place : {r : Rule} {t : Step} (p q : ℕ) → q ≡ p → Rest s c r p t → Rest s c r q t
+  same-place p q e x = rw e x
+
+  from : {r : Rule} {p : ℕ} {A : Type 0} → Left s c r p → ((t : Step) → next s c ≡ t → Rest s c r p t → A) → A
+  from l f = f (l .step) (l .same) (l .rest)
+
+  -- ---- a step comes to where it is said to come
+  skip-moves : {r : Rule} (p q : ℕ) → skip s p ≡ skip s q → (t : Step) → next s c ≡ t → Rest s c (skip-to r) p t → Left s c (skip-to r) q
+  skip-moves p q e t z (skip-rest on f) = now-left (skipping s q on) (z ∙ rw e) (skip-rest on f)
+
+  skip-done : {r : Rule} (p : ℕ) → skip s p ≡ At p → (t : Step) → next s c ≡ t → Rest s c (skip-to r) p t → Left s c r p
+  skip-done p e t z (skip-rest on f) = now-left (on p) (z ∙ rw e) (f p)
+
+  nodes-left : (p : ℕ) → (Byte opening-brace s p → ⊥) → (t : Step) → next s c ≡ t → Rest s c script-start p t → Left s c node p
+  unfolding script-at
+  nodes-left p n t z script-rest = now-left (node-at c s p) (z ∙ rw (ne-eqb (getD s p 0) opening-brace n)) node-rest
+
+  body-left : {r : Rule} (p : ℕ) → Byte closing-brace s p → (t : Step) → next s c ≡ t → Rest s c (body r) p t → Left s c (skip-to r) (p + 1)
+  body-left p e t z (body-rest {a = a} inner x) = now-left a (z ∙ rw (eq-eqb (getD s p 0) closing-brace e)) x
+
+  in-body-left : {r : Rule} (p : ℕ) → (Byte closing-brace s p → ⊥) → No-word global-word s p → No-word local-word s p → (t : Step) → next s c ≡ t
+      → Rest s c (body r) p t → Left s c (matcher plain-token) p
+  unfolding inside-body
+  in-body-left p n a b t z (body-rest inner x) =
+      now-left
+      (matcher-at c s inner (c .place) p)
+      (z ∙ rw (ne-eqb (getD s p 0) closing-brace n, a, b))
+      (plain-rest inner (c .place) p)
+
+  semicolon-left : (p : ℕ) → Byte semicolon s p → (t : Step) → next s c ≡ t → Rest s c last-semicolon p t → Left s c (skip-to end) (p + 1)
+  semicolon-left p e t z semicolon-rest =
+      now-left (skipping s (p + 1) (λ r. ending s r)) (z ∙ rw (eq-eqb (getD s p 0) semicolon e)) (end-skip-rest (p + 1))
+
+  list-left : (p : ℕ) → Word close-word s p → (t : Step) → next s c ≡ t → Rest s c matchers p t → Left s c (skip-to end) (p + 2)
+  unfolding list-at
+  list-left p e t z list-rest = now-left (skipping s (p + 2) (λ r. ending s r)) (z ∙ rw e) (end-skip-rest (p + 2))
+
+  in-list-left : (p : ℕ) → No-word close-word s p → (t : Step) → next s c ≡ t → Rest s c matchers p t → Left s c (matcher plain-token) p
+  unfolding list-at
+  in-list-left p e t z list-rest = now-left (matcher-at c s in-list-extern in-list p) (z ∙ rw e) (plain-rest in-list-extern in-list p)
+
+  cxx-left : {k : Token} (p : ℕ) → Word extern-word s p → Word cxx-word s (p + 7) → (t : Step) → next s c ≡ t → Rest s c (matcher k) p t
+      → Left s c (skip-to opening) (p + 12)
+  unfolding extern-at
+  cxx-left p e f t z (matcher-rest inner x) = now-left (extern-open c s inner 1 (p + 12)) (z ∙ rw (e, f)) (extern-rest inner 1 (p + 12))
+
+  c-left : {k : Token} (p : ℕ) → Word extern-word s p → Word c-word s (p + 7) → (t : Step) → next s c ≡ t → Rest s c (matcher k) p t
+      → Left s c (skip-to opening) (p + 10)
+  unfolding extern-at
+  c-left p e f t z (matcher-rest inner x) =
+      let n = differ c-word cxx-word s (p + 7) 2 (omega arith) (omega arith) (λ y. omega arith) f in
+      now-left (extern-open c s inner 0 (p + 10)) (z ∙ rw (e, n, f)) (extern-rest inner 0 (p + 10))
+
+  block-left : {k : Token} (p : ℕ) → Word close-word s p → (t : Step) → next s c ≡ t → Rest s c (block k) p t → Left s c (skip-to no-more) (p + 2)
+  unfolding extern-inside
+  block-left p e t z (block-rest place u) =
+      now-left
+      (skipping s (p + 2) (λ r. Go Closed (moved (in-language c 0) place r)))
+      (z ∙ rw e)
+      (skip-rest (λ r. Go Closed (moved (in-language c 0) place r)) (λ q. no-more-rest Closed (moved (in-language c 0) place q)))
+
+  matcher-left : {k : Token} (p : ℕ) → No-word extern-word s p → (t : Step) → next s c ≡ t → Rest s c (matcher k) p t → Left s c (token k) p
+  matcher-left p e t z (matcher-rest {t = u} inner x) = now-left u (z ∙ rw e) x
+
+  in-block-left : {k : Token} (p : ℕ) → No-word close-word s p → No-word extern-word s p → (t : Step) → next s c ≡ t → Rest s c (block k) p t
+      → Left s c (token k) p
+  unfolding extern-inside
+  in-block-left {k} p e f t z (block-rest place u) = now-left (line-to c s (c .place) p (token-end k s p)) (z ∙ rw (e, f)) (token-rest (c .place) u)
+
+  all-left : (p : ℕ) → None closing-brace s p → (t : Step) → next s c ≡ t → Rest s c (token bare-token) p t → Left s c (skip-to no-more) 0
+  unfolding bare-line bare-end bare-skip
+  all-left p n t z (token-rest place u) = absurd (true≢false (sym u))
+  all-left p n t z (bare-rest place y) =
+      let e = none-nowhere closing-brace s 0 (rw y at n) in
+      now-left
+      (skipping s 0 (λ r. Go (matched place) (moved c place (length s + 1))))
+      (z ∙ rw (e, bare-line, e))
+      (skip-rest (λ r. Go (matched place) (moved c place (length s + 1))) (λ q. no-more-rest (matched place) (moved c place (length s + 1))))
+    where
+      matched : ℕ → Event
+      matched place = line-of c s 0 (length s)
+
+  module _ (g : Standing s c) where
+    -- where it starts
+    at-body-rest : (p : ℕ) → Rest s c (body parent) p (body-at c s p)
+    unfolding body-at node-end
+    at-body-rest p = body-rest in-body-extern (skip-rest (λ q. parent-at (in-section c 0) s q) (λ q. parent-rest (in-section c 0)))
+
+    at-sole-rest : (p : ℕ) → Rest s c (body last-semicolon) p (sole-at c s p)
+    unfolding sole-at sole-end
+    at-sole-rest p =
+        body-rest in-sole-extern
+        (skip-rest (λ q. expecting semicolon s q (λ r. skipping s r (λ e. ending s e))) (λ q. semicolon-rest))
+
+    at-opening-rest : (place : ℕ) → Rest s c (skip-to opening) (c .at) (opening-at c s place)
+    unfolding opening-at
+    at-opening-rest place =
+        skip-rest (λ p. expecting opening-brace s p (λ q. Go Body (moved c place q))) (λ p. opening-rest Body (λ q. moved c place q))
+
+    at-block-rest : (place : ℕ) → Rest s c (skip-to (block extern-token)) (c .at) (in-extern c s place)
+    unfolding in-extern
+    at-block-rest place =
+        skip-rest {r = block extern-token}
+        (λ p. extern-inside c s place p (extern-end (c .last) s p))
+        (λ p. rw (extern-end-said s c g p) (block-rest place refl))
+
+    at-bare-block-rest : (place : ℕ) → Rest s c (skip-to (block bare-extern-token)) (c .at) (in-bare c s place)
+    unfolding in-bare
+    at-bare-block-rest place =
+        skip-rest {r = block bare-extern-token}
+        (λ p. extern-inside c s place p (bare-extern-end (c .last) s p))
+        (λ p. rw (bare-extern-end-said s c g p) (block-rest place refl))
+
+    at-bare-rest : (inner place : ℕ) → c .at ≡ 0 → Rest s c (matcher bare-token) (c .at) (bare-matcher c s inner place)
+    unfolding bare-matcher
+    at-bare-rest inner place z = same-place 0 (c .at) z (matcher-rest inner (bare-rest place refl))
+
+    in-limit : (limit : ℕ) → (limit < length s → ⊥) → ltb limit (length s) ≡ false
+    in-limit limit h = le-ltb limit (length s) (omega arith)
+
+    pub due-left : {r : Rule} (n : ℕ) → c .place ≡ n → (Over s n → ⊥) → Due n r → Left s c r (c .at)
+    unfolding next next-script next-list next-symbol start-script go-node go-body go-sole go-list
+    due-left n z o due-script =
+        now-left
+        (skipping s (c .at) (λ p. script-at c s p))
+        (rw (z, in-limit script-limit (λ h. o (script h))))
+        (skip-rest (λ p. script-at c s p) (λ p. script-rest))
+    due-left n z o due-node = now-left (go-node s c) (rw z) (skip-rest (λ p. node-at c s p) (λ p. node-rest))
+    due-left n z o due-opening = now-left (opening-at c s in-body) (rw z) (at-opening-rest in-body)
+    due-left n z o due-body = now-left (go-body s c) (rw z) (skip-rest (λ p. body-at c s p) at-body-rest)
+    due-left n z o due-body-block = now-left (in-extern c s in-body) (rw z) (at-block-rest in-body)
+    due-left n z o due-sole = now-left (go-sole s c) (rw z) (skip-rest (λ p. sole-at c s p) at-sole-rest)
+    due-left n z o due-sole-block = now-left (in-extern c s in-sole) (rw z) (at-block-rest in-sole)
+    due-left n z o due-list = now-left (opening-at c s in-list) (rw (z, in-limit script-limit (λ h. o (list h)))) (at-opening-rest in-list)
+    due-left n z o due-matchers = now-left (go-list s c) (rw z) (skip-rest (λ p. list-at c s p) (λ p. list-rest))
+    due-left n z o due-list-block = now-left (in-extern c s in-list) (rw z) (at-block-rest in-list)
+    due-left n z o due-symbol =
+        now-left
+        (matcher-at c s in-symbol-extern behind-symbol 0)
+        (rw (z, in-limit token-limit (λ h. o (symbol h))))
+        (same-place 0 (c .at) (g .fresh (rw z)) (plain-rest in-symbol-extern behind-symbol 0))
+    due-left n z o due-symbol-block = now-left (in-extern c s behind-symbol) (rw z) (at-block-rest behind-symbol)
+    due-left n z o due-bare =
+        now-left
+        (bare-matcher c s in-bare-extern behind-symbol)
+        (rw (z, in-limit token-limit (λ h. o (bare h))))
+        (at-bare-rest in-bare-extern behind-symbol (g .fresh (rw z)))
+    due-left n z o due-bare-block = now-left (in-bare c s behind-symbol) (rw z) (at-bare-block-rest behind-symbol)
+
+    comes-left : {r : Rule} {p : ℕ} → Comes s c r p → Left s c r p
+    comes-left (starts o d) = due-left (c .place) refl o d
+    comes-left (past-blank {p = p} h e) = from (comes-left h) (skip-moves p (p + 1) (skip-blank s p e))
+    comes-left (past-line {p = p} {q = q} h e f) = from (comes-left h) (skip-moves p (q + 1) (skip-line s p e q f))
+    comes-left (past-comment {p = p} {q = q} h e f k) = from (comes-left h) (skip-moves p (q + 2) (skip-comment s p e f q k))
+    comes-left (skipped {p = p} h e) = from (comes-left h) (skip-done p (skip-stays s p e))
+    comes-left (to-nodes {p = p} h n) = from (comes-left h) (nodes-left p n)
+    comes-left (behind-body {p = p} h e) = from (comes-left h) (body-left p e)
+    comes-left (of-body {p = p} h n a b) = from (comes-left h) (in-body-left p n a b)
+    comes-left (behind-semicolon {p = p} h e) = from (comes-left h) (semicolon-left p e)
+    comes-left (behind-list {p = p} h e) = from (comes-left h) (list-left p e)
+    comes-left (of-list {p = p} h e) = from (comes-left h) (in-list-left p e)
+    comes-left (behind-cxx {p = p} h e f) = from (comes-left h) (cxx-left p e f)
+    comes-left (behind-c {p = p} h e f) = from (comes-left h) (c-left p e f)
+    comes-left (behind-block {p = p} h e) = from (comes-left h) (block-left p e)
+    comes-left (of-matcher {p = p} h e) = from (comes-left h) (matcher-left p e)
+    comes-left (of-block {p = p} h e f) = from (comes-left h) (in-block-left p e f)
+    comes-left (all-text {p = p} h n) = from (comes-left h) (all-left p n)
+
+  -- ---- and refuses where it is said to refuse
+  module _ (p : ℕ) where
+    name-refuses : (p ≡ length s → ⊥) → (Name-byte s p → ⊥) → (t : Step) → next s c ≡ t → Rest s c node p t → next s c ≡ Refused unreadable p
+    unfolding node-at name-to
+    name-refuses n m t z node-rest = z ∙ rw (ne-eqb p (length s) n, le-ltb p (name-end s p) (name-stays s p m))
+
+    opening-refuses : (Byte opening-brace s p → ⊥) → (t : Step) → next s c ≡ t → Rest s c opening p t → next s c ≡ Refused unreadable p
+    opening-refuses n t z (opening-rest e d) = z ∙ rw (ne-eqb (getD s p 0) opening-brace n)
+
+    parent-refuses : None semicolon s p → (t : Step) → next s c ≡ t → Rest s c parent p t → next s c ≡ Refused unreadable p
+    unfolding parent-at parent-to
+    parent-refuses n t z (parent-rest d) = z ∙ rw (none-nowhere semicolon s p n)
+
+    semicolon-refuses : (Byte semicolon s p → ⊥) → (t : Step) → next s c ≡ t → Rest s c last-semicolon p t → next s c ≡ Refused unreadable p
+    semicolon-refuses n t z semicolon-rest = z ∙ rw (ne-eqb (getD s p 0) semicolon n)
+
+    end-refuses : (p ≡ length s → ⊥) → (t : Step) → next s c ≡ t → Rest s c end p t → next s c ≡ Refused unreadable p
+    end-refuses n t z end-rest = z ∙ rw (ne-eqb p (length s) n)
+
+    skip-refuses : {r : Rule} → skip s p ≡ Open p → (t : Step) → next s c ≡ t → Rest s c (skip-to r) p t → next s c ≡ Refused unclosed p
+    skip-refuses e t z (skip-rest on f) = z ∙ rw e
+
+    language-refuses : {k : Token} → Word extern-word s p → No-word cxx-word s (p + 7) → No-word c-word s (p + 7) → (t : Step) → next s c ≡ t
+        → Rest s c (matcher k) p t → next s c ≡ Refused bad-extern p
+    unfolding extern-at
+    language-refuses e a b t z (matcher-rest inner x) = z ∙ rw (e, a, b)
+
+    within-refuses : {k : Token} → Word extern-word s p → (t : Step) → next s c ≡ t → Rest s c (block k) p t → next s c ≡ Refused bad-extern p
+    unfolding extern-inside
+    within-refuses e t z (block-rest place u) = z ∙ rw (differ extern-word close-word s p 0 (omega arith) (omega arith) (λ y. omega arith) e, e)
+
+    -- tokens
+    no-end-refuses : {k : Token} → to-closing k s p ≡ false → None semicolon s p → (t : Step) → next s c ≡ t → Rest s c (token k) p t
+        → next s c ≡ Refused unreadable p
+    unfolding line-to to-semicolon
+    no-end-refuses e n t z (token-rest place u) = z ∙ rw (e, none-nowhere semicolon s p n)
+    no-end-refuses e n t z (bare-rest place y) = absurd (true≢false e)
+
+    empty-refuses : {k : Token} → to-closing k s p ≡ false → Byte semicolon s p → (t : Step) → next s c ≡ t → Rest s c (token k) p t
+        → next s c ≡ Refused unreadable p
+    unfolding line-to to-semicolon
+    empty-refuses e b t z (token-rest place u) = z ∙ rw (e, stands-first semicolon s p (omega arith) b, le-ltb p p (omega arith))
+    empty-refuses e b t z (bare-rest place y) = absurd (true≢false e)
+
+    closing-refuses : {k : Token} → to-closing k s p ≡ true → Byte closing-brace s p → (t : Step) → next s c ≡ t → Rest s c (token k) p t
+        → next s c ≡ Refused unreadable p
+    unfolding line-to to-brace bare-line bare-end
+    closing-refuses e b t z (token-rest place u) = z ∙ rw (e, stands-first closing-brace s p (omega arith) b, le-ltb p p (omega arith))
+    closing-refuses e b t z (bare-rest place y) = z ∙ rw (stands-first closing-brace s 0 (omega arith) (rw y at b), y)
+
+    brace-refuses : None closing-brace s p → (t : Step) → next s c ≡ t → Rest s c (token extern-token) p t → next s c ≡ Refused unclosed p
+    unfolding line-to to-brace
+    brace-refuses n t z (token-rest place u) =
+        z ∙ rw (pair-nowhere closing-brace semicolon s p (λ q l b _. n q l b), none-nowhere closing-brace s p n)
+
+  module _ (g : Standing s c) (p : ℕ) where
+    pub unreadable-refuses : Unreadable s c p → next s c ≡ Refused unreadable p
+    unreadable-refuses (no-name h n m) = from (comes-left g h) (name-refuses p n m)
+    unreadable-refuses (no-opening h n) = from (comes-left g h) (opening-refuses p n)
+    unreadable-refuses (no-parent-end h n) = from (comes-left g h) (parent-refuses p n)
+    unreadable-refuses (no-semicolon h n) = from (comes-left g h) (semicolon-refuses p n)
+    unreadable-refuses (bytes-remain h n) = from (comes-left g h) (end-refuses p n)
+    unreadable-refuses (no-token-end h e n) = from (comes-left g h) (no-end-refuses p e n)
+    unreadable-refuses (empty-to-semicolon h e b) = from (comes-left g h) (empty-refuses p e b)
+    unreadable-refuses (empty-to-closing h e b) = from (comes-left g h) (closing-refuses p e b)
+
+    pub unclosed-refuses : Unclosed s c p → next s c ≡ Refused unclosed p
+    unclosed-refuses (line h e n) = from (comes-left g h) (skip-refuses p (skip-line-opens s p e n))
+    unclosed-refuses (comment h e f n) = from (comes-left g h) (skip-refuses p (skip-comment-opens s p e f n))
+    unclosed-refuses (no-brace-left h n) = from (comes-left g h) (brace-refuses p n)
+
+    pub bad-extern-refuses : Bad-extern s c p → next s c ≡ Refused bad-extern p
+    bad-extern-refuses (language h e a b) = from (comes-left g h) (language-refuses p e a b)
+    bad-extern-refuses (within-extern h e) = from (comes-left g h) (within-refuses p e)

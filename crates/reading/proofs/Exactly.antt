@@ -1,0 +1,372 @@
+-- A step of a reading refuses exactly where specs/Refusing.antt says, with that number and at that place (`refuses-exactly`): so for each of the numbers 2, 3
+-- and 4 (`unreadable-exactly`, `unclosed-exactly`, `bad-extern-exactly`; for 1, `too-long-exactly` of proofs/Refusals.antt), and of a whole reading
+-- (`reading-exactly`). What is asked of a cursor, `Standing`, holds at the start of a reading and behind each of its events (proofs/Onward.antt).
+-- Assumes nothing.
+use Prim.Native.Nat.{ℕ, zero, suc, _+_, _-_, _<_, _≤_}
+use mathlib.Core.Path.{_≡_, refl, sym, _∙_}
+use mathlib.Core.List.{List}
+use mathlib.Core.Bool.{Bool, true, false, cond, true≢false}
+use native.Mathlib.Decide.{decLt}
+use native.Mathlib.Omega.{arith}
+use borrow.Author.Tests.{ne-eqb, eqb-true, eqb-false, le-ltb, ltb-false}
+use lib.Dec.{eqb, ltb}
+use lib.ListN.{length, getD}
+use Rattle.numbers.specs.Refusals.{too-long, unreadable, unclosed, bad-extern}
+use Rattle.numbers.specs.Signs.{closing-brace, opening-brace, semicolon}
+use Rattle.linker_script.specs.declared.Found.{Found}
+use Rattle.linker_script.specs.declared.Found.the-variants.{Here, Nowhere}
+use Rattle.linker_script.specs.declared.Skipped.the-variants.{At}
+use Rattle.linker_script.specs.Finding.{closes, first-from, is}
+use Rattle.linker_script.specs.Skip.{skip}
+use Rattle.linker_script.proofs.Searches.{first-within}
+use Rattle.reading.specs.declared.Cursor.{Cursor}
+use Rattle.reading.specs.declared.Event.{Event}
+use Rattle.reading.specs.declared.Event.the-variants.{Extern}
+use Rattle.reading.specs.declared.Step.{Step}
+use Rattle.reading.specs.declared.Step.the-variants.{Go, End, Refused}
+use Rattle.reading.specs.declared.TokenEnd.{TokenEnd}
+use Rattle.reading.specs.declared.TokenEnd.the-variants.{To}
+use Rattle.reading.specs.declared.TokenEnd.the-variants as no
+use Rattle.reading.specs.Places.{at-list, in-list, in-list-extern, at-symbol, in-symbol-extern, at-bare, in-bare-extern, moved, in-language, start, skipping, expecting, ending}
+use Rattle.reading.specs.Tokens.{stands, name-end, end-at, to-semicolon, to-brace, bare-end, bare-skip}
+use Rattle.reading.specs.Matchers.{extern-word, cxx-word, c-word, close-word, line-to, extern-open, extern-at, extern-inside, matcher as matcher-at, bare-line}
+use Rattle.reading.specs.Scripts.{global-word, local-word, name-to, node-at, script-at, parent-to, parent-at, inside-body, list-at, next-symbol, next}
+use Rattle.reading.specs.Rules.{Byte, Token, plain-token, extern-token, bare-token, bare-extern-token, to-closing, Rule, skip-to, node, opening, parent, end, matcher, token, Due, due-script, due-node, due-opening, due-body, due-body-block, due-sole, due-sole-block, due-list, due-matchers, due-list-block, due-symbol, due-symbol-block, due-bare, due-bare-block, Over, Comes, starts, past-blank, past-line, past-comment, skipped, to-nodes, behind-body, of-body, behind-semicolon, behind-list, of-list, behind-cxx, behind-c, behind-block, of-matcher, of-block, all-text}
+use Rattle.reading.specs.Refusing.{Unreadable, no-name, no-opening, no-parent-end, no-semicolon, bytes-remain, no-token-end, empty-to-semicolon, empty-to-closing, Unclosed, line, comment, no-brace-left, Bad-extern, language, within-extern, Refusing, one, two, three, four, Reaches, first, after, Refused-reading}
+use Rattle.reading.specs.Events.{refused, on-step, reading-from, reading}
+use Rattle.reading.proofs.Absence.{nowhere-none, pair-found, skip-blank, skip-line, skip-line-opens, skip-comment, skip-comment-opens, skip-stays, semicolon-stays, closing-stays, Turn, stays, at-blank, at-line, at-comment, in-line, in-comment, turn}
+use Rattle.reading.proofs.Onward.{Standing, start-stands, next-stands, next-onward, reading-step}
+use Rattle.reading.proofs.Refusals.{too-long-exactly}
+use Rattle.reading.proofs.Coming.{name-goes, usual, token-end, Rest, skip-rest, script-rest, node-rest, opening-rest, body-rest, parent-rest, semicolon-rest, end-rest, list-rest, matcher-rest, block-rest, token-rest, bare-rest, no-more-rest, due-left, unreadable-refuses, unclosed-refuses, bad-extern-refuses}
+
+module _ (s : List ℕ) (c : Cursor) where
+  -- ---- it refuses only so
+  data Says : Step → Type 0 where
+    goes : {e : Event} {d : Cursor} → Says (Go e d)
+    ended : Says End
+    refuses : {n p : ℕ} → Refusing s c n p → Says (Refused n p)
+
+  on-cond : (t : Bool) {a b : Step} → (t ≡ true → Says a) → (t ≡ false → Says b) → Says (cond t a b)
+  on-cond true f g = f refl
+  on-cond false f g = g refl
+
+  module _ {r : Rule} {on : ℕ → Step} (f : (q : ℕ) → Comes s c r q → Says (on q)) where
+    skip-turn : (p : ℕ) → ((q : ℕ) → p < q → p < length s → Comes s c (skip-to r) q → Says (skipping s q on)) → Comes s c (skip-to r) p → Turn s p
+        → Says (skipping s p on)
+    skip-turn p more w (stays e) = rw (skip-stays s p e) (f p (skipped w e))
+    skip-turn p more w (at-blank h e) = rw (skip-blank s p e) (more (p + 1) (omega arith) h (past-blank w e))
+    skip-turn p more w (at-line {q = q} h k e j) = rw (skip-line s p e q j) (more (q + 1) (omega arith) (omega arith) (past-line w e j))
+    skip-turn p more w (at-comment {q = q} h k e i j) = rw (skip-comment s p e i q j) (more (q + 2) (omega arith) (omega arith) (past-comment w e i j))
+    skip-turn p more w (in-line e n) = rw (skip-line-opens s p e n) (refuses (three (line w e n)))
+    skip-turn p more w (in-comment e i n) = rw (skip-comment-opens s p e i n) (refuses (three (comment w e i n)))
+
+    skip-in : (n p : ℕ) → length s - p < n → Comes s c (skip-to r) p → Says (skipping s p on)
+    skip-in zero p h w = absurd (omega arith)
+    skip-in (suc n) p h w = skip-turn p (λ q a b v. skip-in n q (omega arith) v) w (turn s p)
+
+    skip-says : (p : ℕ) → Comes s c (skip-to r) p → Says (skipping s p on)
+    skip-says p w = skip-in (length s - p + 1) p (omega arith) w
+
+  module _ (p : ℕ) where
+    node-says : Comes s c node p → Says (node-at c s p)
+    unfolding node-at name-to
+    node-says w =
+        on-cond (eqb p (length s)) (λ _. ended)
+        (λ e. on-cond (ltb p (name-end s p)) (λ _. goes)
+        (λ h. refuses (two (no-name w (eqb-false p (length s) e) (λ n. omega (arith, ltb-false p (name-end s p) h, name-goes s p n))))))
+
+    opening-says : (e : Event) (d : ℕ → Cursor) → Comes s c opening p → Says (expecting opening-brace s p (λ q. Go e (d q)))
+    opening-says e d w =
+        on-cond (eqb (getD s p 0) opening-brace) (λ _. goes) (λ h. refuses (two (no-opening w (eqb-false (getD s p 0) opening-brace h))))
+
+    end-says : Comes s c end p → Says (ending s p)
+    end-says w = on-cond (eqb p (length s)) (λ _. ended) (λ h. refuses (two (bytes-remain w (eqb-false p (length s) h))))
+
+    parent-says : (d : Cursor) → Comes s c parent p → Says (parent-at d s p)
+    unfolding parent-at parent-to
+    parent-says d w = go (first-from (is semicolon) s p) refl
+      where
+        go : (f : Found) → first-from (is semicolon) s p ≡ f → Says (parent-to d p f)
+        go (Here q) e = goes
+        go Nowhere e = refuses (two (no-parent-end w (nowhere-none semicolon s p (omega arith) e)))
+
+  -- tokens
+  data Ended (k : Token) (p : ℕ) : TokenEnd → Type 0 where
+    to : {q : ℕ} → skip s q ≡ At q → Ended k p (To q)
+    not : {n : ℕ} → (Comes s c (token k) p → Refusing s c n p) → Ended k p (no.Refused n)
+
+  -- one that goes to the byte b
+  ended-found : (k : Token) (p b n : ℕ) → ((q : ℕ) → Byte b s q → skip s q ≡ At q) → (Byte b s p → Comes s c (token k) p → Refusing s c unreadable p)
+      → (first-from (is b) s p ≡ Nowhere → Comes s c (token k) p → Refusing s c n p) → (f : Found) → first-from (is b) s p ≡ f → Ended k p (end-at p n f)
+  ended-found k p b n z empty none (Here q) e = go (ltb p q) refl
+    where
+      stands-there : Byte b s q
+      stands-there = eqb-true (getD s q 0) b (first-within (is b) s p q e .holds)
+
+      go : (v : Bool) → ltb p q ≡ v → Ended k p (cond v (To q) (no.Refused unreadable))
+      go true h = to (z q stands-there)
+      go false h =
+          let y : q ≡ p = omega (arith, ltb-false p q h, first-within (is b) s p q e .onward) in
+          not (empty (rw y at stands-there))
+  ended-found k p b n z empty none Nowhere e = not (none e)
+
+  semicolon-ended : (k : Token) (p : ℕ) → to-closing k s p ≡ false → Ended k p (to-semicolon s p)
+  unfolding to-semicolon
+  semicolon-ended k p h =
+      ended-found k p semicolon unreadable (semicolon-stays s) (λ b w. two (empty-to-semicolon w h b))
+      (λ e w. two (no-token-end w h (nowhere-none semicolon s p (omega arith) e)))
+      (first-from (is semicolon) s p)
+      refl
+
+  no-brace : (k : Token) (p : ℕ) → usual k ≡ true → to-closing k s p ≡ true → first-from (is closing-brace) s p ≡ Nowhere → Comes s c (token k) p
+      → Refusing s c unclosed p
+  no-brace plain-token p u h e w = absurd (true≢false (sym h))
+  no-brace extern-token p u h e w = three (no-brace-left w (nowhere-none closing-brace s p (omega arith) e))
+  no-brace bare-token p u h e w = absurd (true≢false (sym u))
+  no-brace bare-extern-token p u h e w = go (first-from closes s p) refl
+    where
+      go : (f : Found) → first-from closes s p ≡ f → Refusing s c unclosed p
+      go (Here q) k =
+          let x = pair-found closing-brace semicolon s p q k in
+          absurd (nowhere-none closing-brace s p (omega arith) e q (x .0) (x .1 .0))
+      go Nowhere k = absurd (true≢false (sym (rw k at h)))
+
+  brace-ended : (k : Token) (p : ℕ) → usual k ≡ true → to-closing k s p ≡ true → Ended k p (to-brace s p)
+  unfolding to-brace
+  brace-ended k p u h =
+      ended-found k p closing-brace unclosed (closing-stays s) (λ b w. two (empty-to-closing w h b))
+      (no-brace k p u h)
+      (first-from (is closing-brace) s p)
+      refl
+
+  token-says : (k : Token) (place p : ℕ) → usual k ≡ true → Comes s c (token k) p → Says (line-to c s place p (token-end k s p))
+  unfolding line-to
+  token-says k place p u w = go (to-closing k s p) refl
+    where
+      line-says : (e : TokenEnd) → Ended k p e → Says (line-to c s place p e)
+      line-says (To q) (to z) = rw z goes
+      line-says (no.Refused n) (not f) = refuses (f w)
+
+      go : (v : Bool) → to-closing k s p ≡ v → Says (line-to c s place p (cond v (to-brace s p) (to-semicolon s p)))
+      go true h = line-says (to-brace s p) (brace-ended k p u h)
+      go false h = line-says (to-semicolon s p) (semicolon-ended k p h)
+
+  bare-says : (place p : ℕ) → p ≡ 0 → Comes s c (token bare-token) p → Says (bare-line c s place (bare-end s))
+  unfolding bare-line bare-end bare-skip
+  bare-says place p y w = go (first-from (is closing-brace) s 0) refl
+    where
+      at-first : Comes s c (token bare-token) 0
+      at-first = rw y at w
+
+      go : (f : Found) → first-from (is closing-brace) s 0 ≡ f → Says (bare-line c s place (bare-end s))
+      go (Here q) e = rw e (here (ltb 0 q) refl)
+        where
+          stands-there : Byte closing-brace s q
+          stands-there = eqb-true (getD s q 0) closing-brace (first-within (is closing-brace) s 0 q e .holds)
+
+          here : (v : Bool) → ltb 0 q ≡ v → Says (bare-line c s place (cond v (To q) (no.Refused unreadable)))
+          here true h = rw (e, closing-stays s q stands-there) goes
+          here false h =
+              let z : q ≡ 0 = omega (arith, ltb-false 0 q h) in
+              refuses (two (empty-to-closing at-first refl (rw z at stands-there)))
+      go Nowhere e =
+          rw (e, bare-line, e) (skip-says (λ q v. goes) 0 (all-text at-first (nowhere-none closing-brace s 0 (omega arith) e)))
+
+  -- matchers
+  matcher-says : (k : Token) (inner p : ℕ) {t : Step} → (Comes s c (token k) p → Says t) → Comes s c (matcher k) p
+      → Says (cond (stands extern-word s p) (extern-at c s inner p) t)
+  unfolding extern-at extern-open
+  matcher-says k inner p f w =
+      on-cond (stands extern-word s p)
+      (λ e. on-cond (stands cxx-word s (p + 7)) (λ a. opens 1 (p + 12) (behind-cxx w e a))
+      (λ a. on-cond (stands c-word s (p + 7)) (λ b. opens 0 (p + 10) (behind-c w e b))
+      (λ b. refuses (four (language w e a b)))))
+      (λ e. f (of-matcher w e))
+    where
+      opens : (l q : ℕ) → Comes s c (skip-to opening) q → Says (extern-open c s inner l q)
+      opens l q v = skip-says (λ x y. opening-says x (Extern (c .section) l) (λ z. moved (in-language c l) inner z) y) q v
+
+  plain-says : (inner place p : ℕ) → Comes s c (matcher plain-token) p → Says (matcher-at c s inner place p)
+  unfolding matcher-at
+  plain-says inner place p w = matcher-says plain-token inner p (token-says plain-token place p refl) w
+
+  rest-says : {r : Rule} {p : ℕ} {t : Step} → Rest s c r p t → Comes s c r p → Says t
+  unfolding script-at inside-body list-at extern-inside
+  rest-says (skip-rest {p = p} on f) w = skip-says (λ q v. rest-says (f q) v) p w
+  rest-says (script-rest {p = p}) w =
+      on-cond (eqb (getD s p 0) opening-brace) (λ _. goes) (λ e. node-says p (to-nodes w (eqb-false (getD s p 0) opening-brace e)))
+  rest-says (node-rest {p = p}) w = node-says p w
+  rest-says (opening-rest {p = p} e d) w = opening-says p e d w
+  rest-says (body-rest {p = p} inner x) w =
+      on-cond (eqb (getD s p 0) closing-brace) (λ e. rest-says x (behind-body w (eqb-true (getD s p 0) closing-brace e)))
+      (λ e. on-cond (stands global-word s p) (λ _. goes)
+      (λ a. on-cond (stands local-word s p) (λ _. goes)
+      (λ b. plain-says inner (c .place) p (of-body w (eqb-false (getD s p 0) closing-brace e) a b))))
+  rest-says (parent-rest {p = p} d) w = parent-says p d w
+  rest-says (semicolon-rest {p = p}) w =
+      on-cond (eqb (getD s p 0) semicolon)
+      (λ e. skip-says (λ q v. end-says q v) (p + 1) (behind-semicolon w (eqb-true (getD s p 0) semicolon e)))
+      (λ e. refuses (two (no-semicolon w (eqb-false (getD s p 0) semicolon e))))
+  rest-says (end-rest {p = p}) w = end-says p w
+  rest-says (list-rest {p = p}) w =
+      on-cond (stands close-word s p)
+      (λ e. skip-says (λ q v. end-says q v) (p + 2) (behind-list w e))
+      (λ e. plain-says in-list-extern in-list p (of-list w e))
+  rest-says (matcher-rest {k = k} {p = p} inner x) w = matcher-says k inner p (λ v. rest-says x v) w
+  rest-says (block-rest {k = k} {p = p} place u) w =
+      on-cond (stands close-word s p) (λ e. skip-says (λ q v. goes) (p + 2) (behind-block w e))
+      (λ e. on-cond (stands extern-word s p) (λ f. refuses (four (within-extern w f)))
+      (λ f. token-says k (c .place) p u (of-block w e f)))
+  rest-says (token-rest {k = k} {p = p} place u) w = token-says k place p u w
+  rest-says (bare-rest {p = p} place y) w = bare-says place p y w
+  rest-says (no-more-rest e d) w = goes
+
+-- ---- the rule at each place of the grammar; none behind the matcher of `add_symbol`
+data Placed (n : ℕ) : Type 0 where
+  due : {r : Rule} → Due n r → Placed n
+  past : 13 < n → Placed n
+
+placed : (n : ℕ) → Placed n
+placed n =
+    at 0 (omega arith) due-script
+    (λ h. at 1 h due-node
+    (λ h. at 2 h due-opening
+    (λ h. at 3 h due-body
+    (λ h. at 4 h due-body-block
+    (λ h. at 5 h due-sole
+    (λ h. at 6 h due-sole-block
+    (λ h. at 7 h due-list
+    (λ h. at 8 h due-matchers
+    (λ h. at 9 h due-list-block
+    (λ h. at 10 h due-symbol
+    (λ h. at 11 h due-symbol-block
+    (λ h. at 12 h due-bare
+    (λ h. at 13 h due-bare-block
+    (λ h. past h))))))))))))))
+  where
+    at : {r : Rule} (m : ℕ) → m ≤ n → Due m r → (m < n → Placed n) → Placed n
+    at m h d more = go (decLt m n)
+      where
+        go : Dec (m < n) → Placed n
+        go (yes k) = more k
+        go (no k) =
+            let z : m ≡ n = omega arith in
+            due (rw z at d)
+
+module _ (s : List ℕ) (c : Cursor) (g : Standing s c) where
+  nothing-read : 13 < c .place → next s c ≡ End
+  unfolding next next-symbol
+  nothing-read h =
+      rw (
+        le-ltb (c .place) at-list (omega arith),
+        le-ltb (c .place) at-symbol (omega arith),
+        ne-eqb (c .place) at-symbol (λ z. omega arith),
+        ne-eqb (c .place) in-symbol-extern (λ z. omega arith),
+        ne-eqb (c .place) at-bare (λ z. omega arith),
+        ne-eqb (c .place) in-bare-extern (λ z. omega arith),
+      )
+
+  module _ (n p : ℕ) where
+    said : Says s c (Refused n p) → Refusing s c n p
+    said (refuses r) = r
+
+    other : (n ≡ too-long → ⊥) → next s c ≡ Refused n p → Placed (c .place) → Refusing s c n p
+    other h e (due d) =
+        let o : Over s (c .place) → ⊥ = λ o. (let z : n ≡ too-long = cc (too-long-exactly s c .1 o) in h z) in
+        let l = due-left s c g (c .place) refl o d in
+        let x : Says s c (next s c) = rw (l .same) (rest-says s c (l .rest) (starts o d)) in
+        said (rw e at x)
+    other h e (past k) =
+        let z : _≡_ {A = ℕ} 0 1 = cc (nothing-read k) in
+        absurd (omega arith)
+
+    refuses-only : next s c ≡ Refused n p → Refusing s c n p
+    refuses-only e = go (eqb n too-long) refl
+      where
+        go : (t : Bool) → eqb n too-long ≡ t → Refusing s c n p
+        go true h =
+            let z = eqb-true n too-long h in
+            let o = too-long-exactly s c .0 p (rw z at e) in
+            let y : p ≡ 0 = cc (too-long-exactly s c .1 o) in
+            rw (z, y) (one o)
+        go false h = other (eqb-false n too-long h) e (placed (c .place))
+
+  refuses-so : {n p : ℕ} → Refusing s c n p → next s c ≡ Refused n p
+  refuses-so (one o) = too-long-exactly s c .1 o
+  refuses-so (two {p = p} u) = unreadable-refuses s c g p u
+  refuses-so (three {p = p} u) = unclosed-refuses s c g p u
+  refuses-so (four {p = p} u) = bad-extern-refuses s c g p u
+
+  pub refuses-exactly : (n p : ℕ) → (next s c ≡ Refused n p → Refusing s c n p) × (Refusing s c n p → next s c ≡ Refused n p)
+  refuses-exactly n p = (refuses-only n p, refuses-so)
+
+  -- so only one number and place fit
+  pub refuses-once : (n m p q : ℕ) → Refusing s c n p → Refusing s c m q → (n ≡ m) × (p ≡ q)
+  refuses-once n m p q x y = (cc (refuses-so x, refuses-so y), cc (refuses-so x, refuses-so y))
+
+  module _ (p : ℕ) where
+    pub unreadable-exactly : (next s c ≡ Refused unreadable p → Unreadable s c p) × (Unreadable s c p → next s c ≡ Refused unreadable p)
+    unreadable-exactly = (λ e. go (refuses-only unreadable p e), unreadable-refuses s c g p)
+      where
+        go : Refusing s c unreadable p → Unreadable s c p
+        go (two u) = u
+
+    pub unclosed-exactly : (next s c ≡ Refused unclosed p → Unclosed s c p) × (Unclosed s c p → next s c ≡ Refused unclosed p)
+    unclosed-exactly = (λ e. go (refuses-only unclosed p e), unclosed-refuses s c g p)
+      where
+        go : Refusing s c unclosed p → Unclosed s c p
+        go (three u) = u
+
+    pub bad-extern-exactly : (next s c ≡ Refused bad-extern p → Bad-extern s c p) × (Bad-extern s c p → next s c ≡ Refused bad-extern p)
+    bad-extern-exactly = (λ e. go (refuses-only bad-extern p e), bad-extern-refuses s c g p)
+      where
+        go : Refusing s c bad-extern p → Bad-extern s c p
+        go (four u) = u
+
+-- ---- so of a whole reading
+module _ (place : ℕ) (s : List ℕ) (n p : ℕ) where
+  reached-stands : {c : Cursor} → Reaches place s c → Standing s c
+  reached-stands first = start-stands place s
+  reached-stands (after {c = c} {d = d} {e = e} r h) = next-stands s c d e (reached-stands r) h
+
+  -- what is left of it decides
+  reached-same : {c : Cursor} → Reaches place s c → reading place s .outcome ≡ reading-from s c .outcome
+  unfolding reading
+  reached-same first = refl
+  reached-same (after {c = c} {d = d} {e = e} r h) =
+      let z : reading-from s c .outcome ≡ reading-from s d .outcome = rw (reading-step s c (reached-stands r), h) in
+      reached-same r ∙ z
+
+  refused-so : Refused-reading place s n p → reading place s .outcome ≡ refused n p
+  refused-so x =
+      let g = reached-stands (x .reached) in
+      let h = refuses-so s (x .cursor) g (x .refusing) in
+      reached-same (x .reached) ∙ rw (reading-step s (x .cursor) g, h)
+
+  -- with at most m events to come
+  refused-in : (m : ℕ) (c : Cursor) → length s + 1 - c .at < m → Reaches place s c → reading-from s c .outcome ≡ refused n p → Refused-reading place s n p
+  refused-in zero c l r h = absurd (omega arith)
+  refused-in (suc m) c l r h =
+      go (next s c) refl (rw (reading-step s c (reached-stands r)) at h) (λ d e k. refused-in m d (near d e k) (after r k))
+    where
+      near : (d : Cursor) (e : Event) → next s c ≡ Go e d → length s + 1 - d .at < m
+      near d e k =
+          let o = next-onward s c d e (reached-stands r .fresh) k in
+          omega (arith, o .onward, o .within)
+
+      go : (t : Step) → next s c ≡ t → on-step t (λ d. reading-from s d) .outcome ≡ refused n p
+          → ((d : Cursor) (e : Event) → next s c ≡ Go e d → reading-from s d .outcome ≡ refused n p → Refused-reading place s n p) → Refused-reading place s n p
+      go (Go e d) z k more = more d e z k
+      go End z k more = absurd (true≢false (cc))
+      go (Refused a b) z k more =
+          let x : a ≡ n = cc in
+          let y : b ≡ p = cc in
+          record { cursor = c; reached = r; refusing = refuses-only s c (reached-stands r) n p (rw (x, y) at z) }
+
+  refused-only : reading place s .outcome ≡ refused n p → Refused-reading place s n p
+  unfolding reading
+  refused-only h = refused-in (length s + 2) (start place s) (omega arith) first h
+
+  pub reading-exactly : (reading place s .outcome ≡ refused n p → Refused-reading place s n p)
+      × (Refused-reading place s n p → reading place s .outcome ≡ refused n p)
+  reading-exactly = (refused-only, refused-so)
