@@ -86,7 +86,7 @@ pub record Nodes : Type 0 where
   pub semicolon : as-script "A;b {};" ≡ record { events = Node 0 3 ∷ Body ∷ Parent 6 0 ∷ []; outcome = accepted }
   pub return : as-script "A\r\n{};" ≡ record { events = Node 0 2 ∷ Body ∷ Parent 5 0 ∷ []; outcome = accepted }
   pub raw : as-script "B {} A/*c*/;" ≡ record { events = Node 0 1 ∷ Body ∷ Parent 5 6 ∷ []; outcome = accepted }
-  pub behind : 
+  pub behind :
       as-script "A {}; B {} /*c*/A;"
       ≡ record { events = Node 0 1 ∷ Body ∷ Parent 4 0 ∷ Node 6 1 ∷ Body ∷ Parent 16 1 ∷ []; outcome = accepted }
 

@@ -3,7 +3,7 @@
 // from document 01, 'Reading'.
 mod matchers;
 pub mod moves;
-pub mod reader;
+pub mod names;
 pub mod rows;
 pub mod scripts;
 mod tokens;

@@ -2,8 +2,9 @@
 ghost use mathlib.Core.Path.{_≡_};
 ghost use Prim.Native.Nat.{_+_, _<_, _≤_};
 ghost use lib.ListN.{length};
-ghost use Rattle.reading.specs.Tokens.{stands, named, name-end, to-semicolon, to-brace, extern-end, bare-extern-end, bare-end, bare-skip};
+ghost use Rattle.reading.specs.Tokens.{stands, name-end, to-semicolon, to-brace, extern-end, bare-extern-end, bare-end, bare-skip};
 use crate::TokenEnd;
+use crate::names::is_named;
 use linker_script::Found;
 use linker_script::byte_at;
 use linker_script::find;
@@ -27,14 +28,6 @@ pub fn try_take(s: &[u8], w: &[u8], at: usize) -> bool
         j += 1;
     }
     true
-}
-
-// Outside space ( ) { } LF tab.
-fn is_named(b: u8) -> bool
-    ensures { λ r. ⌜ r ≡ named b ⌝ }
-{
-    b != b' '
-        && (b != b'(' && (b != b')' && (b != b'{' && (b != b'}' && (b != b'\n' && b != b'\t')))))
 }
 
 // Where the name at a place ends: `parse_token`.

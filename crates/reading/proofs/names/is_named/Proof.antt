@@ -1,8 +1,8 @@
 -- `is_named` meets its contract. Assumes nothing.
 use borrow.Author.Tests.{eq-eqb, ne-eqb}
 use Rattle.reading.specs.Tokens.{named}
-use Rattle.reading.proofs.tokens.is_named.Statement.{statement}
-use Rattle.reading.proofs.tokens.is_named.Tie as tie
+use Rattle.reading.proofs.names.is_named.Statement.{statement}
+use Rattle.reading.proofs.names.is_named.Tie as tie
 
 returns : tie.Need-returns
 unfolding named

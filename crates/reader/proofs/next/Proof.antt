@@ -41,23 +41,23 @@ use denote.Triple.Table.{entered, cited}
 use denote.Triple.Walked.{says, Stays, stay-none, walkOf, goes-none, Walks, ends-at, walked, walk-meets}
 use denote.Exit.{yes}
 use denote.Triple.Clauses.{ensured, lasts}
 use Rattle.reading.specs.Scripts.{next as next-of}
-use Rattle.reading.specs.declared.reader.Reader.{Reader}
+use Rattle.reader.specs.declared.Reader.{Reader}
 use Rattle.reading.specs.declared.Step.{Step}
 use Rattle.reading.proofs.Cursor as Cu
 use Rattle.reading.proofs.Cursor.Laws as Cu′
-use Rattle.reading.proofs.reader.Reader as T
-use Rattle.reading.proofs.reader.Reader.Laws as T′
+use Rattle.reader.proofs.Reader as T
+use Rattle.reader.proofs.Reader.Laws as T′
 use Rattle.reading.proofs.Step as S
 use Rattle.reading.proofs.Step.Laws as S′
 use Rattle.reading.proofs.scripts.next_event as event
 use Rattle.reading.proofs.scripts.next_event.Symbol as event-def
 use Rattle.reading.proofs.scripts.next_event.Symbol.{name as #reading·scripts·next-event}
 use Rattle.reading.proofs.scripts.next_event.Met as event-thm
-use Rattle.reading.proofs.reader.next.Key.{name as #reading·reader·next}
-use Rattle.reading.proofs.reader.next as next
-use Rattle.reading.proofs.reader.next.Statement as stated
-use Rattle.reading.proofs.reader.next.Code as code
+use Rattle.reader.proofs.next.Key.{name as #reader·next}
+use Rattle.reader.proofs.next as next
+use Rattle.reader.proofs.next.Statement as stated
+use Rattle.reader.proofs.next.Code as code
 
 -- the struct's type, over the signature's lifetimes
 abbrev B : Lfts 1 → RattleType
@@ -160,6 +160,6 @@ pub next-spec : {M : Type 1} → stated.statement M
 unfolding code.routine tablesOf
 next-spec 𝓤 H 𝓜 𝓖 𝓡 =
     entered 𝓤 H (tripleOf 𝓤 H (𝓖 .A) next.signature (next.spec 𝓤 H (𝓖 .A) (𝓜 .mem) (𝓡 .run)))
-    (tables 𝓤 H 𝓜 𝓡 code.env .C) (tables 𝓤 H 𝓜 𝓡 code.env .Λ) #reading·reader·next code.function (code.unfolded 𝓤 H 𝓜 𝓡)
+    (tables 𝓤 H 𝓜 𝓡 code.env .C) (tables 𝓤 H 𝓜 𝓡 code.env .Λ) #reader·next code.function (code.unfolded 𝓤 H 𝓜 𝓡)
     (next-meets 𝓤 H (𝓖 .A) (givenOf 𝓤 H 𝓜 𝓖) (𝓜 .mem) (𝓡 .run) (tablesOf 𝓤 H 𝓜 (tables 𝓤 H 𝓜 𝓡 code.env))
     (cited 𝓤 H (NextEvent 𝓤 H (𝓖 .A) (𝓜 .mem) (𝓡 .run)) 𝓜 𝓡 code.env #reading·scripts·next-event event-def.routine code.calls-reading·scripts·next-event (event-thm.met 𝓤 H 𝓜 𝓖 𝓡)))

@@ -28,16 +28,16 @@ use denote.Triple.Spec.{Meets, tripleOf}
 use denote.Triple.Table.{entered}
 use denote.Triple.Walked.{says, Stays, stay-none, walkOf, goes-none, Walks, ends-at, walked, walk-meets}
 use denote.Exit.{yes}
 use Rattle.reading.specs.declared.Cursor.{Cursor}
-use Rattle.reading.specs.declared.reader.Reader.{Reader}
+use Rattle.reader.specs.declared.Reader.{Reader}
 use Rattle.reading.proofs.Cursor as Cu
 use Rattle.reading.proofs.Cursor.Laws as Cu′
-use Rattle.reading.proofs.reader.Reader as T
-use Rattle.reading.proofs.reader.Reader.Laws as T′
-use Rattle.reading.proofs.reader.moved.Key.{name as #reading·reader·moved}
-use Rattle.reading.proofs.reader.moved as moved
-use Rattle.reading.proofs.reader.moved.Statement as stated
-use Rattle.reading.proofs.reader.moved.Code as code
+use Rattle.reader.proofs.Reader as T
+use Rattle.reader.proofs.Reader.Laws as T′
+use Rattle.reader.proofs.moved.Key.{name as #reader·moved}
+use Rattle.reader.proofs.moved as moved
+use Rattle.reader.proofs.moved.Statement as stated
+use Rattle.reader.proofs.moved.Code as code
 
 -- the struct's type, over the signature's lifetimes
 abbrev B : Lfts 1 → RattleType
@@ -103,5 +103,5 @@ pub moved-spec : {M : Type 1} → stated.statement M
 unfolding code.routine tablesOf
 moved-spec 𝓤 H 𝓜 𝓖 𝓡 =
     entered 𝓤 H (tripleOf 𝓤 H (𝓖 .A) moved.signature (moved.spec 𝓤 H (𝓖 .A) (𝓜 .mem) (𝓡 .run)))
-    (tables 𝓤 H 𝓜 𝓡 code.env .C) (tables 𝓤 H 𝓜 𝓡 code.env .Λ) #reading·reader·moved code.function (code.unfolded 𝓤 H 𝓜 𝓡)
+    (tables 𝓤 H 𝓜 𝓡 code.env .C) (tables 𝓤 H 𝓜 𝓡 code.env .Λ) #reader·moved code.function (code.unfolded 𝓤 H 𝓜 𝓡)
     (moved-meets 𝓤 H (𝓖 .A) (givenOf 𝓤 H 𝓜 𝓖) (𝓜 .mem) (𝓡 .run) (tablesOf 𝓤 H 𝓜 (tables 𝓤 H 𝓜 𝓡 code.env)))

@@ -1,12 +1,14 @@
-// The reader that holds the script and its place.
+// The reader that holds the script and its place: thin functions over `start_at` and `next_event`. The borrow checker covers no function over a struct that
+// holds a reference, so each is proved by a walk of its code by hand.
 ghost use mathlib.Core.Path.{_≡_};
 ghost use Rattle.reading.specs.Places.{start};
 ghost use Rattle.reading.specs.Scripts.{next};
-use crate::Cursor;
-use crate::Step;
-use crate::moves::start_at;
-use crate::scripts::next_event;
+use reading::Cursor;
+use reading::Step;
+use reading::moves::start_at;
+use reading::scripts::next_event;
 
+// A text, and where its reading stands.
 pub struct Reader<'a> {
     pub text: &'a [u8],
     pub cursor: Cursor,
@@ -25,6 +27,7 @@ pub fn next<'a>(r: Reader<'a>) -> Step
     next_event(r.text, r.cursor)
 }
 
+// The reader of the same text, at another cursor.
 pub fn moved<'a>(r: Reader<'a>, cursor: Cursor) -> Reader<'a>
     ensures { λ q. ⌜ (q .text ≡ r .entry .text) × (q .cursor ≡ cursor) ⌝ }
 {
