@@ -1,2 +1,4 @@
 pub mod PiecesLaws
 pub mod FrontLaws
+pub mod Tests
+pub mod SameLaws

@@ -1,3 +1,4 @@
 pub mod Pieces
 pub mod Front
 pub mod Texts
+pub mod Same

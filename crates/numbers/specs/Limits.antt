@@ -12,3 +12,19 @@ token-limit = 65536
 -- "raw name … 4,096, demangled 65,536": a match takes either, so the larger; who looks a raw name up asks the smaller before
 abbrev pub name-limit : ℕ
 name-limit = 65536
+
+-- "nodes 1,024 with node 0"
+abbrev pub node-limit : ℕ
+node-limit = 1024
+
+-- "lines 16,384"
+abbrev pub line-limit : ℕ
+line-limit = 16384
+
+-- "pool 2,097,152"
+abbrev pub pool-limit : ℕ
+pool-limit = 2097152
+
+-- "edits 4,096"
+abbrev pub edit-limit : ℕ
+edit-limit = 4096

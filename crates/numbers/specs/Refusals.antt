@@ -25,6 +25,10 @@ glob-not-utf8 = 5
 abbrev pub bad-pattern : ℕ
 bad-pattern = 6
 
+-- "unknown parent"
+abbrev pub unknown-parent : ℕ
+unknown-parent = 7
+
 -- "a row, byte or journal limit or room would be passed"
 abbrev pub no-room : ℕ
 no-room = 8
@@ -32,3 +36,15 @@ no-room = 8
 -- "raw or demangled name not UTF-8"
 abbrev pub name-not-utf8 : ℕ
 name-not-utf8 = 9
+
+-- "no such node, section, language or standing line; local or node not 0 in an export list"
+abbrev pub no-such : ℕ
+no-such = 11
+
+-- "version, locality or count query on an export list", and the other questions that a kind of book does not answer
+abbrev pub wrong-kind : ℕ
+wrong-kind = 13
+
+-- "a book not laid out as above"
+abbrev pub no-book : ℕ
+no-book = 14

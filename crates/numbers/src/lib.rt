@@ -8,6 +8,14 @@ pub const TOKEN_LIMIT: usize = 65536;
 
 pub const NAME_LIMIT: usize = 65536;
 
+pub const NODE_LIMIT: usize = 1024;
+
+pub const LINE_LIMIT: usize = 16384;
+
+pub const POOL_LIMIT: usize = 2097152;
+
+pub const EDIT_LIMIT: usize = 4096;
+
 // "Numbers that say no".
 pub const TOO_LONG: u32 = 1;
 
@@ -21,6 +29,14 @@ pub const GLOB_NOT_UTF8: u32 = 5;
 
 pub const BAD_PATTERN: u32 = 6;
 
+pub const UNKNOWN_PARENT: u32 = 7;
+
 pub const NO_ROOM: u32 = 8;
 
 pub const NAME_NOT_UTF8: u32 = 9;
+
+pub const NO_SUCH: u32 = 11;
+
+pub const WRONG_KIND: u32 = 13;
+
+pub const NO_BOOK: u32 = 14;

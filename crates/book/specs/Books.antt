@@ -1,0 +1,94 @@
+-- The book, apart from any buffer: its kind, its nodes, its lines, and the edits that its journal holds. Assumes nothing.
+use Prim.Native.Nat.{ℕ, _+_}
+use mathlib.Core.List.{List, [], _∷_}
+use mathlib.Core.Bool.{Bool, cond}
+use lib.Dec.{eqb}
+use lib.ListN.{length, getD}
+use Rattle.lists.specs.Same.{same}
+use Rattle.pattern.specs.declared.Edition.{Edition}
+use Rattle.pattern.specs.declared.Edition.the-variants.{Reld}
+
+-- the kinds of a book, by number: a Regular version script, one of the Rust kind, an export list
+abbrev pub regular : ℕ
+regular = 0
+
+abbrev pub rust : ℕ
+rust = 1
+
+abbrev pub export : ℕ
+export = 2
+
+-- "Classes: 0 Exact, 1 Escaped, 2 NonStar, 3 Star, 4 All (length 0). Section 1 is local, language 1 C++."
+abbrev pub exact-class : ℕ
+exact-class = 0
+
+abbrev pub escaped-class : ℕ
+escaped-class = 1
+
+abbrev pub nonstar-class : ℕ
+nonstar-class = 2
+
+abbrev pub star-class : ℕ
+star-class = 3
+
+abbrev pub all-class : ℕ
+all-class = 4
+
+abbrev pub global : ℕ
+global = 0
+
+abbrev pub local : ℕ
+local = 1
+
+abbrev pub general : ℕ
+general = 0
+
+abbrev pub cxx : ℕ
+cxx = 1
+
+-- a node: its name, and its parent's number or 0
+pub record Node : Type 0 where
+  pub name : List ℕ
+  pub parent : ℕ
+
+-- a line: its node, class, section and language, 1 where it is struck, and its bytes as they are stored
+pub record Line : Type 0 where
+  pub node : ℕ
+  pub class : ℕ
+  pub section : ℕ
+  pub language : ℕ
+  pub struck : ℕ
+  pub bytes : List ℕ
+
+-- an edit: "1 add or 2 strike; line"
+pub record Edit : Type 0 where
+  pub what : ℕ
+  pub line : ℕ
+
+abbrev pub add : ℕ
+add = 1
+
+abbrev pub strike : ℕ
+strike = 2
+
+pub record Book : Type 0 where
+  pub kind : ℕ
+  pub nodes : List Node
+  pub lines : List Line
+  pub edits : List Edit
+
+-- how a book's patterns are read. There is one way today
+abbrev pub edition-of : ℕ → Edition
+edition-of kind = Reld
+
+-- what stands for a node or a line past the last
+abbrev pub no-node : Node
+no-node = record { name = []; parent = 0 }
+
+abbrev pub no-line : Line
+no-line = record { node = 0; class = 0; section = 0; language = 0; struck = 0; bytes = [] }
+
+-- the number of the first node with that name, or how many nodes there are
+unfoldable pub first-named : List Node → List ℕ → ℕ
+first-named [] t = 0
+first-named (x ∷ xs) t = cond (same (x .name) t) 0 (1 + first-named xs t)

@@ -1,0 +1,99 @@
+-- How a book stands in lent buffers, as 01 has it under 'The book'. Assumes nothing.
+use Prim.Native.Nat.{ℕ, _+_, _*_, _/_, _%_}
+use mathlib.Core.List.{List, [], _∷_}
+use mathlib.Core.Bool.{Bool, true}
+use lib.Dec.{eqb}
+use lib.ListN.{length, getD}
+use Rattle.packing.specs.Padding.{pad}
+use Rattle.packing.specs.Tables.{Form, rows, packed}
+use Rattle.book.specs.declared.Counts.{Counts}
+use Rattle.book.specs.Books.{Node, Line, Edit, Book}
+
+-- "nodes (u32, three per node: name start, length, parent number or 0), names (bytes)"
+abbrev pub node-width : ℕ
+node-width = 3
+
+unfoldable pub node-form : Form Node
+node-form = record {
+  width = node-width;
+  row = λ (o : ℕ) (x : Node). o ∷ length (x .name) ∷ x .parent ∷ [];
+  bytes = λ (x : Node). x .name;
+  starts = λ (o : ℕ) (l : List ℕ). eqb (getD l 0 0) o;
+  size = λ (l : List ℕ). getD l 1 0;
+  back = λ (l bs : List ℕ). record { name = bs; parent = getD l 2 0 };
+}
+
+-- "lines (u32, four per line: node; class x 4 + section x 2 + language; start; length), pool (bytes)"; "32 is added to a struck line's code"
+abbrev pub line-width : ℕ
+line-width = 4
+
+abbrev pub code-of : Line → ℕ
+code-of x = x .class * 4 + x .section * 2 + x .language + x .struck * 32
+
+-- the line with that code
+abbrev pub line-of : ℕ → ℕ → List ℕ → Line
+line-of node code bs = record {
+  node = node;
+  class = code % 32 / 4;
+  section = code % 4 / 2;
+  language = code % 2;
+  struck = code / 32;
+  bytes = bs;
+}
+
+unfoldable pub line-form : Form Line
+line-form = record {
+  width = line-width;
+  row = λ (o : ℕ) (x : Line). x .node ∷ code-of x ∷ o ∷ length (x .bytes) ∷ [];
+  bytes = λ (x : Line). x .bytes;
+  starts = λ (o : ℕ) (l : List ℕ). eqb (getD l 2 0) o;
+  size = λ (l : List ℕ). getD l 3 0;
+  back = λ (l bs : List ℕ). line-of (getD l 0 0) (getD l 1 0) bs;
+}
+
+-- "journal (u32, two per edit: 1 add or 2 strike; line)": an edit has no bytes
+abbrev pub edit-width : ℕ
+edit-width = 2
+
+unfoldable pub edit-form : Form Edit
+edit-form = record {
+  width = edit-width;
+  row = λ (o : ℕ) (x : Edit). x .what ∷ x .line ∷ [];
+  bytes = λ (x : Edit). [];
+  starts = λ (o : ℕ) (l : List ℕ). true;
+  size = λ (l : List ℕ). 0;
+  back = λ (l bs : List ℕ). record { what = getD l 0 0; line = getD l 1 0 };
+}
+
+-- the lent buffers, as one thing
+pub record Buffers : Type 0 where
+  pub nodes : List ℕ
+  pub names : List ℕ
+  pub lines : List ℕ
+  pub pool : List ℕ
+  pub journal : List ℕ
+
+abbrev pub five : List ℕ → List ℕ → List ℕ → List ℕ → List ℕ → Buffers
+five n m l p j = record { nodes = n; names = m; lines = l; pool = p; journal = j }
+
+-- "Names and line bytes are packed in reading order, so each start is the sum of the lengths before it; the rest is zero": the book in buffers with the
+-- rooms of b
+unfoldable pub laid-out : Buffers → Book → Buffers
+laid-out b w = record {
+  nodes = pad (length (b .nodes)) (rows node-form 0 (w .nodes));
+  names = pad (length (b .names)) (packed node-form (w .nodes));
+  lines = pad (length (b .lines)) (rows line-form 0 (w .lines));
+  pool = pad (length (b .pool)) (packed line-form (w .lines));
+  journal = pad (length (b .journal)) (rows edit-form 0 (w .edits));
+}
+
+-- "The book's counts …: kind, nodes, name bytes, lines, pool bytes, edits."
+unfoldable pub counts-of : Book → Counts
+counts-of w = record {
+  kind = w .kind;
+  nodes = length (w .nodes);
+  names = length (packed node-form (w .nodes));
+  lines = length (w .lines);
+  pool = length (packed line-form (w .lines));
+  edits = length (w .edits);
+}

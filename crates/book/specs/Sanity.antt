@@ -1,0 +1,99 @@
+-- What a book must be besides its packing: 01's row 14. Assumes nothing.
+use Prim.Native.Nat.{ℕ, _+_}
+use mathlib.Core.List.{List, [], _∷_}
+use mathlib.Core.Bool.{Bool, true, false, cond, _&&_, _||_, not}
+use lib.Dec.{eqb, leb, ltb}
+use lib.ListN.{length, getD}
+use Rattle.numbers.specs.Limits.{token-limit}
+use Rattle.numbers.specs.Signs.{asterisk, carriage-return, hash, semicolon, slash}
+use Rattle.lists.specs.Same.{same}
+use Rattle.packing.specs.Tables.{every}
+use Rattle.pattern.specs.declared.Edition.{Edition}
+use Rattle.pattern.specs.Patterns.{refusal}
+use Rattle.pattern.specs.Storing.{stored}
+use Rattle.reading.specs.Tokens.{named}
+use Rattle.book.specs.Books.{Node, Line, Edit, Book, regular, rust, export, exact-class, nonstar-class, star-class, all-class, global, local, general, add, strike, edition-of, no-node, first-named}
+use Rattle.book.specs.Edits.{journal-fits}
+
+-- ---- a line, of a book of that kind with that many nodes
+-- "a field out of range": its node, its class, section and language, its mark; "All (length 0)"; "token … 65,536"
+unfoldable pub in-range : ℕ → Line → Bool
+in-range nodes x =
+    ltb (x .node) nodes
+    && (leb (x .class) all-class
+    && (leb (x .section) local
+    && (leb (x .language) 1
+    && (leb (x .struck) 1
+    && (leb (length (x .bytes)) token-limit
+    && (not (eqb (x .class) all-class) || eqb (length (x .bytes)) 0))))))
+
+-- "a stored glob that 5 or 6 refuses or that storing would change"
+unfoldable pub glob-stands : Edition → List ℕ → Bool
+glob-stands e b = eqb (refusal e b) 0 && same (stored e b) b
+
+unfoldable pub content-good : Edition → Line → Bool
+content-good e x = not (eqb (x .class) nonstar-class || eqb (x .class) star-class) || glob-stands e (x .bytes)
+
+-- "a Rust kind … whose lines break its rule": "only Exact lines, outside extern, as globals"; the lines of an export list are global
+unfoldable pub kind-allows : ℕ → Line → Bool
+kind-allows kind x =
+    cond (eqb kind rust) (not (eqb (x .section) global) || (eqb (x .class) exact-class && eqb (x .language) general))
+    (cond (eqb kind export) (eqb (x .section) global)
+    true)
+
+unfoldable pub line-ok : ℕ → ℕ → Line → Bool
+line-ok kind nodes x = in-range nodes x && (kind-allows kind x && content-good (edition-of kind) x)
+
+unfoldable pub edit-ok : Edit → Bool
+edit-ok e = eqb (e .what) add || eqb (e .what) strike
+
+-- ---- nodes
+-- "a node name … that no reading gives": one or more bytes that a name has, and none that the skip before it takes
+unfoldable pub skipped-first : List ℕ → Bool
+skipped-first t = eqb (getD t 0 0) carriage-return || (eqb (getD t 0 0) hash || (eqb (getD t 0 0) slash && eqb (getD t 1 0) asterisk))
+
+unfoldable pub name-good : List ℕ → Bool
+name-good t = ltb 0 (length t) && (every named t && not (skipped-first t))
+
+-- "or parent that no reading gives": none, or an earlier node, the first of its name, whose name can stand before a `;`
+abbrev pub no-semicolon : ℕ → Bool
+no-semicolon b = not (eqb b semicolon)
+
+unfoldable pub parent-good : List Node → ℕ → ℕ → Bool
+parent-good all i p =
+    eqb p 0
+    || (ltb p i
+    && (eqb (first-named all (getD all p no-node .name)) p
+    && every no-semicolon (getD all p no-node .name)))
+
+-- the nodes from number i on, among all
+unfoldable pub named-good : List Node → ℕ → List Node → Bool
+named-good all i [] = true
+named-good all i (x ∷ xs) = name-good (x .name) && (parent-good all i (x .parent) && named-good all (i + 1) xs)
+
+-- "Node 0's name, like an export list's, has length 0", and it has no parent
+unfoldable pub nodes-good : List Node → Bool
+nodes-good [] = false
+nodes-good (x ∷ xs) = eqb (length (x .name)) 0 && (eqb (x .parent) 0 && named-good (x ∷ xs) 1 xs)
+
+-- ---- the whole
+-- "a bare `*;` among its locals"
+unfoldable pub bare-star : Line → Bool
+bare-star x = eqb (x .class) all-class && (eqb (x .section) local && eqb (x .language) general)
+
+unfoldable pub some-star : List Line → Bool
+some-star [] = false
+some-star (x ∷ xs) = bare-star x || some-star xs
+
+abbrev pub no-edits : List Edit → Bool
+no-edits es = eqb (length es) 0
+
+-- a Regular book has any nodes; the other kinds have node 0 alone, and "a Rust kind with an edit or whose lines break its rule" is none
+unfoldable pub kind-good : Book → Bool
+kind-good w =
+    cond (eqb (w .kind) regular) true
+    (eqb (length (w .nodes)) 1
+    && cond (eqb (w .kind) rust) (no-edits (w .edits) && some-star (w .lines)) (eqb (w .kind) export))
+
+unfoldable pub sane : Book → Bool
+sane w = nodes-good (w .nodes) && (kind-good w && journal-fits (w .edits) (w .lines))

@@ -1,0 +1,21 @@
+-- Tests that are joined by `&&`: what a test that holds gives, and what one that fails leaves. Assumes nothing.
+use mathlib.Core.Path.{_≡_, refl, _∙_}
+use mathlib.Core.Bool.{Bool, true, false, _&&_, false≢true}
+
+-- where both hold, each does
+pub both : (a b : Bool) → (a && b) ≡ true → (a ≡ true) × (b ≡ true)
+both true b e = (refl, e)
+both false b e = absurd (false≢true e)
+
+-- a test that cannot hold fails
+pub fails : (t : Bool) → (t ≡ true → ⊥) → t ≡ false
+fails true h = absurd (h refl)
+fails false h = refl
+
+-- where the first fails, all fails
+pub first-fails : (x a b : Bool) → x ≡ (a && b) → a ≡ false → x ≡ false
+first-fails x a b e f = e ∙ rw f
+
+-- where the first holds, the rest decides
+pub passes-on : (x a b : Bool) → x ≡ (a && b) → a ≡ true → x ≡ b
+passes-on x a b e t = e ∙ rw t

@@ -1,0 +1,5 @@
+pub mod PaddingLaws
+pub mod TableLaws
+pub mod Packings
+pub mod Turns
+mod Loops

@@ -1,0 +1,131 @@
+-- The loops and the runs of stores of src/lib.rt, on lists of numbers: what a buffer holds after each store, and what is left to compare. The premises are
+-- what the code has learned. Assumes nothing.
+use Prim.Native.Nat.{ℕ, _+_, _<_, _≤_}
+use mathlib.Core.Path.{_≡_, refl, sym, ap, _∙_}
+use mathlib.Core.Bool.{true, false}
+use mathlib.Core.List.{List, [], _∷_, append-nil}
+use native.Mathlib.Nat.{zero-add}
+use native.Mathlib.Numerals.{add-one, add-two, add-three}
+use native.Mathlib.Omega.{arith}
+use borrow.Author.Tests.{eq-eqb, ne-eqb}
+use lib.ListN.{length, drop, getD, set, length-set, length-replicate, getD-replicate, drop-of-length-le}
+use lib.Seq.{paste, paste-zero, paste-suc, sets-eq, drop-cons, drop-length, take-all}
+use Rattle.lists.specs.Same.{same}
+use Rattle.lists.proofs.SameLaws.{same-equal}
+use Rattle.lists.proofs.Tests.{fails}
+use Rattle.packing.specs.Padding.{zeros, all-zero}
+
+-- ---- a paste, store by store: l is d with j numbers of s from `at` on
+pub record Pasted (d : List ℕ) (at : ℕ) (s l : List ℕ) (j : ℕ) : Type 0 where
+  pub within : j ≤ length s
+  pub long : length l ≡ length d
+  pub list : l ≡ paste d at s j
+
+module _ (d : List ℕ) (at : ℕ) (s : List ℕ) where
+  -- nothing is pasted at first
+  pub paste-starts : Pasted d at s d 0
+  paste-starts = record { within = omega arith; long = refl; list = paste-zero d at s }
+
+  module _ (l : List ℕ) (j : ℕ) (z : Pasted d at s l j) where
+    -- a store pastes one number more
+    pub paste-more : at + length s ≤ length d → j < length s → Pasted d at s (set l (at + j) (getD s j 0)) (j + 1)
+    paste-more h w = record {
+      within = omega arith;
+      long = length-set l (at + j) (getD s j 0) ∙ z .long;
+      list = ap (λ (m : List ℕ). set m (at + j) (getD s j 0)) (z .list) ∙ paste-suc d at s j 0 (omega arith) w ∙ ap (paste d at s) (sym (add-one j));
+    }
+
+    -- the last store makes the paste whole
+    pub paste-ends : length s ≤ j → l ≡ paste d at s (length s)
+    paste-ends h = let e : j ≡ length s = omega (arith, z .within) in z .list ∙ ap (paste d at s) e
+
+-- ---- zeros, store by store: the first i numbers of l are zero, and the others are those of d
+abbrev pub Cleared : List ℕ → List ℕ → ℕ → Type 0
+Cleared d l i = Pasted d 0 (zeros (length d)) l i
+
+-- nothing is cleared at first
+pub clear-starts : (d : List ℕ) → Cleared d d 0
+clear-starts d = paste-starts d 0 (zeros (length d))
+
+module _ (d l : List ℕ) (i : ℕ) (z : Cleared d l i) where
+  -- a store of zero clears one number more
+  pub clear-more : i < length l → Cleared d (set l i 0) (i + 1)
+  clear-more h =
+      let n : length (zeros (length d)) ≡ length d = length-replicate (length d) 0 in
+      let w : i < length d = omega (arith, z .long) in
+      let g : getD (zeros (length d)) i 0 ≡ 0 = getD-replicate (length d) i 0 0 w in
+      rw (zero-add i, g) at (paste-more d 0 (zeros (length d)) l i z (omega arith) (omega arith))
+
+  -- the last store leaves zeros alone
+  pub clear-ends : length l ≤ i → l ≡ zeros (length d)
+  clear-ends h =
+      let n : length (zeros (length d)) ≡ length d = length-replicate (length d) 0 in
+      paste-ends d 0 (zeros (length d)) l i z (omega (arith, z .long))
+      ∙ rw (n, zero-add, drop-length, append-nil) (take-all (length d) (zeros (length d)) (omega arith))
+
+-- ---- a row of two, three or four numbers, stored one by one
+module _ (l : List ℕ) (at a b : ℕ) where
+  -- two stores are a paste of two
+  pub two-stored : at + 2 ≤ length l → set (set l at a) (at + 1) b ≡ paste l at (a ∷ b ∷ []) 2
+  two-stored h = rw add-one (sets-eq (a ∷ b ∷ []) l at h)
+
+  -- three are a paste of three
+  pub three-stored : (c : ℕ) → at + 3 ≤ length l → set (set (set l at a) (at + 1) b) (at + 2) c ≡ paste l at (a ∷ b ∷ c ∷ []) 3
+  three-stored c h = rw (add-one, add-two) (sets-eq (a ∷ b ∷ c ∷ []) l at h)
+
+  -- four are a paste of four
+  pub four-stored : (c d : ℕ) → at + 4 ≤ length l → set (set (set (set l at a) (at + 1) b) (at + 2) c) (at + 3) d ≡ paste l at (a ∷ b ∷ c ∷ d ∷ []) 4
+  four-stored c d h = rw (add-one, add-two, add-three) (sets-eq (a ∷ b ∷ c ∷ d ∷ []) l at h)
+
+-- ---- whether the rest is zero: what is left from i on decides
+module _ (s : List ℕ) (from i : ℕ) (z : all-zero (drop from s) ≡ all-zero (drop i s)) where
+  -- a number that is not zero answers no
+  pub zero-stops : i < length s → (getD s i 0 ≡ 0 → ⊥) → false ≡ all-zero (drop from s)
+  unfolding all-zero
+  zero-stops h f = sym (z ∙ rw (drop-cons s i 0 h, ne-eqb (getD s i 0) 0 f))
+
+  -- behind a zero the rest decides
+  pub zero-more : i < length s → getD s i 0 ≡ 0 → all-zero (drop from s) ≡ all-zero (drop (i + 1) s)
+  unfolding all-zero
+  zero-more h e = z ∙ rw (add-one, drop-cons s i 0 h, e)
+
+  -- at the end the answer is yes
+  pub zero-ends : length s ≤ i → true ≡ all-zero (drop from s)
+  unfolding all-zero
+  zero-ends h = sym (z ∙ rw (drop-of-length-le s h))
+
+-- ---- whether two lists are the same: lists of one length, and what is left from i on decides
+-- lists of two lengths are not the same
+pub same-lengths : (a b : List ℕ) → (length a ≡ length b → ⊥) → false ≡ same a b
+same-lengths a b f = sym (fails (same a b) (λ t. f (ap length (same-equal a b t))))
+
+pub record Alike (a b : List ℕ) (i : ℕ) : Type 0 where
+  pub long : length a ≡ length b
+  pub rest : same a b ≡ same (drop i a) (drop i b)
+
+module _ (a b : List ℕ) where
+  -- of lists of one length all is left to compare
+  pub same-starts : length a ≡ length b → Alike a b 0
+  same-starts e = record { long = e; rest = refl }
+
+  module _ (i : ℕ) (z : Alike a b i) where
+    -- two numbers that differ answer no
+    pub same-stops : i < length a → (getD a i 0 ≡ getD b i 0 → ⊥) → false ≡ same a b
+    unfolding same
+    same-stops h f =
+        let k : i < length b = omega (arith, z .long) in
+        sym (z .rest ∙ rw (drop-cons a i 0 h, drop-cons b i 0 k, ne-eqb (getD a i 0) (getD b i 0) f))
+
+    -- behind two that are equal the rest decides
+    pub same-more : i < length a → getD a i 0 ≡ getD b i 0 → Alike a b (i + 1)
+    unfolding same
+    same-more h e =
+        let k : i < length b = omega (arith, z .long) in
+        record { long = z .long; rest = z .rest ∙ rw (add-one, drop-cons a i 0 h, drop-cons b i 0 k, eq-eqb (getD a i 0) (getD b i 0) e) }
+
+    -- at the end the answer is yes
+    pub same-ends : length a ≤ i → true ≡ same a b
+    unfolding same
+    same-ends h =
+        let k : length b ≤ i = omega (arith, z .long) in
+        sym (z .rest ∙ rw (drop-of-length-le a h, drop-of-length-le b k))

@@ -1,0 +1,17 @@
+-- A buffer of a given room that holds a list at its front and zeros behind it. Bytes and rows of numbers are both lists of numbers. Assumes nothing.
+use Prim.Native.Nat.{ℕ, _-_}
+use mathlib.Core.List.{List, [], _∷_, _++_}
+use mathlib.Core.Bool.{Bool, true, _&&_}
+use lib.Dec.{eqb}
+use lib.ListN.{length, replicate}
+
+abbrev pub zeros : ℕ → List ℕ
+zeros n = replicate n 0
+
+-- "the rest is zero"
+unfoldable pub pad : ℕ → List ℕ → List ℕ
+pad room xs = xs ++ zeros (room - length xs)
+
+unfoldable pub all-zero : List ℕ → Bool
+all-zero [] = true
+all-zero (x ∷ xs) = eqb x 0 && all-zero xs

@@ -1,0 +1,113 @@
+// Lent buffers: clearing them, asking whether their rest is zero, and writing bytes and rows of numbers. What a buffer holds, and how rows and bytes are
+// packed, is defined once for every buffer: specs/Padding.antt and specs/Tables.antt.
+ghost use mathlib.Core.Path.{_≡_};
+ghost use mathlib.Core.List.{[], _∷_};
+ghost use Prim.Native.Nat.{_+_, _≤_};
+ghost use lib.ListN.{length, drop};
+ghost use lib.Seq.{paste};
+ghost use Rattle.lists.specs.Same.{same};
+ghost use Rattle.packing.specs.Padding.{all-zero, zeros};
+
+pub fn clear_bytes(bytes: &mut [u8])
+    ensures { λ _. ⌜ now (bytes .exit) ≡ zeros (length (now (bytes .entry))) ⌝ }
+{
+    let mut i = 0;
+    while i < bytes.len() {
+        bytes[i] = 0;
+        i += 1;
+    }
+}
+
+pub fn clear_numbers(rows: &mut [u32])
+    ensures { λ _. ⌜ now (rows .exit) ≡ zeros (length (now (rows .entry))) ⌝ }
+{
+    let mut i = 0;
+    while i < rows.len() {
+        rows[i] = 0;
+        i += 1;
+    }
+}
+
+// Whether bytes are zero from a place on.
+pub fn zero_bytes(bytes: &[u8], from: usize) -> bool
+    ensures { λ r. ⌜ r ≡ all-zero (drop from (now (bytes .entry))) ⌝ }
+{
+    let mut i = from;
+    while i < bytes.len() {
+        if bytes[i] != 0 {
+            return false;
+        }
+        i += 1;
+    }
+    true
+}
+
+// The same of numbers.
+pub fn zero_numbers(rows: &[u32], from: usize) -> bool
+    ensures { λ r. ⌜ r ≡ all-zero (drop from (now (rows .entry))) ⌝ }
+{
+    let mut i = from;
+    while i < rows.len() {
+        if rows[i] != 0 {
+            return false;
+        }
+        i += 1;
+    }
+    true
+}
+
+pub fn same_bytes(a: &[u8], b: &[u8]) -> bool
+    ensures { λ r. ⌜ r ≡ same (now (a .entry)) (now (b .entry)) ⌝ }
+{
+    if a.len() != b.len() {
+        return false;
+    }
+    let mut i = 0;
+    while i < a.len() {
+        if a[i] != b[i] {
+            return false;
+        }
+        i += 1;
+    }
+    true
+}
+
+// Bytes copied in from a place on.
+pub fn put_bytes(into: &mut [u8], at: usize, bytes: &[u8])
+    requires { ⌜ at + length (now bytes) ≤ length (now into) ⌝ }
+    ensures { λ _. ⌜ now (into .exit) ≡ paste (now (into .entry)) at (now (bytes .entry)) (length (now (bytes .entry))) ⌝ }
+{
+    let mut i = 0;
+    while i < bytes.len() {
+        into[at + i] = bytes[i];
+        i += 1;
+    }
+}
+
+// Rows of two, three and four numbers, from a place on.
+pub fn put_two(rows: &mut [u32], at: usize, a: u32, b: u32)
+    requires { ⌜ at + 2 ≤ length (now rows) ⌝ }
+    ensures { λ _. ⌜ now (rows .exit) ≡ paste (now (rows .entry)) at (a ∷ b ∷ []) 2 ⌝ }
+{
+    rows[at] = a;
+    rows[at + 1] = b;
+}
+
+pub fn put_three(rows: &mut [u32], at: usize, a: u32, b: u32, c: u32)
+    requires { ⌜ at + 3 ≤ length (now rows) ⌝ }
+    ensures { λ _. ⌜ now (rows .exit) ≡ paste (now (rows .entry)) at (a ∷ b ∷ c ∷ []) 3 ⌝ }
+{
+    rows[at] = a;
+    rows[at + 1] = b;
+    rows[at + 2] = c;
+}
+
+pub fn put_four(rows: &mut [u32], at: usize, a: u32, b: u32, c: u32, d: u32)
+    requires { ⌜ at + 4 ≤ length (now rows) ⌝ }
+    ensures { λ _. ⌜ now (rows .exit) ≡ paste (now (rows .entry)) at (a ∷ b ∷ c ∷ d ∷ []) 4 ⌝ }
+{
+    rows[at] = a;
+    rows[at + 1] = b;
+    rows[at + 2] = c;
+    rows[at + 3] = d;
+}
