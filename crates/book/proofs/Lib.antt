@@ -1,3 +1,4 @@
 pub mod Forms
 pub mod NodeRows
 pub mod Views
+pub mod LineRows

@@ -1,0 +1,4 @@
+pub mod Stages
+pub mod Deciders
+pub mod Unmatched
+mod Leading

@@ -1,0 +1,3 @@
+pub mod Matching
+pub mod Walk
+pub mod Ranks

@@ -1,0 +1,21 @@
+-- A line's place in the ranking as one number, and what it is to decide, said without a walk. Assumes nothing.
+use Prim.Native.Nat.{ℕ, _+_, _-_, _*_, _<_, _≤_}
+use mathlib.Core.Path.{_≡_}
+use mathlib.Core.List.{List}
+use mathlib.Core.Bool.{Bool, true, cond}
+use lib.Dec.{leb}
+use lib.ListN.{length, getD}
+use Rattle.book.specs.Books.{Line, escaped-class, nonstar-class, no-line}
+
+-- the number of the stage, of a book with n nodes, that looks at the line
+unfoldable pub rank : ℕ → Line → ℕ
+rank n x =
+    cond (leb (x .class) escaped-class) (4 * x .node + 2 * x .language + x .section)
+    (4 * n + 2 * n * (x .class - nonstar-class) + 2 * (n - 1 - x .node) + x .section)
+
+-- line i decides, among lines of which m says which match: it matches, no line that matches is ahead of it, and at equal rank none has a lower number
+pub record Decides (n : ℕ) (m : Line → Bool) (ls : List Line) (i : ℕ) : Type 0 where
+  pub there : i < length ls
+  pub matching : m (getD ls i no-line) ≡ true
+  pub first : (j : ℕ) → j < length ls → m (getD ls j no-line) ≡ true → rank n (getD ls i no-line) ≤ rank n (getD ls j no-line)
+  pub lowest : (j : ℕ) → j < i → m (getD ls j no-line) ≡ true → rank n (getD ls i no-line) < rank n (getD ls j no-line)
