@@ -14,3 +14,4 @@ pub mod Exactly
 pub mod Looking
 pub mod Points
 pub mod Tabling
+pub mod Parts

@@ -1,0 +1,199 @@
+-- What is kept of a token is as a book's line asks: a kept glob stands, All has no bytes, and no line is longer than a token may be. And the bytes that are
+-- put at the front of a part of a buffer are pasted into it. Assumes nothing.
+use Prim.Native.Nat.{ℕ, _+_, _-_, _≤_, _<_}
+use mathlib.Core.Path.{_≡_, refl, sym, ap, ap₂, _∙_}
+use mathlib.Core.List.{List, [], _∷_, _++_, append-assoc}
+use mathlib.Core.Bool.{Bool, true, false, cond, not, _||_}
+use native.Mathlib.Decide.{ℕ-discrete}
+use native.Mathlib.Omega.{arith}
+use borrow.Author.Tests.{eq-eqb, ne-eqb, eqb-true, le-leb, lt-leb, lt-ltb, ltb-false, ltb-true}
+use lib.Dec.{eqb, leb, ltb}
+use lib.ListN.{length, take, drop, length-take, length-drop, take-append-drop}
+use lib.Seq.{paste, drop-append-le, drop-drop, take-length}
+use Rattle.numbers.specs.Limits.{pool-limit, token-limit}
+use Rattle.lists.specs.Front.{front}
+use Rattle.lists.proofs.SameLaws.{same-refl}
+use Rattle.pattern.specs.declared.Edition.{Edition}
+use Rattle.pattern.specs.Patterns.{refusal}
+use Rattle.pattern.specs.Storing.{stored, stored-byte, negated-from}
+use Rattle.glob_match.specs.declared.Class.{Class}
+use Rattle.glob_match.specs.declared.Class.the-variants.{Exact, Escaped, NonStar, Star, All}
+use Rattle.glob_match.specs.declared.Stored.{Stored}
+use Rattle.glob_match.specs.Classes.{class-number, lone-star, quoted, scan, unquoted}
+use Rattle.glob_match.specs.Keeping.{Keep, kept, refused, over, keep, keep-as, keep-class, keep-glob, keep-scanned, keep-when}
+use Rattle.glob_match.specs.Answers.{keep-answer, keep-buffer}
+use Rattle.glob_match.proofs.Keeping.{bytes, keep-few}
+use Rattle.book.specs.Books.{edition-of, regular}
+use Rattle.book.specs.Sanity.{content-good, glob-stands, in-range, kind-allows, line-ok}
+use Rattle.opening.specs.State.{Put, pool-room}
+
+-- ---- storing twice changes nothing
+byte-twice : (b : Bool) (c : ℕ) → stored-byte b (stored-byte b c) ≡ stored-byte b c
+unfolding stored-byte
+byte-twice false c = refl
+byte-twice true c = go (ℕ-discrete c 94)
+  where
+    go : Dec (c ≡ 94) → stored-byte true (stored-byte true c) ≡ stored-byte true c
+    go (yes h) = rw h
+    go (no n) = rw (ne-eqb c 94 n, ne-eqb c 94 n)
+
+byte-opens : (b : Bool) (c : ℕ) → eqb (stored-byte b c) 91 ≡ eqb c 91
+unfolding stored-byte
+byte-opens false c = refl
+byte-opens true c = go (ℕ-discrete c 94)
+  where
+    go : Dec (c ≡ 94) → eqb (stored-byte true c) 91 ≡ eqb c 91
+    go (yes h) = rw h
+    go (no n) = rw (ne-eqb c 94 n)
+
+negated-twice : (b : Bool) (s : List ℕ) → negated-from b (negated-from b s) ≡ negated-from b s
+unfolding negated-from
+negated-twice b [] = refl
+negated-twice b (c ∷ s) = rw (byte-opens b c) (ap₂ (λ (x : ℕ) (l : List ℕ). x ∷ l) (byte-twice b c) (negated-twice (eqb c 91) s))
+
+pub stored-twice : (e : Edition) (t : List ℕ) → stored e (stored e t) ≡ stored e t
+unfolding stored
+stored-twice e t = negated-twice false t
+
+-- ---- what is kept, by its class
+abbrev Fine : Edition → Class → List ℕ → Type 0
+Fine e Exact bs = Unit {0}
+Fine e Escaped bs = Unit {0}
+Fine e NonStar bs = glob-stands e bs ≡ true
+Fine e Star bs = glob-stands e bs ≡ true
+Fine e All bs = length bs ≡ 0
+
+abbrev Kept-fine : Edition → Keep → Type 0
+Kept-fine e (kept k bs) = Fine e k bs
+Kept-fine e (refused n) = Unit {0}
+
+glob-fine : (e : Edition) (t : List ℕ) → refusal e (stored e t) ≡ 0 → glob-stands e (stored e t) ≡ true
+unfolding glob-stands
+glob-fine e t h = rw (eq-eqb (refusal e (stored e t)) 0 h, stored-twice e t) (same-refl (stored e t))
+
+when-fine : (e : Edition) (k : Class) (t : List ℕ) → (refusal e (stored e t) ≡ 0 → Fine e k (stored e t)) → Kept-fine e (keep-glob e k t)
+unfolding keep-glob keep-when
+when-fine e k t f = go (eqb (refusal e (stored e t)) 0) refl
+  where
+    go : (x : Bool) → eqb (refusal e (stored e t)) 0 ≡ x → Kept-fine e (cond x (kept k (stored e t)) (refused (refusal e (stored e t))))
+    go true h = f (eqb-true _ _ h)
+    go false h = tt
+
+as-fine : (e : Edition) (k : Class) (t : List ℕ) → Kept-fine e (keep-as e k t)
+unfolding keep-as
+as-fine e Exact t = tt
+as-fine e Escaped t = tt
+as-fine e NonStar t = when-fine e NonStar t (glob-fine e t)
+as-fine e Star t = when-fine e Star t (glob-fine e t)
+as-fine e All t = refl
+
+keep-fine : (e : Edition) (t : List ℕ) → Kept-fine e (keep e t)
+unfolding keep keep-class keep-scanned
+keep-fine e t = go (over t) (quoted t) (lone-star t)
+  where
+    go : (x y z : Bool)
+        → Kept-fine e (cond x (refused 1) (cond y (kept Exact (unquoted t)) (cond z (kept All []) (keep-as e (scan Exact false t) t))))
+    go true y z = tt
+    go false true z = tt
+    go false false true = refl
+    go false false false = as-fine e (scan Exact false t) t
+
+pub class-few : (k : Class) → class-number k ≤ 4
+class-few Exact = omega arith
+class-few Escaped = omega arith
+class-few NonStar = omega arith
+class-few Star = omega arith
+class-few All = omega arith
+
+-- ---- a line of what is kept
+module _ (t : List ℕ) (k : Class) (bs : List ℕ) (h : keep (edition-of regular) t ≡ kept k bs) where
+  pub kept-few : length bs ≤ token-limit
+  kept-few = omega (arith, keep-few (edition-of regular) t, ap (λ (x : Keep). length (bytes x)) h)
+
+  kept-fine : Fine (edition-of regular) k bs
+  kept-fine = rw h at (keep-fine (edition-of regular) t)
+
+  all-empty : (j : Class) → Fine (edition-of regular) j bs → (not (eqb (class-number j) 4) || eqb (length bs) 0) ≡ true
+  all-empty Exact f = refl
+  all-empty Escaped f = refl
+  all-empty NonStar f = refl
+  all-empty Star f = refl
+  all-empty All f = eq-eqb (length bs) 0 f
+
+  globs-stand : (j : Class) → Fine (edition-of regular) j bs → (not (eqb (class-number j) 2 || eqb (class-number j) 3) || glob-stands (edition-of regular) bs) ≡ true
+  globs-stand Exact f = refl
+  globs-stand Escaped f = refl
+  globs-stand NonStar f = f
+  globs-stand Star f = f
+  globs-stand All f = refl
+
+  pub kept-line : (nodes node section language : ℕ) → node < nodes → section ≤ 1 → language ≤ 1
+      → line-ok regular nodes (record { node = node; class = class-number k; section = section; language = language; struck = 0; bytes = bs }) ≡ true
+  unfolding line-ok in-range kind-allows content-good
+  kept-line nodes node section language a b c =
+      rw (
+        lt-ltb node nodes a,
+        le-leb (class-number k) 4 (class-few k),
+        le-leb section 1 b,
+        le-leb language 1 c,
+        le-leb (length bs) token-limit kept-few,
+        all-empty k kept-fine,
+      )
+      (globs-stand k kept-fine)
+
+-- ---- how far the pool q can be filled
+pub room-length : (q : List ℕ) → pool-room q ≤ length q
+room-length q = go (ltb pool-limit (length q)) refl
+  where
+    go : (x : Bool) → ltb pool-limit (length q) ≡ x → cond x pool-limit (length q) ≤ length q
+    go true h = omega (arith, ltb-true pool-limit (length q) h)
+    go false h = omega arith
+
+pub room-limit : (q : List ℕ) → pool-room q ≤ pool-limit
+room-limit q = go (ltb pool-limit (length q)) refl
+  where
+    go : (x : Bool) → ltb pool-limit (length q) ≡ x → cond x pool-limit (length q) ≤ pool-limit
+    go true h = omega arith
+    go false h = ltb-false pool-limit (length q) h
+
+pub room-both : (q : List ℕ) (k : ℕ) → k ≤ length q → k ≤ pool-limit → k ≤ pool-room q
+room-both q k a b = go (ltb pool-limit (length q))
+  where
+    go : (x : Bool) → k ≤ cond x pool-limit (length q)
+    go true = b
+    go false = a
+
+-- ---- bytes at the front of the part of q that has k elements from `at` on
+front-part : (q bs : List ℕ) (at k : ℕ) → length bs ≤ k → at + k ≤ length q
+    → take at q ++ (front bs (take k (drop at q)) ++ drop k (drop at q)) ≡ paste q at bs (length bs)
+unfolding front
+front-part q bs at k h j =
+    let d : List ℕ = drop at q in
+    let l : length bs ≤ length (take k d) = omega (arith, length-take k d, length-drop at q) in
+    let e : drop (length bs) (take k d) ++ drop k d ≡ drop (length bs) d
+    = sym (drop-append-le (length bs) (take k d) (drop k d) l) ∙ ap (drop (length bs)) (take-append-drop k d) in
+    ap (λ (x : List ℕ). take at q ++ x) (append-assoc bs (drop (length bs) (take k d)) (drop k d) ∙ ap (λ (x : List ℕ). bs ++ x) (e ∙ drop-drop (length bs) at q))
+    ∙ rw (take-length, append-assoc)
+
+-- what `store_token` answers and leaves in the part up to `end`
+put-part : (K : Keep) (q v : List ℕ) (at end : ℕ) (r : Stored) → end ≡ pool-room q → at ≤ pool-room q
+    → r ≡ keep-answer K (length (take (end - at) (drop at q))) → v ≡ keep-buffer K (take (end - at) (drop at q))
+    → Put K q at r (take at q ++ (v ++ drop (end - at) (drop at q)))
+unfolding keep-answer keep-buffer
+put-part (kept k bs) q v at end r e h a b =
+    let w = room-length q in
+    let n : length (take (end - at) (drop at q)) ≡ end - at = omega (arith, length-take (end - at) (drop at q), length-drop at q) in (
+      λ i.
+          let t : leb (length bs) (length (take (end - at) (drop at q))) ≡ true = le-leb (length bs) (length (take (end - at) (drop at q))) (omega arith) in (
+            a ∙ rw t,
+            rw (b, t) (front-part q bs at (end - at) (omega arith) (omega arith)),
+          ),
+      λ i. a ∙ rw (lt-leb (length bs) (length (take (end - at) (drop at q))) (omega arith)),
+    )
+put-part (refused n) q v at end r e h a b = a
+
+-- with the edition x that `edition_of` answers
+pub put-stored : (x : Edition) (t q v : List ℕ) (at end : ℕ) (r : Stored) → x ≡ edition-of regular → end ≡ pool-room q → at ≤ pool-room q
+    → r ≡ keep-answer (keep x t) (length (take (end - at) (drop at q))) → v ≡ keep-buffer (keep x t) (take (end - at) (drop at q))
+    → Put (keep (edition-of regular) t) q at r (take at q ++ (v ++ drop (end - at) (drop at q)))
+put-stored x t q v at end r z e h a b = rw (← z) (put-part (keep x t) q v at end r e h a b)

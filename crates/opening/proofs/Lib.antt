@@ -1,0 +1,7 @@
+pub mod Kept
+pub mod States
+pub mod NodeEvents
+pub mod LineEvents
+pub mod EachEvent
+pub mod Opens
+pub mod Refusing

@@ -1,0 +1,43 @@
+-- `put_token` meets its contract: the part of the pool behind what is there is lent to `store_token`. Assumes nothing.
+use borrow.Author.Needs.{needs}
+use native.Mathlib.Omega.{arith}
+use Rattle.opening.proofs.Kept.{put-stored, room-length}
+use Rattle.opening.proofs.taken.put_token.Statement.{statement}
+use Rattle.opening.proofs.taken.put_token.Tie as tie
+
+pool-end-requires : tie.Need-pool-end-requires
+pool-end-requires c κs = search needs
+
+edition-of-requires : tie.Need-edition-of-requires
+edition-of-requires c κs = search needs
+
+sub-store-token : tie.Need-sub-store-token
+sub-store-token c = search needs
+
+part-store-token-start : tie.Need-part-store-token-start
+part-store-token-start c = search needs
+
+part-store-token-end : tie.Need-part-store-token-end
+part-store-token-end c = let a = c .before .before .before .before .before .args in omega (arith, room-length (a .pool .now), c .before .pool-end .ensures)
+
+store-token-requires : tie.Need-store-token-requires
+store-token-requires c κs = search needs
+
+same-length : tie.Need-same-length
+same-length c = search needs
+
+returns : tie.Need-returns
+returns c = let a = c .before .before .before .before .before .before .before .before .before .args in put-stored (c .before .before .before .before .edition-of .result) (a .token .now) (a .pool .now) _ (a .at) (c .before .before .before .before .before .pool-end .result) (c .before .before .store-token .result) (c .before .before .before .before .edition-of .ensures) (c .before .before .before .before .before .pool-end .ensures) (c .before .before .before .before .before .before .before .before .before .pre) (c .before .before .store-token .ensures .0) (c .before .before .store-token .ensures .1)
+
+pub put-token-spec : {M : Type 1} → statement M
+put-token-spec =
+    tie.close
+    (tie.spec
+    pool-end-requires
+    edition-of-requires
+    sub-store-token
+    part-store-token-start
+    part-store-token-end
+    store-token-requires
+    same-length
+    returns)

@@ -1,0 +1,81 @@
+-- Opening a text into lent buffers, as 01 has it: "opening starts with 1 and row 0's room", then goes on in reading order. Assumes nothing.
+use Prim.Native.Nat.{ℕ}
+use mathlib.Core.List.{List, [], _∷_}
+use mathlib.Core.Bool.{Bool, true, false, cond, _&&_, not}
+use lib.Dec.{eqb, leb, ltb}
+use lib.ListN.{length}
+use Rattle.numbers.specs.Limits.{script-limit}
+use Rattle.numbers.specs.Refusals.{no-room, too-long}
+use Rattle.packing.specs.Padding.{zeros}
+use Rattle.reading.specs.declared.Event.{Event}
+use Rattle.reading.specs.Places.{at-list}
+use Rattle.reading.specs.Events.{Outcome, accepted, refused, Reading, reading}
+use Rattle.book.specs.declared.Counts.{Counts}
+use Rattle.book.specs.Books.{Book, export, no-node, regular, rust}
+use Rattle.book.specs.Layout.{Buffers, counts-of, laid-out, node-width}
+use Rattle.opening.specs.declared.Opened.{Opened}
+use Rattle.opening.specs.Building.{Building, Taken, on, no, take-event}
+
+-- a text opens as a book, or is refused with a number at a place
+pub data Opening : Type 0 where
+  opens : Book → Opening
+  declined : ℕ → ℕ → Opening
+
+-- "node 0 holds the body", or "is the empty base"
+unfoldable pub nothing-yet : Building
+nothing-yet = record { nodes = no-node ∷ []; lines = []; inside = false; mixed = false; starred = false }
+
+-- "Rust kind: a one-body script with a bare `*;` among its locals (outside extern) and only Exact lines, outside extern, as globals". A script with a line
+-- and no named node has one body
+unfoldable pub rust-style : Building → Bool
+rust-style g = eqb (length (g .nodes)) 1 && (g .starred && not (g .mixed))
+
+unfoldable pub kind-of : ℕ → Building → ℕ
+kind-of place g = cond (eqb place at-list) export (cond (rust-style g) rust regular)
+
+abbrev pub finished : ℕ → Building → Book
+finished place g = record { kind = kind-of place g; nodes = g .nodes; lines = g .lines; edits = [] }
+
+-- ---- "then reading order": each event is taken as it comes, and the reading's own refusal comes behind its last event
+abbrev pub on-taken : Taken → (Building → Opening) → Opening
+on-taken (on g) next = next g
+on-taken (no n p) next = declined n p
+
+abbrev pub ended : ℕ → Building → Outcome → Opening
+ended place g accepted = opens (finished place g)
+ended place g (refused n p) = declined n p
+
+unfoldable pub build : ℕ → Buffers → List ℕ → Building → List Event → Outcome → Opening
+build place b s g [] o = ended place g o
+build place b s g (e ∷ es) o = on-taken (take-event b s g e) (λ h. build place b s h es o)
+
+unfoldable pub build-reading : ℕ → Buffers → List ℕ → Building → Reading → Opening
+build-reading place b s g r = build place b s g (r .events) (r .outcome)
+
+-- the text s, read from a place of the grammar on, into buffers with the rooms of b
+unfoldable pub opening : ℕ → Buffers → List ℕ → Opening
+opening place b s =
+    cond (ltb script-limit (length s)) (declined too-long 0)
+    (cond (leb node-width (length (b .nodes))) (build-reading place b s nothing-yet (reading place s))
+    (declined no-room 0))
+
+-- ---- what is answered, and what is left in the buffers: "A refused opening returns zero counts and zero buffers"
+abbrev pub no-counts : Counts
+no-counts = record { kind = 0; nodes = 0; names = 0; lines = 0; pool = 0; edits = 0 }
+
+unfoldable pub told : Opening → Opened
+told (opens w) = record { refusal = 0; place = 0; counts = counts-of w }
+told (declined n p) = record { refusal = n; place = p; counts = no-counts }
+
+unfoldable pub cleared : Buffers → Buffers
+cleared b = record {
+  nodes = zeros (length (b .nodes));
+  names = zeros (length (b .names));
+  lines = zeros (length (b .lines));
+  pool = zeros (length (b .pool));
+  journal = zeros (length (b .journal));
+}
+
+unfoldable pub left : Buffers → Opening → Buffers
+left b (opens w) = laid-out b w
+left b (declined n p) = cleared b

@@ -1,0 +1,144 @@
+-- A book while its text is read, as it stands in the buffers, and what each event makes of it there. Assumes nothing.
+use Prim.Native.Nat.{ℕ, _+_, _*_, _≤_, _<_}
+use mathlib.Core.Path.{_≡_}
+use mathlib.Core.List.{List, []}
+use mathlib.Core.Bool.{Bool, true, false, cond, not, _&&_, _||_}
+use lib.Dec.{eqb, leb, ltb}
+use lib.ListN.{length}
+use lib.Seq.{paste}
+use Rattle.numbers.specs.Limits.{line-limit, pool-limit, script-limit}
+use Rattle.numbers.specs.Refusals.{no-room}
+use Rattle.packing.specs.Padding.{zeros}
+use Rattle.glob_match.specs.declared.Stored.{Stored}
+use Rattle.glob_match.specs.declared.Stored.the-variants.{As}
+use Rattle.glob_match.specs.declared.Stored.the-variants as stored
+use Rattle.glob_match.specs.Keeping.{Keep, kept, refused, keep}
+use Rattle.reading.specs.declared.Event.{Event}
+use Rattle.reading.specs.declared.Event.the-variants.{Node, Body, Section, Extern, Closed, Line, Parent}
+use Rattle.reading.specs.Places.{at-list}
+use Rattle.book.specs.declared.Counts.{Counts}
+use Rattle.book.specs.Books.{edition-of, export, global, regular, rust}
+use Rattle.book.specs.Layout.{Buffers, counts-of, five, laid-out, line-width}
+use Rattle.book.specs.View.{book-of, laid}
+use Rattle.opening.specs.declared.Built.{Built}
+use Rattle.opening.specs.declared.Built.the-variants.{Done, Refused}
+use Rattle.opening.specs.declared.Opened.{Opened}
+use Rattle.opening.specs.declared.Progress.{Progress}
+use Rattle.opening.specs.declared.Taking.{Taking}
+use Rattle.opening.specs.declared.Taking.the-variants.{On, No}
+use Rattle.opening.specs.Building.{Building, Taken, on, no, take-node, take-kept, take-parent}
+use Rattle.opening.specs.Opening.{Opening, opens, declined, finished, left, told}
+
+-- the counts of what is there so far
+abbrev pub counts-so-far : Progress → Counts
+counts-so-far g = record { kind = regular; nodes = g .nodes; names = g .names; lines = g .lines; pool = g .pool; edits = 0 }
+
+-- whether the buffers hold it, node 0 at least. A name lies in the text, so no name is longer than one
+unfoldable pub built : Progress → Buffers → Bool
+built g b = ltb 0 (g .nodes) && (leb (g .names) (script-limit * g .nodes) && laid (counts-so-far g) b)
+
+unfoldable pub building : Progress → Buffers → Building
+building g b = record {
+  nodes = book-of (counts-so-far g) b .nodes;
+  lines = book-of (counts-so-far g) b .lines;
+  inside = g .inside;
+  mixed = g .mixed;
+  starred = g .starred;
+}
+
+-- ---- what an event made of it: it stands in the buffers again, or was refused
+abbrev pub Took : Taken → Taking → Buffers → Type 0
+Took t (On g) b = (t ≡ on (building g b)) × (built g b ≡ true)
+Took t (No n p) b = t ≡ no n p
+
+-- the lines and the pool are as they were, whatever they are
+abbrev pub Took-node : Progress → ℕ → List ℕ → List ℕ → List ℕ → Taking → List ℕ → List ℕ → Type 0
+Took-node g p name n m r n′ m′ =
+    (l q : List ℕ)
+    → built g (five n m l q []) ≡ true
+    → Took (take-node (five n m l q []) (building g (five n m l q [])) p name) r (five n′ m′ l q [])
+
+abbrev pub Took-parent : Progress → ℕ → List ℕ → List ℕ → List ℕ → Taking → List ℕ → Type 0
+Took-parent g p t n m r n′ =
+    (l q : List ℕ) → built g (five n m l q []) ≡ true → Took (take-parent (building g (five n m l q [])) p t) r (five n′ m l q [])
+
+-- the nodes and the names are as they were, whatever they are
+abbrev pub Took-line : Progress → ℕ → ℕ → ℕ → List ℕ → List ℕ → List ℕ → Taking → List ℕ → List ℕ → Type 0
+Took-line g p section language t l q r l′ q′ =
+    (n m : List ℕ)
+    → built g (five n m l q []) ≡ true
+    → Took (take-kept (five n m l q []) (building g (five n m l q [])) p section language (keep (edition-of regular) t)) r (five n m l′ q′ [])
+
+-- ---- an event whose parts lie in the text s, with a section and a language of the grammar's
+abbrev pub Lies : List ℕ → Event → Type 0
+Lies s (Node p n) = p + n ≤ length s
+Lies s Body = Unit {0}
+Lies s (Section section) = Unit {0}
+Lies s (Extern section language) = Unit {0}
+Lies s Closed = Unit {0}
+Lies s (Line section language p n) = (section ≤ 1) × (language ≤ 1) × (p + n ≤ length s)
+Lies s (Parent p n) = p + n ≤ length s
+
+-- ---- an extern block opens, and closes
+abbrev pub inside-block : Progress → ℕ → Progress
+inside-block g section = record {
+  nodes = g .nodes;
+  names = g .names;
+  lines = g .lines;
+  pool = g .pool;
+  inside = true;
+  mixed = g .mixed || eqb section global;
+  starred = g .starred;
+}
+
+abbrev pub outside-block : Progress → Progress
+outside-block g = record {
+  nodes = g .nodes;
+  names = g .names;
+  lines = g .lines;
+  pool = g .pool;
+  inside = false;
+  mixed = g .mixed;
+  starred = g .starred;
+}
+
+-- ---- room for a line: how far the pool can be filled, and whether there is a row for line i
+abbrev pub pool-room : List ℕ → ℕ
+pool-room q = cond (ltb pool-limit (length q)) pool-limit (length q)
+
+abbrev pub fits-row : List ℕ → ℕ → Bool
+fits-row l i = ltb i line-limit && leb (line-width * (i + 1)) (length l)
+
+-- what is kept of a token, put into the pool q from `at` on where it can be
+abbrev pub Put : Keep → List ℕ → ℕ → Stored → List ℕ → Type 0
+Put (kept k bs) q at r q′ =
+    (at + length bs ≤ pool-room q → (r ≡ As k (length bs)) × (q′ ≡ paste q at bs (length bs)))
+    × (pool-room q < at + length bs → r ≡ stored.Refused no-room)
+Put (refused n) q at r q′ = r ≡ stored.Refused n
+
+-- ---- the text has ended: the kind, and the counts, in whatever buffers
+abbrev pub kind-told : ℕ → Progress → ℕ
+kind-told place g = cond (eqb place at-list) export (cond (eqb (g .nodes) 1 && (g .starred && not (g .mixed))) rust regular)
+
+abbrev pub Finished : ℕ → Progress → Counts → Type 0
+Finished place g r = (n m l q : List ℕ) → built g (five n m l q []) ≡ true → r ≡ counts-of (finished place (building g (five n m l q [])))
+
+-- an opening ended: with the book laid out in the buffers, or refused
+abbrev pub Ended : Opening → Built → Buffers → Buffers → Type 0
+Ended (opens w) r b b′ = (r ≡ Done (counts-of w)) × (b′ ≡ laid-out b w)
+Ended (declined n p) r b b′ = r ≡ Refused n p
+
+-- and what is answered then, with nothing left of what is refused
+abbrev pub Filled : Opening → Opened → Buffers → Buffers → Type 0
+Filled o r b b′ = (r ≡ told o) × (b′ ≡ left b o)
+
+-- a buffer that was cleared
+abbrev pub Clear : List ℕ → Type 0
+Clear l = l ≡ zeros (length l)
+
+-- and those that an opening fills, from n m l q
+pub record Cleared (n m l q n′ m′ l′ q′ : List ℕ) : Type 0 where
+  pub nodes : n′ ≡ zeros (length n)
+  pub names : m′ ≡ zeros (length m)
+  pub lines : l′ ≡ zeros (length l)
+  pub pool : q′ ≡ zeros (length q)

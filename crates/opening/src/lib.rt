@@ -1,0 +1,74 @@
+// Opening a text into lent buffers: the events of its reading, taken one by one. Definitions: specs/Building.antt and specs/Opening.antt, from document
+// 01, 'Reading', 'Ranking' (the Rust kind), 'The book' and 'Numbers that say no'.
+ghost use mathlib.Core.Path.{_≡_};
+ghost use Rattle.book.specs.Layout.{five};
+ghost use Rattle.opening.specs.Opening.{left, opening, told};
+use crate::events::clear_book;
+use crate::events::fill;
+use crate::events::refused;
+use book::Counts;
+use book::NODE_WIDTH;
+use numbers::NO_ROOM;
+use numbers::SCRIPT_LIMIT;
+use numbers::TOO_LONG;
+use packing::clear_numbers;
+
+mod events;
+mod taken;
+
+// What an opening answers: 0 and the counts, or the number that says no, its place in the text, and zero counts.
+pub struct Opened {
+    pub refusal: u32,
+    pub place: usize,
+    pub counts: Counts,
+}
+
+// How far a book is while its text is read: how many nodes, name bytes, lines and pool bytes it has; whether the reading is in an extern block; whether the
+// globals have what the Rust kind's have not; and whether a bare `*;` stands among the locals.
+pub struct Progress {
+    pub nodes: usize,
+    pub names: usize,
+    pub lines: usize,
+    pub pool: usize,
+    pub inside: bool,
+    pub mixed: bool,
+    pub starred: bool,
+}
+
+// What an event makes of it, or the number that says no and the place.
+pub enum Taking {
+    On(Progress),
+    No(u32, usize),
+}
+
+// The counts of the book that a text gives, or the number that says no and the place.
+pub enum Built {
+    Done(Counts),
+    Refused(u32, usize),
+}
+
+// A text, read from a place of the grammar on, into lent buffers.
+pub fn open(
+    place: u32,
+    text: &[u8],
+    nodes: &mut [u32],
+    names: &mut [u8],
+    lines: &mut [u32],
+    pool: &mut [u8],
+    journal: &mut [u32],
+) -> Opened
+    ensures { λ r. ⌜ (r ≡ told (opening place (five (now (nodes .entry)) (now (names .entry)) (now (lines .entry)) (now (pool .entry)) (now (journal .entry))) (now (text .entry))))
+        × (five (now (nodes .exit)) (now (names .exit)) (now (lines .exit)) (now (pool .exit)) (now (journal .exit))
+        ≡ left (five (now (nodes .entry)) (now (names .entry)) (now (lines .entry)) (now (pool .entry)) (now (journal .entry)))
+        (opening place (five (now (nodes .entry)) (now (names .entry)) (now (lines .entry)) (now (pool .entry)) (now (journal .entry))) (now (text .entry)))) ⌝ }
+{
+    clear_book(nodes, names, lines, pool);
+    clear_numbers(journal);
+    if SCRIPT_LIMIT < text.len() {
+        return refused(TOO_LONG, 0);
+    }
+    if nodes.len() < NODE_WIDTH {
+        return refused(NO_ROOM, 0);
+    }
+    fill(place, text, nodes, names, lines, pool)
+}
