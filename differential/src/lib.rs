@@ -1,7 +1,10 @@
-//! What the comparisons share: their inputs, their domain of equality, and their counts.
+//! What the comparisons share: their command line, their inputs, their domain of equality, their
+//! counts, and what they say of a case that differs.
 
+pub mod command;
 pub mod domain;
 pub mod inputs;
+pub mod report;
 pub mod tally;
 
 use std::fmt::Write;

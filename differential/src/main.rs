@@ -12,58 +12,20 @@ mod compare;
 mod sample;
 
 use compare::{Comparison, Stored};
+use differential::command::Program;
 use differential::domain::stored_text;
 use differential::inputs::{every, long, Random, EDGES, EDGE_BYTES, SPECIAL};
 use host::LIMIT;
 use std::process::ExitCode;
 
-const USAGE: &str =
-    "usage: differential [--seed N] [--rounds N], or differential sample FILE [--seed N]";
-
-/// The published matcher calls itself once for each star of a pattern: 32,768 stars take more than
-/// a thread's usual stack.
-const STACK: usize = 1 << 28;
-
 fn main() -> ExitCode {
-    let mut seed = 1;
-    let mut rounds = 10_000;
-    let mut words = Vec::new();
-    let mut arguments = std::env::args().skip(1);
-    while let Some(word) = arguments.next() {
-        match word.as_str() {
-            "--seed" => seed = number(arguments.next()),
-            "--rounds" => rounds = number(arguments.next()),
-            _ => words.push(word),
-        }
+    Program {
+        name: "differential",
+        rounds: 10_000,
+        compared,
+        sample: Some(sample::write),
     }
-    let words: Vec<&str> = words.iter().map(String::as_str).collect();
-    let agree = match words[..] {
-        [] => {
-            let run = move || compared(Random(seed), rounds);
-            let thread = std::thread::Builder::new().stack_size(STACK).spawn(run);
-            thread
-                .expect("a thread can be started")
-                .join()
-                .expect("the comparison ends")
-        }
-        ["sample", file] => {
-            sample::write(file, Random(seed))
-                .unwrap_or_else(|error| quit(&format!("{file}: {error}")));
-            true
-        }
-        _ => quit(USAGE),
-    };
-    ExitCode::from(if agree { 0 } else { 1 })
-}
-
-fn number(word: Option<String>) -> u64 {
-    word.and_then(|word| word.parse().ok())
-        .unwrap_or_else(|| quit(USAGE))
-}
-
-fn quit(message: &str) -> ! {
-    eprintln!("{message}");
-    std::process::exit(2)
+    .run()
 }
 
 /// The whole comparison; true when nothing differed.

@@ -41,15 +41,15 @@ impl<const REASONS: usize> Tally<REASONS> {
 
     /// The last line; true when nothing differed.
     pub fn finish(&self) -> bool {
-        let outside = self
+        let outside = match self
             .outside
-            .map(|(reason, count)| format!("{reason} {count}"));
-        println!(
-            "same {}; outside the domain: {}; different {}",
-            self.same,
-            outside.join(", "),
-            self.different
-        );
+            .map(|(reason, count)| format!("{reason} {count}"))
+            .join(", ")
+        {
+            none if none.is_empty() => none,
+            some => format!("outside the domain: {some}; "),
+        };
+        println!("same {}; {outside}different {}", self.same, self.different);
         self.different == 0
     }
 

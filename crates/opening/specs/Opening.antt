@@ -1,4 +1,5 @@
--- Opening a text into lent buffers, as 01 has it: "opening starts with 1 and row 0's room", then goes on in reading order. Assumes nothing.
+-- Opening a text into lent buffers, as 01 has it: "opening starts with 1 and row 0's room", then goes on in reading order. A text is read from a place of the
+-- grammar on (`place`); a refusal is answered with its place in the text (p), which 01 does not ask for. Assumes nothing.
 use Prim.Native.Nat.{ℕ}
 use mathlib.Core.List.{List, [], _∷_}
 use mathlib.Core.Bool.{Bool, true, false, cond, _&&_, not}

@@ -1,7 +1,7 @@
--- The line that decides a name, as 01 has it under 'Ranking'. The source cites the rule of LLD, "the first version tag with an exact pattern wins; otherwise, the
--- last version tag with a non-* wildcard pattern wins; otherwise, the last version tag with a * pattern wins". 01 departs from it: globs with a star rank
--- behind those without one, whatever node they are in; and within a node an exact general line goes before an exact C++ one, global or local. The manual
--- of ld says only that no two nodes should match a symbol at the same rank. Assumes nothing.
+-- The line that decides a name, as 01 has it under 'Ranking'. The source's own comments on the rule, which it takes from LLD: "1) The first version tag with an
+-- exact pattern wins." "2) Otherwise, the last version tag with a non-* wildcard pattern wins ('global' should be checked first). Otherwise, the last version
+-- tag with a * pattern wins." "3) Otherwise, the last version tag with match all (*)." 01 says besides in which order the four kinds of exact lines of a node are
+-- asked. Assumes nothing.
 use Prim.Native.Nat.{ℕ, zero, suc, _+_}
 use mathlib.Core.List.{List, [], _∷_, _++_}
 use mathlib.Core.Bool.{Bool, cond, _&&_}

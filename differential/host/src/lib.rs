@@ -18,13 +18,19 @@ pub mod class {
     }
 }
 
-/// The refusals that these functions give, by their numbers.
+/// The refusals, by their numbers.
 pub mod refusal {
     pub const OVER_THE_LIMIT: u64 = 1;
+    pub const UNREADABLE: u64 = 2;
+    pub const UNCLOSED: u64 = 3;
+    pub const BAD_EXTERN: u64 = 4;
     pub const GLOB_NOT_UTF8: u64 = 5;
     pub const BAD_GLOB: u64 = 6;
+    pub const UNKNOWN_PARENT: u64 = 7;
     pub const NO_ROOM: u64 = 8;
     pub const NAME_NOT_UTF8: u64 = 9;
+    pub const WRONG_KIND: u64 = 13;
+    pub const NO_BOOK: u64 = 14;
 }
 
 /// The longest token, pattern and name that are taken.

@@ -6,18 +6,13 @@
 //! is private there. linker_script.rs as a whole needs much of the linker; of it the skip function
 //! is cut out, with its error type and the file's own imports of winnow.
 
-use std::path::Path;
-use std::{env, fs};
+include!("../../host/archive.rs");
+
+use std::fs;
 
 fn main() {
-    let archive = given("TUNOYAKET_READING_ARCHIVE");
-    watched(&archive);
-
-    // Under one name, whatever the archive's own is.
+    link_archive("TUNOYAKET_READING_ARCHIVE", "reading");
     let out = given("OUT_DIR");
-    fs::copy(&archive, format!("{out}/libreading.a")).expect("the archive can be copied");
-    println!("cargo:rustc-link-search=native={out}");
-    println!("cargo:rustc-link-lib=static=reading");
 
     let probes = format!("{}/src/probes", given("CARGO_MANIFEST_DIR"));
     let probe = |name| {
@@ -95,14 +90,4 @@ fn item<'a>(whole: &'a str, start: &str) -> &'a str {
         .filter_map(|end| Some(text.find(end)? + end.len()))
         .min();
     &text[..end.expect("an item ends")]
-}
-
-fn watched(file: &str) {
-    assert!(Path::new(file).is_file(), "{file} is not there");
-    println!("cargo:rerun-if-changed={file}");
-}
-
-fn given(variable: &str) -> String {
-    println!("cargo:rerun-if-env-changed={variable}");
-    env::var(variable).unwrap_or_else(|_| panic!("{variable} is not set"))
 }

@@ -2,7 +2,7 @@
 //! reader reads, and whether the two agree.
 
 use crate::events;
-use differential::hex;
+use differential::report::{expect, smallest};
 use differential::tally::Tally;
 use host::refusal;
 use reading_host::ours::{self, WIDTH};
@@ -87,10 +87,8 @@ impl Comparison {
         };
         let memory = &mut self.memory;
         self.tally.judge(outside, agree, || {
-            let (text, what) = memory.smallest(source, text);
-            let shown = text.escape_ascii().to_string();
-            let [hex, shown, what] = [hex(&text), shown, what].map(cut);
-            format!("{source:?} {hex} `{shown}`, {} bytes: {what}", text.len())
+            let differs = |text: &[u8]| memory.different(source, text);
+            format!("{source:?} {}", smallest(text, differs))
         });
     }
 }
@@ -209,42 +207,11 @@ impl Memory {
         &self.0[GUARD..GUARD + count * WIDTH]
     }
 
-    /// A text that differs, made shorter byte by byte as long as it differs, and what is wrong.
-    fn smallest(&mut self, source: Source, text: &[u8]) -> (Vec<u8>, String) {
-        let mut text = text.to_vec();
-        let Verdict::Different(mut what) = self.verdict(source, &text) else {
-            return (text, "at one call and not at the next".to_string());
-        };
-        let mut at = 0;
-        while at < text.len() && text.len() < 10_000 {
-            let mut shorter = text.clone();
-            shorter.remove(at);
-            match self.verdict(source, &shorter) {
-                Verdict::Different(words) => {
-                    text = shorter;
-                    what = words;
-                    at = 0;
-                }
-                _ => at += 1,
-            }
+    /// What is wrong with a text, where it differs.
+    fn different(&mut self, source: Source, text: &[u8]) -> Option<String> {
+        match self.verdict(source, text) {
+            Verdict::Different(what) => Some(what),
+            _ => None,
         }
-        (text, what)
-    }
-}
-
-/// Words short enough to be printed.
-fn cut(mut words: String) -> String {
-    if let Some((at, _)) = words.char_indices().nth(600) {
-        words.truncate(at);
-        words += "..";
-    }
-    words
-}
-
-fn expect(holds: bool, what: impl FnOnce() -> String) -> Result<(), String> {
-    if holds {
-        Ok(())
-    } else {
-        Err(what())
     }
 }

@@ -20,11 +20,11 @@
 //! refuses for a glob or for an unknown parent is left out: the reader, which knows syntax only,
 //! may accept it.
 
-use crate::scripts::{self, Kind};
 use differential::domain::adjacent_stars;
 use differential::hex;
 use differential::inputs::Random;
 use host::class;
+use reading::scripts::{self, Kind};
 use reading_host::kept::{Line, Matcher, Node};
 use reading_host::published::{self, Answer};
 use reading_host::Source;

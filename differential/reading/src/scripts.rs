@@ -1,7 +1,8 @@
 //! Inputs of a reader: the words of the grammar, frames to set texts into, texts at which a rule is
 //! easily read two ways, and random scripts, well formed and damaged.
 
-use differential::inputs::Random;
+use differential::inputs::{every, long, Random};
+use reading_host::Source;
 
 /// The words that mean something to a reader, two letters, and a star.
 pub const WORDS: [&[u8]; 17] = [
@@ -236,6 +237,103 @@ pub fn damaged(random: &mut Random, text: &[u8]) -> Vec<u8> {
         text.insert(at, byte);
     }
     text
+}
+
+/// Every text of at most so many pieces, in each frame.
+pub fn framed(frames: &[[&[u8]; 2]], pieces: &[&[u8]], most: usize, take: &mut dyn FnMut(&[u8])) {
+    for [front, back] in frames {
+        let mut framed = Vec::new();
+        every(pieces, most, &mut |text| {
+            framed.clear();
+            framed.extend_from_slice(front);
+            framed.extend_from_slice(text);
+            framed.extend_from_slice(back);
+            take(&framed);
+        });
+    }
+}
+
+/// In each round, a random text of each kind, and five copies with one byte damaged. What takes
+/// them may draw numbers too.
+pub fn whole_and_damaged(
+    random: &mut Random,
+    kinds: &[Kind],
+    rounds: u64,
+    take: &mut dyn FnMut(&mut Random, &[u8]),
+) {
+    for _ in 0..rounds {
+        for &kind in kinds {
+            let text = self::random(random, kind);
+            take(random, &text);
+            for _ in 0..5 {
+                let text = damaged(random, &text);
+                take(random, &text);
+            }
+        }
+    }
+}
+
+/// Blocks within blocks, closed and not closed.
+pub fn nested(take: &mut dyn FnMut(&[u8])) {
+    for count in [1, 2, 3, 10, 100, 1000, 5000] {
+        let open = b"extern \"C\"{".repeat(count);
+        for inside in [&b""[..], b"a;", b"a", b";"] {
+            for closed in [0, 1, count - 1, count] {
+                let close = b"};".repeat(closed);
+                for [front, back] in [[&b""[..], &b""[..]], [b"{", b"};"], [b"A {", b"};"]] {
+                    take(&[front, &open, inside, &close, back].concat());
+                }
+            }
+        }
+    }
+}
+
+/// Texts of the longest lengths that are taken, and of up to two bytes less and more; tokens of the
+/// longest length, with blanks behind them.
+pub fn limits(take: &mut dyn FnMut(&[u8])) {
+    let block = [b"b".repeat(60_000), b";".to_vec()].concat();
+    let shapes: [[&[u8]; 3]; 14] = [
+        [b"{", b"a;", b";};"],
+        [b"{", b"haze_month;\n", b";};"],
+        [b"{", b" ", b"};"],
+        [b"", b"\n", b"{};"],
+        [b"{/*", b"c", b"*/};"],
+        [b"{};#", b"c", b"\n"],
+        [b"", b"A", b"{};"],
+        [b"", b"A{};", b"{};"],
+        [b"A{}", b"p", b";"],
+        [b"{extern \"C\"{", &block, b"};};"],
+        [b"extern \"C++\"{", &block, b"};"],
+        [b"extern \"C\"{};", b" ", b"\n"],
+        [b"", b"a", b";"],
+        [b"\"", b"*", b"\""],
+    ];
+    for shape in shapes {
+        for limit in [Source::Script.limit(), Source::AddSymbol.limit()] {
+            for length in limit - 2..=limit + 2 {
+                take(&long(shape, length));
+            }
+        }
+    }
+    let limit = Source::AddSymbol.limit();
+    for length in limit - 2..=limit + 2 {
+        for token in [
+            long([b"", b"a", b""], length),
+            long([b"\"", b"a", b"\""], length),
+            long([b"", b"\\*", b""], length),
+            long([b"*", b"a", b"?"], length),
+            long([b"?", b"a", b"["], length),
+        ] {
+            for [front, back] in [
+                [&b"{"[..], &b";};"[..]],
+                [b"{", b" \t;};"],
+                [b"{extern \"C\"{", b"\n};};"],
+                [b"A{", b"};"],
+            ] {
+                take(&[front, &token, back].concat());
+            }
+        }
+    }
 }
 
 struct Script<'r> {

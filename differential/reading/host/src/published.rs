@@ -4,11 +4,12 @@ use crate::kept::{Kept, Node};
 use crate::linker_script::if_it_ends;
 use crate::{export_list, version_script, Source};
 
-/// An accepted text: its nodes in order of reading, before anything becomes a set, and what the
-/// Rust keeps.
+/// An accepted text: its nodes in order of reading, before anything becomes a set, what the Rust
+/// keeps, and the counts of versions and parents that it gives for a script.
 pub struct Accepted {
     pub nodes: Vec<Node>,
     pub kept: Kept,
+    pub counts: Option<[u16; 2]>,
 }
 
 pub enum Answer {

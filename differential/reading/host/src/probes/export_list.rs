@@ -55,6 +55,7 @@ fn accepted(globals: Vec<Matcher>, list: ExportList) -> Accepted {
     Accepted {
         nodes: vec![node],
         kept: Kept::Nodes(vec![kept]),
+        counts: None,
     }
 }
 

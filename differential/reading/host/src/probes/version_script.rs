@@ -19,7 +19,11 @@ pub(crate) fn script(text: &[u8]) -> Option<Accepted> {
         }
     };
     let nodes = nodes(text).expect("an accepted script is read again");
-    Some(Accepted { nodes, kept })
+    Some(Accepted {
+        nodes,
+        kept,
+        counts: Some([script.version_count(), script.parent_count()]),
+    })
 }
 
 /// The nodes in order of reading: the steps of `parse_version_script`, by its own functions, with

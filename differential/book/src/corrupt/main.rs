@@ -1,0 +1,369 @@
+//! Holds the proved library's refusal 14 against the plain reading of document 01's row 14 in this
+//! crate, on books that are whole and on books with something changed.
+//!
+//!     corrupt [--seed N] [--rounds N]   compare; exit status 1 when anything differs
+//!
+//! The books are opened by the library from random scripts and export lists, into rooms of random
+//! sizes; half of those that can have them are given more nodes, and adds, strikes and undos, by
+//! document 01's rules, on a model apart from buffers, and laid out again. Such a book must be one,
+//! by both. Then, a hundred times for each, a copy of its buffers is changed, and both are asked:
+//! the count of versions and the count of parents are either both refused 14, or are what the model
+//! that is read out of the buffers says (13 for an export list). Which kinds of change left a book
+//! and which did not is printed at the end.
+
+mod changes;
+
+use book::buffers::{Buffers, Rooms};
+use book::fault::fault;
+use book::model::{Line, Model, Node};
+use book::{kind, limit, ours};
+use changes::CHANGES;
+use differential::command::Program;
+use differential::inputs::Random;
+use differential::report::cut;
+use differential::tally::Tally;
+use host::{class, refusal};
+use reading::scripts::{self, Kind};
+use reading_host::Source;
+use std::collections::BTreeMap;
+use std::process::ExitCode;
+
+/// How often something is changed in a copy of each book.
+const TIMES: usize = 100;
+
+fn main() -> ExitCode {
+    Program {
+        name: "corrupt",
+        rounds: 200_000,
+        compared,
+        sample: None,
+    }
+    .run()
+}
+
+/// The whole comparison; true when nothing differed.
+fn compared(mut random: Random, rounds: u64) -> bool {
+    let mut comparison = Comparison {
+        tally: Tally::new([]),
+        kinds: [0; 3],
+        edited: 0,
+        changed: vec![[0; 2]; CHANGES.len()],
+        faults: BTreeMap::new(),
+    };
+    comparison.phase("books, whole and changed", |comparison| {
+        for _ in 0..rounds {
+            let book = good(&mut random);
+            comparison.whole(&book);
+            for _ in 0..TIMES {
+                comparison.change(&mut random, &book);
+            }
+        }
+    });
+    comparison.phase("around the limits", limits);
+    comparison.finish()
+}
+
+struct Comparison {
+    tally: Tally<0>,
+    /// How many whole books of each kind, and how many of them with edits.
+    kinds: [u64; 3],
+    edited: u64,
+    /// By the change: how many were refused 14, and how many were still books.
+    changed: Vec<[u64; 2]>,
+    /// How many were refused for each reason.
+    faults: BTreeMap<&'static str, u64>,
+}
+
+impl Comparison {
+    /// Runs a named part, and prints how many comparisons it made.
+    fn phase(&mut self, name: &'static str, run: impl FnOnce(&mut Self)) {
+        self.tally.begin(name);
+        run(self);
+        self.tally.end();
+    }
+
+    /// The last lines; true when nothing differed.
+    fn finish(self) -> bool {
+        let [regular, rust, lists] = self.kinds;
+        println!(
+            "whole books: {regular} regular, {rust} of the Rust kind, {lists} export lists; {} of them with edits",
+            self.edited
+        );
+        println!("\n| change | refused 14 | still a book |\n|---|--:|--:|");
+        for (change, [refused, book]) in CHANGES.iter().zip(&self.changed) {
+            println!("| {} | {refused} | {book} |", change.words);
+        }
+        println!("\n| what is wrong first | times |\n|---|--:|");
+        for (words, times) in &self.faults {
+            println!("| {words} | {times} |");
+        }
+        println!();
+        self.tally.finish()
+    }
+
+    /// A book that nothing is wrong with.
+    fn whole(&mut self, book: &Buffers) {
+        let counts = book.counted();
+        self.kinds[counts.kind as usize] += 1;
+        self.edited += u64::from(counts.edits > 0);
+        let fault = fault(book);
+        let agree = fault.is_none() && answers(book) == wanted(book);
+        self.tally.judge(None, agree, || {
+            format!(
+                "a whole book: {fault:?}, {:?}, {}",
+                answers(book),
+                told(book)
+            )
+        });
+    }
+
+    /// One change. A kind that finds nothing to change, or changes nothing, is drawn again.
+    fn change(&mut self, random: &mut Random, whole: &Buffers) {
+        let (number, book) = loop {
+            let number = random.below(CHANGES.len());
+            let mut book = whole.clone();
+            (CHANGES[number].make)(random, &mut book);
+            if book != *whole {
+                break (number, book);
+            }
+        };
+        let refused = self.held(&book, CHANGES[number].words);
+        self.changed[number][usize::from(!refused)] += 1;
+    }
+
+    /// Holds the library's answers against the plain reading; true when that is 14.
+    fn held(&mut self, book: &Buffers, words: &str) -> bool {
+        let fault = fault(book);
+        let (got, want) = (answers(book), wanted(book));
+        self.tally.judge(None, got == want, || {
+            let fault = fault.unwrap_or("a book");
+            format!(
+                "{words}: {fault}, and the answers are {got:?}: {}",
+                told(book)
+            )
+        });
+        if let Some(fault) = fault {
+            *self.faults.entry(fault).or_default() += 1;
+        }
+        fault.is_some()
+    }
+}
+
+/// The library's two counts.
+fn answers(book: &Buffers) -> [Result<u32, u64>; 2] {
+    [ours::version_count(book), ours::parent_count(book)]
+}
+
+/// What they must be.
+fn wanted(book: &Buffers) -> [Result<u32, u64>; 2] {
+    if fault(book).is_some() {
+        return [Err(refusal::NO_BOOK); 2];
+    }
+    match Model::of(book).counts() {
+        Some(counts) => counts.map(Ok),
+        None => [Err(refusal::WRONG_KIND); 2],
+    }
+}
+
+fn told(book: &Buffers) -> String {
+    cut(format!(
+        "counts {:?}, nodes {:?}, names {:?}, lines {:?}, pool {:?}, journal {:?}",
+        &book.counts[..],
+        &book.nodes[..],
+        &book.names[..],
+        &book.lines[..],
+        &book.pool[..],
+        &book.journal[..],
+    ))
+}
+
+/// A random book, in rooms with a little to spare, which is not always a whole row.
+fn good(random: &mut Random) -> Buffers {
+    let mut model = opened(random);
+    if model.kind == kind::REGULAR && random.one_in(2) {
+        name(random, &mut model);
+    }
+    if model.kind != kind::RUST && random.one_in(2) {
+        edit(random, &mut model);
+    }
+    let needs = model.needs();
+    let mut room = |needed: usize| match random.one_in(3) {
+        true => needed,
+        false => needed + random.below(12),
+    };
+    model.laid(Rooms {
+        nodes: room(needs.nodes),
+        names: room(needs.names),
+        lines: room(needs.lines),
+        pool: room(needs.pool),
+        journal: room(needs.journal),
+    })
+}
+
+/// What the library opens; texts that it refuses, and most of those without a line, are drawn again.
+fn opened(random: &mut Random) -> Model {
+    loop {
+        let kind = random.pick(&[
+            Kind::Nodes,
+            Kind::Nodes,
+            Kind::Nodes,
+            Kind::OneBody,
+            Kind::RustKind,
+            Kind::ExportList,
+        ]);
+        let text = scripts::random(random, kind);
+        let source = match kind {
+            Kind::ExportList => Source::ExportList,
+            _ => Source::Script,
+        };
+        let mut book = Buffers::new(Rooms::ample(text.len()));
+        if ours::open(source, &text, &mut book) != 0 {
+            continue;
+        }
+        let model = Model::of(&book);
+        if model.lines.is_empty() && !random.one_in(16) {
+            continue;
+        }
+        return model;
+    }
+}
+
+/// Some more nodes, with a parent that a reading can give: the first of its name, without a `;`.
+fn name(random: &mut Random, model: &mut Model) {
+    let names: [&[u8]; 10] = [
+        b"A", b"A", b"B", b"A;b", b";", b"/", b"A#", b"\x0b", b"\xff", b"A\r",
+    ];
+    for _ in 0..random.below(8) {
+        let drawn = random.below(model.nodes.len());
+        let parent = &model.nodes[drawn].name;
+        let first = model.nodes.iter().position(|node| node.name == *parent);
+        let parent = match parent.contains(&b';') {
+            true => 0,
+            false => first.expect("it has it"),
+        };
+        model.nodes.push(Node {
+            name: random.pick(&names).to_vec(),
+            parent,
+        });
+    }
+}
+
+/// Lines that a token of each class is stored as.
+const STORED: [(u64, &[u8]); 12] = [
+    (class::EXACT, b"haze"),
+    (class::EXACT, b""),
+    (class::EXACT, b"[^"),
+    (class::ESCAPED, b"a*"),
+    (class::ESCAPED, b"\\"),
+    (class::NON_STAR, b"a?"),
+    (class::NON_STAR, b"[!a]\xc3\xa9"),
+    (class::NON_STAR, b"[]]"),
+    (class::STAR, b"*a"),
+    (class::STAR, b"[**]?*"),
+    (class::STAR, b"a*b"),
+    (class::ALL, b""),
+];
+
+/// Some adds, strikes of standing lines, and undos.
+fn edit(random: &mut Random, model: &mut Model) {
+    let list = model.kind == kind::EXPORT_LIST;
+    for _ in 0..random.below(10) {
+        let standing: Vec<usize> = (0..model.lines.len())
+            .filter(|&line| !model.lines[line].struck)
+            .collect();
+        match random.below(7) {
+            0..=2 => {
+                let (class, bytes) = random.pick(&STORED);
+                model.add(Line {
+                    node: random.below(model.nodes.len()),
+                    class,
+                    section: if list { 0 } else { random.below(2) },
+                    language: random.below(2),
+                    ..Line::exact(bytes)
+                });
+            }
+            3 => model.undo(),
+            _ if !standing.is_empty() => model.strike(random.pick(&standing)),
+            _ => {}
+        }
+    }
+}
+
+/// Books with as many nodes, lines, pool bytes and edits as are taken, and up to two less and more,
+/// in rooms that are larger; a line as long as it can be; and more bytes of names than a script has.
+fn limits(comparison: &mut Comparison) {
+    let over = |limit: usize| limit - 2..=limit + 2;
+    let mut held = |words, model: &Model, within: bool| {
+        let needs = model.needs();
+        let book = model.laid(Rooms {
+            nodes: needs.nodes + 10,
+            names: needs.names + 3,
+            lines: needs.lines + 10,
+            pool: needs.pool + 3,
+            journal: needs.journal + 5,
+        });
+        let refused = comparison.held(&book, words);
+        comparison.tally.judge(None, refused != within, || {
+            format!("{words}: {:?} {:?}", book.counted(), fault(&book))
+        });
+    };
+    let regular = || Model::new(kind::REGULAR);
+    for count in over(limit::NODES) {
+        let mut model = regular();
+        for number in 1..count {
+            let name = format!("N{number}").into_bytes();
+            let parent = number / 2;
+            model.nodes.push(Node { name, parent });
+        }
+        held("nodes", &model, count <= limit::NODES);
+    }
+    for count in over(limit::LINES) {
+        let mut model = regular();
+        model.lines = vec![Line::exact(b"ab"); count];
+        held("lines", &model, count <= limit::LINES);
+    }
+    for bytes in over(limit::POOL) {
+        let mut model = regular();
+        let long = Line::exact(&b"a".repeat(limit::TOKEN));
+        model.lines = vec![long; limit::POOL / limit::TOKEN - 1];
+        for part in [limit::TOKEN / 2, bytes - limit::POOL + limit::TOKEN / 2] {
+            model.lines.push(Line::exact(&b"b".repeat(part)));
+        }
+        held("pool", &model, bytes <= limit::POOL);
+    }
+    for count in over(limit::EDITS) {
+        let mut model = regular();
+        for number in 0..count / 2 {
+            model.add(Line::exact(b"c"));
+            model.strike(number);
+        }
+        if count % 2 == 1 {
+            model.add(Line::exact(b"c"));
+        }
+        held("edits", &model, count <= limit::EDITS);
+    }
+    for length in over(limit::TOKEN) {
+        for (class, byte) in [
+            (class::EXACT, b"a"),
+            (class::STAR, b"?"),
+            (class::ESCAPED, b"*"),
+        ] {
+            let mut model = Model::new(kind::EXPORT_LIST);
+            model.lines.push(Line {
+                class,
+                ..Line::exact(&byte.repeat(length))
+            });
+            held("a line's length", &model, length <= limit::TOKEN);
+        }
+    }
+    for length in over(limit::SCRIPT) {
+        let mut model = regular();
+        for letter in [b"A", b"B"] {
+            model.nodes.push(Node {
+                name: letter.repeat(length),
+                parent: model.nodes.len() - 1,
+            });
+        }
+        held("a name's length", &model, true);
+    }
+}

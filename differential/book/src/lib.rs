@@ -1,0 +1,31 @@
+//! A book in lent buffers: the proved library's functions over it (`ours`), document 01's row 14
+//! read slowly (`fault`), and a book apart from buffers, which can be edited and laid out (`model`).
+
+pub mod buffers;
+pub mod fault;
+pub mod model;
+pub mod ours;
+
+/// The kinds of a book.
+pub mod kind {
+    pub const REGULAR: u32 = 0;
+    pub const RUST: u32 = 1;
+    pub const EXPORT_LIST: u32 = 2;
+}
+
+/// Limits, last accepted.
+pub mod limit {
+    pub const SCRIPT: usize = 1_048_576;
+    pub const TOKEN: usize = 65_536;
+    pub const NODES: usize = 1_024;
+    pub const LINES: usize = 16_384;
+    pub const POOL: usize = 2_097_152;
+    pub const EDITS: usize = 4_096;
+}
+
+/// The numbers of a row.
+pub mod width {
+    pub const NODE: usize = 3;
+    pub const LINE: usize = 4;
+    pub const EDIT: usize = 2;
+}

@@ -1,0 +1,186 @@
+//! A book apart from buffers: read out of them, edited by document 01's rules, and laid out again.
+
+use crate::buffers::{Buffers, Lent, Rooms};
+use crate::{kind, width};
+use host::class;
+
+#[derive(Clone, Debug, PartialEq, Eq)]
+pub struct Model {
+    pub kind: u32,
+    pub nodes: Vec<Node>,
+    pub lines: Vec<Line>,
+    pub edits: Vec<Edit>,
+}
+
+#[derive(Clone, Debug, Default, PartialEq, Eq)]
+pub struct Node {
+    pub name: Vec<u8>,
+    /// Its number, or 0.
+    pub parent: usize,
+}
+
+/// Section 1 is local, language 1 C++.
+#[derive(Clone, Debug, PartialEq, Eq)]
+pub struct Line {
+    pub node: usize,
+    pub class: u64,
+    pub section: usize,
+    pub language: usize,
+    pub struck: bool,
+    pub bytes: Vec<u8>,
+}
+
+#[derive(Clone, Copy, Debug, PartialEq, Eq)]
+pub enum Edit {
+    Add(usize),
+    Strike(usize),
+}
+
+impl Model {
+    /// One with node 0 alone, and no lines.
+    pub fn new(kind: u32) -> Self {
+        Self {
+            kind,
+            nodes: vec![Node::default()],
+            lines: Vec::new(),
+            edits: Vec::new(),
+        }
+    }
+
+    /// Reads buffers that are a book.
+    pub fn of(book: &Buffers) -> Self {
+        let counts = book.counted();
+        let part = |bytes: &[u8], start: u32, length: u32| {
+            bytes[start as usize..][..length as usize].to_vec()
+        };
+        let nodes = book.nodes.chunks_exact(width::NODE).take(counts.nodes);
+        let lines = book.lines.chunks_exact(width::LINE).take(counts.lines);
+        let edits = book.journal.chunks_exact(width::EDIT).take(counts.edits);
+        Self {
+            kind: counts.kind,
+            nodes: nodes
+                .map(|row| Node {
+                    name: part(&book.names, row[0], row[1]),
+                    parent: row[2] as usize,
+                })
+                .collect(),
+            lines: lines
+                .map(|row| Line {
+                    node: row[0] as usize,
+                    class: u64::from(row[1] % 32 / 4),
+                    section: (row[1] / 2 % 2) as usize,
+                    language: (row[1] % 2) as usize,
+                    struck: row[1] >= 32,
+                    bytes: part(&book.pool, row[2], row[3]),
+                })
+                .collect(),
+            edits: edits
+                .map(|row| match row[0] {
+                    1 => Edit::Add(row[1] as usize),
+                    _ => Edit::Strike(row[1] as usize),
+                })
+                .collect(),
+        }
+    }
+
+    pub fn add(&mut self, line: Line) {
+        self.edits.push(Edit::Add(self.lines.len()));
+        self.lines.push(line);
+    }
+
+    pub fn strike(&mut self, line: usize) {
+        self.edits.push(Edit::Strike(line));
+        self.lines[line].struck = true;
+    }
+
+    /// Takes the latest edit back, if there is one.
+    pub fn undo(&mut self) {
+        match self.edits.pop() {
+            Some(Edit::Add(_)) => {
+                self.lines.pop();
+            }
+            Some(Edit::Strike(line)) => self.lines[line].struck = false,
+            None => {}
+        }
+    }
+
+    /// "The count of versions is 0 when only node 0 stands, else all nodes"; and how many nodes have
+    /// a parent. An export list has neither.
+    pub fn counts(&self) -> Option<[u32; 2]> {
+        if self.kind == kind::EXPORT_LIST {
+            return None;
+        }
+        let versions = match self.nodes.len() {
+            1 => 0,
+            count => count,
+        };
+        let parents = self.nodes.iter().filter(|node| node.parent != 0).count();
+        Some([versions as u32, parents as u32])
+    }
+
+    /// The rooms that it needs, to the last number and byte.
+    pub fn needs(&self) -> Rooms {
+        Rooms {
+            nodes: width::NODE * self.nodes.len(),
+            names: self.nodes.iter().map(|node| node.name.len()).sum(),
+            lines: width::LINE * self.lines.len(),
+            pool: self.lines.iter().map(|line| line.bytes.len()).sum(),
+            journal: width::EDIT * self.edits.len(),
+        }
+    }
+
+    /// In buffers of these rooms, or of what it needs where that is more.
+    pub fn laid(&self, rooms: Rooms) -> Buffers {
+        let (mut nodes, mut names) = (Vec::new(), Vec::new());
+        for Node { name, parent } in &self.nodes {
+            nodes.extend([names.len(), name.len(), *parent].map(|number| number as u32));
+            names.extend_from_slice(name);
+        }
+        let (mut lines, mut pool) = (Vec::new(), Vec::new());
+        for line in &self.lines {
+            let code = line.class as usize * 4 + line.section * 2 + line.language;
+            let code = if line.struck { code + 32 } else { code };
+            let row = [line.node, code, pool.len(), line.bytes.len()];
+            lines.extend(row.map(|number| number as u32));
+            pool.extend_from_slice(&line.bytes);
+        }
+        let edits = self.edits.iter().flat_map(|edit| match *edit {
+            Edit::Add(line) => [1, line as u32],
+            Edit::Strike(line) => [2, line as u32],
+        });
+        let edits: Vec<u32> = edits.collect();
+        let counts = [
+            self.nodes.len(),
+            names.len(),
+            self.lines.len(),
+            pool.len(),
+            self.edits.len(),
+        ];
+        let counts: Vec<u32> = [self.kind]
+            .into_iter()
+            .chain(counts.map(|count| count as u32))
+            .collect();
+        Buffers {
+            counts: Lent::holding(&counts, 6),
+            nodes: Lent::holding(&nodes, rooms.nodes),
+            names: Lent::holding(&names, rooms.names),
+            lines: Lent::holding(&lines, rooms.lines),
+            pool: Lent::holding(&pool, rooms.pool),
+            journal: Lent::holding(&edits, rooms.journal),
+        }
+    }
+}
+
+impl Line {
+    /// A general global line of node 0 that stands.
+    pub fn exact(bytes: &[u8]) -> Self {
+        Self {
+            node: 0,
+            class: class::EXACT,
+            section: 0,
+            language: 0,
+            struck: false,
+            bytes: bytes.to_vec(),
+        }
+    }
+}
