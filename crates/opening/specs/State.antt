@@ -33,7 +33,7 @@ use Rattle.opening.specs.Opening.{Opening, opens, declined, finished, le
 abbrev pub counts-so-far : Progress → Counts
 counts-so-far g = record { kind = regular; nodes = g .nodes; names = g .names; lines = g .lines; pool = g .pool; edits = 0 }
 
--- whether the buffers hold it, node 0 at least. A name lies in the text, so no name is longer than one
+-- whether the buffers hold it, node 0 at least. A name lies in a script, so none is longer than the longest script
 unfoldable pub built : Progress → Buffers → Bool
 built g b = ltb 0 (g .nodes) && (leb (g .names) (script-limit * g .nodes) && laid (counts-so-far g) b)
 

@@ -33,7 +33,9 @@ returns c =
     let z = c .before .before .before .before in
     let y = z .before .before .before .before .before .before .before .before .before .before in
     let a = y .before .before .before .before .before .before .before .before .before .before .before .args in
-    open-long (a .place) (a .nodes .now) (a .names .now) (a .lines .now) (a .pool .now) (a .journal .now) (a .text .now) (y .clear-book .last .0) (y .clear-book .last .1 .0) (y .clear-book .last .1 .1 .0) (y .clear-book .last .1 .1 .1 .0) (z .clear-numbers .last .0)
+    open-long (a .place) (a .nodes .now) (a .names .now) (a .lines .now) (a .pool .now) (a .journal .now) (a .text .now)
+    (y .clear-book .last .0) (y .clear-book .last .1 .0) (y .clear-book .last .1 .1 .0) (y .clear-book .last .1 .1 .1 .0)
+    (z .clear-numbers .last .0)
     (y .clear-book .ensures) (z .clear-numbers .ensures) (c .refused .result) (c .before .if1 .taken) (c .refused .ensures)
 
 refused-requires-2 : tie.Need-refused-requires-2
@@ -59,7 +61,9 @@ returns-2 c =
     let z = c .before .before .before .before .before in
     let y = z .before .before .before .before .before .before .before .before .before .before in
     let a = y .before .before .before .before .before .before .before .before .before .before .before .args in
-    open-roomless (a .place) (a .nodes .now) (a .names .now) (a .lines .now) (a .pool .now) (a .journal .now) (a .text .now) (y .clear-book .last .0) (y .clear-book .last .1 .0) (y .clear-book .last .1 .1 .0) (y .clear-book .last .1 .1 .1 .0) (z .clear-numbers .last .0)
+    open-roomless (a .place) (a .nodes .now) (a .names .now) (a .lines .now) (a .pool .now) (a .journal .now) (a .text .now)
+    (y .clear-book .last .0) (y .clear-book .last .1 .0) (y .clear-book .last .1 .1 .0) (y .clear-book .last .1 .1 .1 .0)
+    (z .clear-numbers .last .0)
     (y .clear-book .ensures) (z .clear-numbers .ensures) (c .refused2 .result) (c .before .before .if1 .left) (c .before .if2 .taken) (c .refused2 .ensures)
 
 fill-requires : tie.Need-fill-requires
@@ -88,7 +92,9 @@ returns-3 c =
     let z = x .before .before .before .before .before .before .before .before .before in
     let y = z .before .before .before .before .before .before .before .before .before .before in
     let a = y .before .before .before .before .before .before .before .before .before .before .before .args in
-    open-filled (a .place) (a .nodes .now) (a .names .now) (a .lines .now) (a .pool .now) (a .journal .now) (a .text .now) (y .clear-book .last .0) (y .clear-book .last .1 .0) (y .clear-book .last .1 .1 .0) (y .clear-book .last .1 .1 .1 .0) (z .clear-numbers .last .0)
+    open-filled (a .place) (a .nodes .now) (a .names .now) (a .lines .now) (a .pool .now) (a .journal .now) (a .text .now)
+    (y .clear-book .last .0) (y .clear-book .last .1 .0) (y .clear-book .last .1 .1 .0) (y .clear-book .last .1 .1 .1 .0)
+    (z .clear-numbers .last .0)
     (y .clear-book .ensures) (z .clear-numbers .ensures) (x .fill .result) (x .fill .last .1 .1 .0) (x .fill .last .1 .1 .1 .0) (x .fill .last .1 .1 .1 .1 .0) (x .fill .last .1 .1 .1 .1 .1 .0)
     (x .before .before .before .before .before .before .if1 .left) (x .before .before .before .before .before .if2 .left) (x .fill .ensures)
 

@@ -33,8 +33,7 @@ finished-requires : tie.Need-finished-requires Inv-loop μ-loop
 finished-requires c κs =
     let x = c .before .before in
     let o = x .before .loop in
-    let a = x .before .before .before .before .before .before .before .before .args in
-    finished-asks (a .place) (a .s .now) (a .nodes .now) (a .names .now) (a .lines .now) (a .pool .now) (o .nodes) (o .names) (o .lines) (o .pool) (o .c) (o .g) (o .inv) (x .next-event .result) (x .next-event .ensures)
+    finished-asks _ _ _ _ _ _ _ _ _ _ _ _ (o .inv) (x .next-event .result) (x .next-event .ensures)
 
 same-length : tie.Need-same-length Inv-loop μ-loop
 same-length c = search needs
@@ -52,8 +51,7 @@ returns : tie.Need-returns Inv-loop μ-loop
 returns c =
     let x = c .before .before .before in
     let o = x .before .loop in
-    let a = x .before .before .before .before .before .before .before .before .args in
-    going-ends (a .place) (a .s .now) (a .nodes .now) (a .names .now) (a .lines .now) (a .pool .now) (o .nodes) (o .names) (o .lines) (o .pool) (o .c) (o .g) (o .inv) (x .next-event .result) (x .next-event .ensures) _ (c .before .enum-told .given .1) (c .finished .ensures)
+    going-ends _ _ _ _ _ _ _ _ _ _ _ _ (o .inv) (x .next-event .result) (x .next-event .ensures) _ (c .before .enum-told .given .1) (c .finished .ensures)
 
 enum-known-n : tie.Need-enum-known-n Inv-loop μ-loop
 enum-known-n c = search needs
@@ -74,8 +72,7 @@ returns-2 : tie.Need-returns-2 Inv-loop μ-loop
 returns-2 c =
     let x = c .before .before .before in
     let o = x .before .loop in
-    let a = x .before .before .before .before .before .before .before .before .args in
-    going-refused (a .place) (a .s .now) (a .nodes .now) (a .names .now) (a .lines .now) (a .pool .now) (o .nodes) (o .names) (o .lines) (o .pool) (o .c) (o .g) (o .inv) (x .next-event .result) (x .next-event .ensures) _ _ (c .before .n .given .1)
+    going-refused _ _ _ _ _ _ _ _ _ _ _ _ (o .inv) (x .next-event .result) (x .next-event .ensures) _ _ (c .before .n .given .1)
 
 enum-known-e : tie.Need-enum-known-e Inv-loop μ-loop
 enum-known-e c = search needs
@@ -84,8 +81,7 @@ take-event-requires : tie.Need-take-event-requires Inv-loop μ-loop
 take-event-requires c κs =
     let x = c .before .before .before .before .before .before .before in
     let o = x .before .loop in
-    let a = x .before .before .before .before .before .before .before .before .args in
-    (o .inv .holds, x .before .before .before .before .before .before .before .before .pre .0, event-lies (a .place) (a .s .now) (a .nodes .now) (a .names .now) (a .lines .now) (a .pool .now) (o .nodes) (o .names) (o .lines) (o .pool) (o .c) (o .g) (o .inv) (x .next-event .result) (x .next-event .ensures) _ _ (c .before .before .before .before .before .e .given .1))
+    (o .inv .holds, x .before .before .before .before .before .before .before .before .pre .0, event-lies _ _ _ _ _ _ _ _ _ _ _ _ (o .inv) (x .next-event .result) (x .next-event .ensures) _ _ (c .before .before .before .before .before .e .given .1))
 
 enum-known-n-2 : tie.Need-enum-known-n-2 Inv-loop μ-loop
 enum-known-n-2 c = search needs
@@ -107,8 +103,8 @@ returns-3 c =
     let t = c .before .before .before .before .before .before .before .before .before .before .before in
     let x = t .before .before .before .before .before .before .before .before in
     let o = x .before .loop in
-    let a = x .before .before .before .before .before .before .before .before .args in
-    going-no (a .place) (a .s .now) (a .nodes .now) (a .names .now) (a .lines .now) (a .pool .now) (o .nodes) (o .names) (o .lines) (o .pool) (o .c) (o .g) (o .inv) (x .next-event .result) (x .next-event .ensures) _ _ (t .before .before .before .before .before .before .e .given .1) (t .take-event .result) _ _ (t .take-event .last .1 .1 .1 .0) (t .take-event .last .1 .1 .1 .1 .0) (t .take-event .last .1 .1 .1 .1 .1 .0) (t .take-event .last .1 .1 .1 .1 .1 .1 .0) (c .before .n2 .given .1)
+    going-no _ _ _ _ _ _ _ _ _ _ _ _ (o .inv) (x .next-event .result) (x .next-event .ensures) _ _ (t .before .before .before .before .before .before .e .given .1) (t .take-event .result) _ _
+    (t .take-event .last .1 .1 .1 .0) (t .take-event .last .1 .1 .1 .1 .0) (t .take-event .last .1 .1 .1 .1 .1 .0) (t .take-event .last .1 .1 .1 .1 .1 .1 .0) (c .before .n2 .given .1)
     (t .take-event .ensures)
 
 enum-known-h : tie.Need-enum-known-h Inv-loop μ-loop
@@ -119,16 +115,15 @@ loop-less c =
     let t = c .before .before .before .before .before .before .before .before .before .before .before in
     let x = t .before .before .before .before .before .before .before .before in
     let o = x .before .loop in
-    let a = x .before .before .before .before .before .before .before .before .args in
-    going-onward (a .place) (a .s .now) (a .nodes .now) (a .names .now) (a .lines .now) (a .pool .now) (o .nodes) (o .names) (o .lines) (o .pool) (o .c) (o .g) (o .inv) (x .next-event .result) (x .next-event .ensures) _ _ (t .before .before .before .before .before .before .e .given .1)
+    going-onward _ _ _ _ _ _ _ _ _ _ _ _ (o .inv) (x .next-event .result) (x .next-event .ensures) _ _ (t .before .before .before .before .before .before .e .given .1)
 
 loop-again : tie.Need-loop-again Inv-loop μ-loop
 loop-again c =
     let t = c .before .before .before .before .before .before .before .before .before .before .before in
     let x = t .before .before .before .before .before .before .before .before in
     let o = x .before .loop in
-    let a = x .before .before .before .before .before .before .before .before .args in
-    going-on (a .place) (a .s .now) (a .nodes .now) (a .names .now) (a .lines .now) (a .pool .now) (o .nodes) (o .names) (o .lines) (o .pool) (o .c) (o .g) (o .inv) (x .next-event .result) (x .next-event .ensures) _ _ (t .before .before .before .before .before .before .e .given .1) (t .take-event .result) _ (t .take-event .last .1 .1 .1 .0) (t .take-event .last .1 .1 .1 .1 .0) (t .take-event .last .1 .1 .1 .1 .1 .0) (t .take-event .last .1 .1 .1 .1 .1 .1 .0) (c .before .h .given .1)
+    going-on _ _ _ _ _ _ _ _ _ _ _ _ (o .inv) (x .next-event .result) (x .next-event .ensures) _ _ (t .before .before .before .before .before .before .e .given .1) (t .take-event .result) _
+    (t .take-event .last .1 .1 .1 .0) (t .take-event .last .1 .1 .1 .1 .0) (t .take-event .last .1 .1 .1 .1 .1 .0) (t .take-event .last .1 .1 .1 .1 .1 .1 .0) (c .before .h .given .1)
     (t .take-event .ensures) (search needs) (search needs) (search needs) (search needs)
 
 pub build-spec : {M : Type 1} → statement M

@@ -35,7 +35,8 @@ returns : tie.Need-returns
 returns c =
     let x = c .before .before .before .before .before .before .before .before .before .before .before in
     let a = x .before .before .before .before .before .before .before .before .before .before .args in
-    fill-done _ (x .build .result) (a .nodes .now) (a .names .now) (a .lines .now) (a .pool .now) (x .build .last .1 .1 .0) (x .build .last .1 .1 .1 .0) (x .build .last .1 .1 .1 .1 .0) (x .build .last .1 .1 .1 .1 .1 .0) (x .build .ensures) _ (c .before .counts .given .1)
+    fill-done _ (x .build .result) (a .nodes .now) (a .names .now) (a .lines .now) (a .pool .now)
+    (x .build .last .1 .1 .0) (x .build .last .1 .1 .1 .0) (x .build .last .1 .1 .1 .1 .0) (x .build .last .1 .1 .1 .1 .1 .0) (x .build .ensures) _ (c .before .counts .given .1)
 
 same-length-5 : tie.Need-same-length-5
 same-length-5 c = search needs
@@ -54,7 +55,8 @@ returns-2 c =
     let y = c .before .before .before .before .before .before .before .before .before in
     let x = y .before .before .before .before .before .before .before .before .before .before .before .before .before .before .before .before in
     let a = x .before .before .before .before .before .before .before .before .before .before .args in
-    fill-refused _ (x .build .result) (a .nodes .now) (a .names .now) (a .lines .now) (a .pool .now) (x .build .last .1 .1 .0) (x .build .last .1 .1 .1 .0) (x .build .last .1 .1 .1 .1 .0) (x .build .last .1 .1 .1 .1 .1 .0) (x .build .ensures) _ _ (c .refused .result)
+    fill-refused _ (x .build .result) (a .nodes .now) (a .names .now) (a .lines .now) (a .pool .now)
+    (x .build .last .1 .1 .0) (x .build .last .1 .1 .1 .0) (x .build .last .1 .1 .1 .1 .0) (x .build .last .1 .1 .1 .1 .1 .0) (x .build .ensures) _ _ (c .refused .result)
     (y .clear-book .last .0) (y .clear-book .last .1 .0) (y .clear-book .last .1 .1 .0) (y .clear-book .last .1 .1 .1 .0) (y .before .before .before .before .before .before .n .given .1) (c .refused .ensures) (y .clear-book .ensures)
     (search needs) (search needs) (search needs) (search needs)
 

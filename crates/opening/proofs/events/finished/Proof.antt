@@ -20,7 +20,10 @@ cast-t7 : tie.Need-cast-t7
 cast-t7 c = search needs
 
 returns : tie.Need-returns
-returns c = λ n m l q e. let a = c .before .before .before .before .before .args in finished-counts (a .place) (a .g) n m l q e _ (rw (c .before .before .before .before .kind-of .ensures))
+returns c = λ n m l q e.
+    let k = c .before .before .before .before in
+    let a = k .before .args in
+    finished-counts (a .place) (a .g) n m l q e _ (rw (k .kind-of .ensures))
 
 pub finished-spec : {M : Type 1} → statement M
 finished-spec = tie.close (tie.spec kind-of-requires cast-t4 cast-t5 cast-t6 cast-t7 returns)

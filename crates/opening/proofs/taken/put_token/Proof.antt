@@ -18,7 +18,9 @@ part-store-token-start : tie.Need-part-store-token-start
 part-store-token-start c = search needs
 
 part-store-token-end : tie.Need-part-store-token-end
-part-store-token-end c = let a = c .before .before .before .before .before .args in omega (arith, room-length (a .pool .now), c .before .pool-end .ensures)
+part-store-token-end c =
+    let a = c .before .before .before .before .before .args in
+    omega (arith, room-length (a .pool .now), c .before .pool-end .ensures)
 
 store-token-requires : tie.Need-store-token-requires
 store-token-requires c κs = search needs
@@ -27,7 +29,14 @@ same-length : tie.Need-same-length
 same-length c = search needs
 
 returns : tie.Need-returns
-returns c = let a = c .before .before .before .before .before .before .before .before .before .args in put-stored (c .before .before .before .before .edition-of .result) (a .token .now) (a .pool .now) _ (a .at) (c .before .before .before .before .before .pool-end .result) (c .before .before .store-token .result) (c .before .before .before .before .edition-of .ensures) (c .before .before .before .before .before .pool-end .ensures) (c .before .before .before .before .before .before .before .before .before .pre) (c .before .before .store-token .ensures .0) (c .before .before .store-token .ensures .1)
+returns c =
+    let x = c .before .before in
+    let e = x .before .before in
+    let p = e .before in
+    let s = p .before .before .before .before in
+    let a = s .args in
+    put-stored (e .edition-of .result) (a .token .now) (a .pool .now) _ (a .at) (p .pool-end .result) (x .store-token .result) (e .edition-of .ensures)
+    (p .pool-end .ensures) (s .pre) (x .store-token .ensures .0) (x .store-token .ensures .1)
 
 pub put-token-spec : {M : Type 1} → statement M
 put-token-spec =

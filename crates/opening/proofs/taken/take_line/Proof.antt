@@ -31,7 +31,8 @@ returns : tie.Need-returns
 returns c =
     let x = c .before .before .before .before .before .before .before .before in
     let a = x .before .before .before .before .before .args in
-    line-rowless (a .g) (a .p) (a .section) (a .language) (a .token .now) (a .lines .now) (a .pool .now) (x .put-token .result) _ (x .put-token .ensures) _ _ [] [] (c .before .before .before .before .class .given .1) (sym (c .before .has-row .ensures) ∙ not-true _ (c .if1 .taken))
+    line-rowless (a .g) (a .p) (a .section) (a .language) (a .token .now) (a .lines .now) (a .pool .now) (x .put-token .result) _ (x .put-token .ensures)
+    _ _ [] [] (c .before .before .before .before .class .given .1) (sym (c .before .has-row .ensures) ∙ not-true _ (c .if1 .taken))
 
 class-number-requires : tie.Need-class-number-requires
 class-number-requires c κs = search needs
@@ -72,7 +73,11 @@ cast-put-four-2 : tie.Need-cast-put-four-2
 cast-put-four-2 c =
     let x = c .before .before .before .before .before .before .before .before .before .before .before in
     let a = x .before .before .before .before .before .args in
-    omega (arith, line-ends (a .g) (a .p) (a .section) (a .language) (a .token .now) (a .lines .now) (a .pool .now) (x .put-token .result) _ (x .put-token .ensures) _ _ (c .before .before .before .before .before .before .before .class .given .1))
+    omega (
+      arith,
+      line-ends (a .g) (a .p) (a .section) (a .language) (a .token .now) (a .lines .now) (a .pool .now) (x .put-token .result) _ (x .put-token .ensures)
+          _ _ (c .before .before .before .before .before .before .before .class .given .1),
+    )
 
 put-four-requires : tie.Need-put-four-requires
 put-four-requires c κs =
@@ -100,7 +105,11 @@ add-t35 : tie.Need-add-t35
 add-t35 c =
     let x = c .before .before .before .before .before .before .before .before .before .before .before .before .before .before .before .before in
     let a = x .before .before .before .before .before .args in
-    omega (arith, line-ends (a .g) (a .p) (a .section) (a .language) (a .token .now) (a .lines .now) (a .pool .now) (x .put-token .result) _ (x .put-token .ensures) _ _ (c .before .before .before .before .before .before .before .before .before .before .before .before .class .given .1))
+    omega (
+      arith,
+      line-ends (a .g) (a .p) (a .section) (a .language) (a .token .now) (a .lines .now) (a .pool .now) (x .put-token .result) _ (x .put-token .ensures)
+          _ _ (c .before .before .before .before .before .before .before .before .before .before .before .before .class .given .1),
+    )
 
 same-length-3 : tie.Need-same-length-3
 same-length-3 c = search needs
@@ -122,7 +131,8 @@ returns-3 c =
     let x = c .before .before .before .before .before .before .before .before .before .before .before .before .before .before .before .before in
     let a = x .before .before .before .before .before .args in
     let i = c .before .before .before .before .before .before .before .before in
-    line-added (a .g) (a .p) (a .section) (a .language) (a .token .now) (a .lines .now) (a .pool .now) (x .put-token .result) _ (x .put-token .ensures) _ _ _ _ _ _ (i .before .before .before .before .class .given .1) (sym (i .before .has-row .ensures) ∙ not-false _ (i .if1 .left)) (omega arith) (omega arith)
+    line-added (a .g) (a .p) (a .section) (a .language) (a .token .now) (a .lines .now) (a .pool .now) (x .put-token .result) _ (x .put-token .ensures)
+    _ _ _ _ _ _ (i .before .before .before .before .class .given .1) (sym (i .before .has-row .ensures) ∙ not-false _ (i .if1 .left)) (omega arith) (omega arith)
     (c .before .before .before .before .before .before .before .class-number .ensures) (c .before .mixed-behind .ensures) (c .starred-behind .ensures) (c .before .before .before .before .put-four .ensures)
 
 pub take-line-spec : {M : Type 1} → statement M

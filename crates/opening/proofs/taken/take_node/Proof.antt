@@ -7,16 +7,22 @@ use Rattle.opening.proofs.taken.take_node.Statement.{statement}
 use Rattle.opening.proofs.taken.take_node.Tie as tie
 
 returns : tie.Need-returns
-returns c = let a = c .before .before .before .before .args in node-refused (a .g) (a .p) (a .name .now) (a .nodes .now) (a .names .now) [] [] (λ r. omega (arith, r .number))
+returns c =
+    let a = c .before .before .before .before .args in
+    node-refused (a .g) (a .p) (a .name .now) (a .nodes .now) (a .names .now) [] [] (λ r. omega (arith, r .number))
 
 returns-2 : tie.Need-returns-2
-returns-2 c = let a = c .before .before .before .before .before .args in node-refused (a .g) (a .p) (a .name .now) (a .nodes .now) (a .names .now) [] [] (λ r. omega (arith, r .row))
+returns-2 c =
+    let a = c .before .before .before .before .before .args in
+    node-refused (a .g) (a .p) (a .name .now) (a .nodes .now) (a .names .now) [] [] (λ r. omega (arith, r .row))
 
 sub-if3 : tie.Need-sub-if3
 sub-if3 c = search needs
 
 returns-3 : tie.Need-returns-3
-returns-3 c = let a = c .before .before .before .before .before .before .args in node-refused (a .g) (a .p) (a .name .now) (a .nodes .now) (a .names .now) [] [] (λ r. omega (arith, r .name))
+returns-3 c =
+    let a = c .before .before .before .before .before .before .args in
+    node-refused (a .g) (a .p) (a .name .now) (a .nodes .now) (a .names .now) [] [] (λ r. omega (arith, r .name))
 
 mul-put-three : tie.Need-mul-put-three
 mul-put-three c = search needs
@@ -46,7 +52,11 @@ same-length-2 : tie.Need-same-length-2
 same-length-2 c = search needs
 
 returns-4 : tie.Need-returns-4
-returns-4 c = let a = c .before .before .before .before .before .before .before .before .before .before .before .before .before .before .args in node-added (a .g) (a .p) (a .name .now) (a .nodes .now) (a .names .now) _ _ (record { number = omega arith; row = omega arith; name = omega arith }) (omega arith) (c .before .before .before .before .before .before .put-three .ensures) (c .before .before .put-bytes .ensures)
+returns-4 c =
+    let x = c .before .before .before .before .before .before in
+    let a = x .before .before .before .before .before .before .before .before .args in
+    node-added (a .g) (a .p) (a .name .now) (a .nodes .now) (a .names .now) _ _ (record { number = omega arith; row = omega arith; name = omega arith }) (omega arith) (x .put-three .ensures)
+    (c .before .before .put-bytes .ensures)
 
 pub take-node-spec : {M : Type 1} → statement M
 take-node-spec =

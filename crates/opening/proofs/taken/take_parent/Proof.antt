@@ -10,7 +10,9 @@ use Rattle.opening.proofs.taken.take_parent.Statement.{statement}
 use Rattle.opening.proofs.taken.take_parent.Tie as tie
 
 returns : tie.Need-returns
-returns c = let a = c .before .before .before .before .args in parent-none (a .g) (a .p) (a .nodes .now) (a .names .now) (a .parent .now) (c .if1 .taken)
+returns c =
+    let a = c .before .before .before .before .args in
+    parent-none (a .g) (a .p) (a .nodes .now) (a .names .now) (a .parent .now) (c .if1 .taken)
 
 sub-i : tie.Need-sub-i
 sub-i c = search needs
@@ -22,7 +24,10 @@ same-length : tie.Need-same-length
 same-length c = search needs
 
 returns-2 : tie.Need-returns-2
-returns-2 c = let a = c .before .before .before .before .before .before .before .args in parent-refused (a .g) (a .p) (a .nodes .now) (a .names .now) (c .before .first-named .result) (a .parent .now) [] (c .before .before .before .if1 .left) (c .before .first-named .ensures) (c .if2 .taken)
+returns-2 c =
+    let x = c .before in
+    let a = x .before .before .before .before .before .before .args in
+    parent-refused (a .g) (a .p) (a .nodes .now) (a .names .now) (x .first-named .result) (a .parent .now) [] (x .before .before .if1 .left) (x .first-named .ensures) (omega arith)
 
 cast-nodes : tie.Need-cast-nodes
 cast-nodes c = search needs
@@ -38,13 +43,19 @@ mul-nodes-2 c = search needs
 
 slice-write-nodes : tie.Need-slice-write-nodes
 unfolding node-form
-slice-write-nodes c = let a = c .before .before .before .before .before .before .before .args in omega (arith, nodes-packed (a .g .nodes) (a .g .names) (a .nodes .now) (a .names .now) (c .before .before .before .before .before .before .before .pre .0) .rowroom)
+slice-write-nodes c =
+    let s = c .before .before .before .before .before .before .before in
+    let a = s .args in
+    omega (arith, nodes-packed (a .g .nodes) (a .g .names) (a .nodes .now) (a .names .now) (s .pre .0) .rowroom)
 
 same-length-2 : tie.Need-same-length-2
 same-length-2 c = search needs
 
 returns-3 : tie.Need-returns-3
-returns-3 c = let a = c .before .before .before .before .before .before .before .args in parent-set (a .g) (a .p) (a .nodes .now) (a .names .now) (c .before .first-named .result) (a .parent .now) _ (c .before .before .before .if1 .left) (c .before .first-named .ensures) (omega arith) refl
+returns-3 c =
+    let x = c .before in
+    let a = x .before .before .before .before .before .before .args in
+    parent-set (a .g) (a .p) (a .nodes .now) (a .names .now) (x .first-named .result) (a .parent .now) _ (x .before .before .if1 .left) (x .first-named .ensures) (omega arith) refl
 
 pub take-parent-spec : {M : Type 1} → statement M
 take-parent-spec =
