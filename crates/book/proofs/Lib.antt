@@ -2,3 +2,4 @@ pub mod Forms
 pub mod NodeRows
 pub mod Views
 pub mod LineRows
+pub mod FirstNamed

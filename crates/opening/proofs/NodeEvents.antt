@@ -34,7 +34,7 @@ ok-more n x e =
     let h : x .node < n = ltb-true (x .node) n (b .0) in
     rw (lt-ltb (x .node) (n + 1) (omega arith), b .1) (a .1)
 
-every-more : (n : ℕ) (xs : List Line) → every (line-ok regular n) xs ≡ true → every (line-ok regular (n + 1)) xs ≡ true
+pub every-more : (n : ℕ) (xs : List Line) → every (line-ok regular n) xs ≡ true → every (line-ok regular (n + 1)) xs ≡ true
 unfolding every
 every-more n [] e = refl
 every-more n (x ∷ xs) e =

@@ -49,7 +49,13 @@ module _ {X : Type 0} (ok : X → Bool) where
   every-at (x ∷ xs) zero d a h = both (ok x) (every ok xs) a .0
   every-at (x ∷ xs) (suc i) d a h = every-at xs i d (both (ok x) (every ok xs) a .1) (omega arith)
 
-  -- and one that is as asked, in the place of another, leaves it so
+  -- and where the one at each place is, each is
+  pub every-from : (xs : List X) (d : X) → ((i : ℕ) → i < length xs → ok (getD xs i d) ≡ true) → every ok xs ≡ true
+  unfolding every
+  every-from [] d f = refl
+  every-from (x ∷ xs) d f = rw (f 0 (omega arith)) (every-from xs d (λ i h. f (suc i) (omega arith)))
+
+  -- one that is as asked, in the place of another, leaves it so
   pub every-set : (xs : List X) (i : ℕ) (y : X) → every ok xs ≡ true → ok y ≡ true → every ok (set xs i y) ≡ true
   unfolding every
   every-set [] i y a o = refl

@@ -15,3 +15,4 @@ pub mod Looking
 pub mod Points
 pub mod Tabling
 pub mod Parts
+pub mod Origins

@@ -1,0 +1,5 @@
+pub mod Nodes
+pub mod Fitting
+pub mod KindLines
+pub mod Soundness
+pub mod Opened
