@@ -2,14 +2,16 @@
 use Prim.Native.Nat.{ℕ, zero, suc, _+_, _-_, _<_, _≤_}
 use mathlib.Core.Path.{_≡_, refl, sym, _∙_}
 use mathlib.Core.List.{List, [], _∷_}
-use mathlib.Core.Bool.{Bool, true, false}
+use mathlib.Core.Bool.{Bool, true, false, _&&_}
 use native.Mathlib.Decide.{decLe, decLt}
 use native.Mathlib.Nat.{add-zero, zero-add, le-refl}
 use native.Mathlib.Numerals.{add-one}
 use native.Mathlib.Omega.{arith}
 use borrow.Author.Tests.{eq-eqb, ne-eqb}
+use lib.Dec.{eqb}
 use lib.ListN.{length, getD, drop, drop-of-length-le}
 use lib.Seq.{drop-cons, getD-drop}
+use Rattle.numbers.specs.Signs.{closing-brace, semicolon}
 use Rattle.linker_script.specs.declared.Found.{Found}
 use Rattle.linker_script.specs.declared.Found.the-variants.{Here, Nowhere}
 use Rattle.linker_script.specs.Finding.{Test, found, first-in, first-from, is, are, closes, later, last-in, last-close}
@@ -111,23 +113,6 @@ module _ (s : List ℕ) (x y at i : ℕ) (inv : first-from (are x y) s at ≡ fi
     pub pair-on : v ≡ false → first-from (are x y) s at ≡ first-from (are x y) s (i + 1)
     pair-on k = inv ∙ first-on (are x y) s i h (sym e ∙ k)
 
--- ---- the loop of `last_close`: r is where it stands before i
-module _ (s : List ℕ) (i r : ℕ) (inv : last-close s ≡ last-in i r (drop i s)) where
-  pub last-end : length s ≤ i → r ≡ last-close s
-  unfolding last-in
-  last-end h = sym (inv ∙ rw (drop-of-length-le s h))
-
-  module _ (h : i < length s) (v : Bool) (e : v ≡ passes closes s i) where
-    last-step : last-close s ≡ last-in (i + 1) (later v i r) (drop (i + 1) s)
-    unfolding last-in
-    last-step = inv ∙ rw (drop-next s i h, last-in, next-byte, ← e)
-
-    pub last-moves : v ≡ true → last-close s ≡ last-in (i + 1) (i + 1) (drop (i + 1) s)
-    last-moves k = rw k at last-step
-
-    pub last-stays : v ≡ false → last-close s ≡ last-in (i + 1) r (drop (i + 1) s)
-    last-stays k = rw k at last-step
-
 -- ---- what is left
 -- of the text l, which begins at p: no `};` is left and the last one stays, or one is left and the last one ends behind p
 data Left (p r : ℕ) (l : List ℕ) : Type 0 where
@@ -189,3 +174,85 @@ last-close-some s p h = go (ahead-close s p)
     go : Ahead p (last-close s) (first-from closes s p) → (c : ℕ) × (first-from closes s p ≡ Here c)
     go (none-left f e) = absurd (omega arith)
     go (one-left c f e) = (c, f)
+
+-- where none is left from p on, the last one ends there or before
+none-from : (s : List ℕ) (p : ℕ) → first-from closes s p ≡ Nowhere → last-close s ≤ p
+none-from s p e = go (ahead-close s p)
+  where
+    go : Ahead p (last-close s) (first-from closes s p) → last-close s ≤ p
+    go (none-left f k) = k
+    go (one-left c f k) =
+        let z : _≡_ {A = ℕ} 0 1 = cc in
+        absurd (omega arith)
+
+-- where one is left, the last one ends behind p
+one-from : (s : List ℕ) (p c : ℕ) → first-from closes s p ≡ Here c → p < last-close s
+one-from s p c e = go (ahead-close s p)
+  where
+    go : Ahead p (last-close s) (first-from closes s p) → p < last-close s
+    go (none-left f k) =
+        let z : _≡_ {A = ℕ} 0 1 = cc in
+        absurd (omega arith)
+    go (one-left d f k) = k
+
+-- a place without its brace or its semicolon does not close
+no-brace : (b n : ℕ) → (b ≡ closing-brace → ⊥) → closes b n ≡ false
+no-brace b n f = rw (ne-eqb b closing-brace f)
+
+no-semicolon : (b n : ℕ) → (n ≡ semicolon → ⊥) → closes b n ≡ false
+no-semicolon b n f = rw (ne-eqb n semicolon f) (go (eqb b closing-brace))
+  where
+    go : (v : Bool) → (v && false) ≡ false
+    go true = refl
+    go false = refl
+
+-- ---- the loop of `last_close`: no `};` has its semicolon at i or behind it
+pub record Behind (s : List ℕ) (i : ℕ) : Type 0 where
+  pub within : i ≤ length s
+  pub last : last-close s ≤ i - 1
+
+module _ (s : List ℕ) where
+  -- a place that does not close leaves the last one before it
+  not-here : (p : ℕ) → p < length s → last-close s ≤ p + 1 → passes closes s p ≡ false → last-close s ≤ p
+  not-here p h k e = none-from s p (first-on closes s p h e ∙ last-close-none s (p + 1) k)
+
+  -- none ends behind the text
+  pub behind-all : Behind s (length s)
+  behind-all = record { within = omega arith; last = go (decLt 0 (length s)) }
+    where
+      go : Dec (0 < length s) → last-close s ≤ length s - 1
+      go (no h) = none-from s (length s - 1) (first-none closes s (length s - 1) (omega arith))
+      go (yes h) =
+          let n : length s - 1 + 1 ≡ length s = omega arith in
+          let k : last-close s ≤ length s = none-from s (length s) (first-none closes s (length s) (omega arith)) in
+          let f : getD s (length s - 1 + 1) 0 ≡ semicolon → ⊥ = λ e. absurd (omega (arith, byte-within s (length s - 1 + 1) (omega arith))) in
+          not-here (length s - 1) (omega arith) (omega arith) (no-semicolon (getD s (length s - 1) 0) (getD s (length s - 1 + 1) 0) f)
+
+  module _ (i : ℕ) (inv : Behind s i) where
+    -- at the start there is none
+    pub behind-none : i ≤ 1 → 0 ≡ last-close s
+    behind-none h = omega (arith, inv .last)
+
+    module _ (h : 1 < i) where
+      place : i - 1 - 1 + 1 ≡ i - 1
+      place = omega arith
+
+      on : passes closes s (i - 1 - 1) ≡ false → Behind s (i - 1)
+      on e =
+          record {
+            within = omega (arith, inv .within);
+            last = not-here (i - 1 - 1) (omega (arith, inv .within)) (omega (arith, inv .last)) e;
+          }
+
+      -- without its semicolon or its brace the search goes on, and with both it ends
+      pub behind-other : (getD s (i - 1) 0 ≡ semicolon → ⊥) → Behind s (i - 1)
+      behind-other f = on (no-semicolon (getD s (i - 1 - 1) 0) (getD s (i - 1 - 1 + 1) 0) (rw place f))
+
+      pub behind-open : (getD s (i - 1 - 1) 0 ≡ closing-brace → ⊥) → Behind s (i - 1)
+      behind-open f = on (no-brace (getD s (i - 1 - 1) 0) (getD s (i - 1 - 1 + 1) 0) f)
+
+      pub behind-ends : getD s (i - 1) 0 ≡ semicolon → getD s (i - 1 - 1) 0 ≡ closing-brace → i - 1 ≡ last-close s
+      behind-ends e b =
+          let v : passes closes s (i - 1 - 1) ≡ true = rw (place, e, b) in
+          let f : first-from closes s (i - 1 - 1) ≡ Here (i - 1 - 1) = first-here closes s (i - 1 - 1) (omega (arith, inv .within)) v in
+          omega (arith, inv .last, one-from s (i - 1 - 1) (i - 1 - 1) f)

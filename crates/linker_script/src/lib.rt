@@ -67,20 +67,20 @@ pub fn find_pair(s: &[u8], x: u8, y: u8, at: usize) -> Found
     Found::Nowhere
 }
 
-// One more than the last place of `};`, or 0: from there on none is left.
+// One more than the last place of `};`, or 0: from there on none is left. The search begins at the end.
 pub fn last_close(s: &[u8]) -> usize
     ensures { λ r. ⌜ r ≡ last-close (now (s .entry)) ⌝ }
 {
-    let mut r = 0;
-    let mut i = 0;
-    while i < s.len() {
-        let close = is_pair(s, i, b'}', b';');
-        i += 1;
-        if close {
-            r = i;
+    let mut i = s.len();
+    while 1 < i {
+        i -= 1;
+        if s[i] == b';' {
+            if s[i - 1] == b'}' {
+                return i;
+            }
         }
     }
-    r
+    0
 }
 
 fn is_blank(b: u8) -> bool

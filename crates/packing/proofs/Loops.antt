@@ -1,17 +1,17 @@
 -- The loops and the runs of stores of src/lib.rt, on lists of numbers: what a buffer holds after each store, and what is left to compare. The premises are
 -- what the code has learned. Assumes nothing.
-use Prim.Native.Nat.{ℕ, _+_, _<_, _≤_}
-use mathlib.Core.Path.{_≡_, refl, sym, ap, _∙_}
+use Prim.Native.Nat.{ℕ, suc, _+_, _-_, _<_, _≤_}
+use mathlib.Core.Path.{_≡_, refl, sym, ap, ap₂, _∙_}
 use mathlib.Core.Bool.{true, false}
 use mathlib.Core.List.{List, [], _∷_, append-nil}
 use native.Mathlib.Nat.{zero-add}
 use native.Mathlib.Numerals.{add-one, add-two, add-three}
 use native.Mathlib.Omega.{arith}
-use borrow.Author.Tests.{eq-eqb, ne-eqb}
+use borrow.Author.Tests.{ne-eqb}
 use lib.ListN.{length, drop, getD, set, length-set, length-replicate, getD-replicate, drop-of-length-le}
 use lib.Seq.{paste, paste-zero, paste-suc, sets-eq, drop-cons, drop-length, take-all}
 use Rattle.lists.specs.Same.{same}
-use Rattle.lists.proofs.SameLaws.{same-equal}
+use Rattle.lists.proofs.SameLaws.{same-equal, same-refl}
 use Rattle.lists.proofs.Tests.{fails}
 use Rattle.packing.specs.Padding.{zeros, all-zero}
 
@@ -94,38 +94,45 @@ module _ (s : List ℕ) (from i : ℕ) (z : all-zero (drop from s) ≡ all-zero 
   unfolding all-zero
   zero-ends h = sym (z ∙ rw (drop-of-length-le s h))
 
--- ---- whether two lists are the same: lists of one length, and what is left from i on decides
+-- ---- whether two lists are the same: lists of one length that are equal from i on
 -- lists of two lengths are not the same
 pub same-lengths : (a b : List ℕ) → (length a ≡ length b → ⊥) → false ≡ same a b
 same-lengths a b f = sym (fails (same a b) (λ t. f (ap length (same-equal a b t))))
 
 pub record Alike (a b : List ℕ) (i : ℕ) : Type 0 where
   pub long : length a ≡ length b
-  pub rest : same a b ≡ same (drop i a) (drop i b)
+  pub within : i ≤ length a
+  pub rest : drop i a ≡ drop i b
 
 module _ (a b : List ℕ) where
-  -- of lists of one length all is left to compare
-  pub same-starts : length a ≡ length b → Alike a b 0
-  same-starts e = record { long = e; rest = refl }
+  -- behind the ends of lists of one length nothing differs
+  pub same-starts : length a ≡ length b → Alike a b (length a)
+  same-starts e =
+      let h : length a ≤ length a = omega arith in
+      let k : length b ≤ length a = omega arith in
+      record { long = e; within = h; rest = drop-of-length-le a h ∙ sym (drop-of-length-le b k) }
 
   module _ (i : ℕ) (z : Alike a b i) where
     -- two numbers that differ answer no
-    pub same-stops : i < length a → (getD a i 0 ≡ getD b i 0 → ⊥) → false ≡ same a b
-    unfolding same
-    same-stops h f =
-        let k : i < length b = omega (arith, z .long) in
-        sym (z .rest ∙ rw (drop-cons a i 0 h, drop-cons b i 0 k, ne-eqb (getD a i 0) (getD b i 0) f))
+    pub same-stops : (getD a (i - 1) 0 ≡ getD b (i - 1) 0 → ⊥) → false ≡ same a b
+    same-stops f = sym (fails (same a b) (λ t. f (ap (λ (l : List ℕ). getD l (i - 1) 0) (same-equal a b t))))
 
-    -- behind two that are equal the rest decides
-    pub same-more : i < length a → getD a i 0 ≡ getD b i 0 → Alike a b (i + 1)
-    unfolding same
+    -- two that are equal go before the rest
+    pub same-more : 0 < i → getD a (i - 1) 0 ≡ getD b (i - 1) 0 → Alike a b (i - 1)
     same-more h e =
-        let k : i < length b = omega (arith, z .long) in
-        record { long = z .long; rest = z .rest ∙ rw (add-one, drop-cons a i 0 h, drop-cons b i 0 k, eq-eqb (getD a i 0) (getD b i 0) e) }
+        let n : suc (i - 1) ≡ i = omega arith in
+        let j : i - 1 < length a = omega (arith, z .within) in
+        let k : i - 1 < length b = omega (arith, z .within, z .long) in
+        let w : drop (suc (i - 1)) a ≡ drop (suc (i - 1)) b = rw n (z .rest) in
+        record {
+          long = z .long;
+          within = omega arith;
+          rest = drop-cons a (i - 1) 0 j ∙ ap₂ (λ (x : ℕ) (l : List ℕ). x ∷ l) e w ∙ sym (drop-cons b (i - 1) 0 k);
+        }
 
-    -- at the end the answer is yes
-    pub same-ends : length a ≤ i → true ≡ same a b
-    unfolding same
+    -- at the start the answer is yes
+    pub same-ends : i ≤ 0 → true ≡ same a b
     same-ends h =
-        let k : length b ≤ i = omega (arith, z .long) in
-        sym (z .rest ∙ rw (drop-of-length-le a h, drop-of-length-le b k))
+        let n : i ≡ 0 = omega arith in
+        let e : a ≡ b = rw n at (z .rest) in
+        sym (rw (← e) (same-refl a))
