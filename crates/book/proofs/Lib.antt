@@ -3,3 +3,4 @@ pub mod NodeRows
 pub mod Views
 pub mod LineRows
 pub mod FirstNamed
+pub mod Asking

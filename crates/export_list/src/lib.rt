@@ -1,0 +1,24 @@
+// export_list.rs, the book's side: an export list opened into lent buffers. Its definition is that of the crate `opening`.
+ghost use mathlib.Core.Path.{_≡_};
+ghost use Rattle.reading.specs.Places.{at-list};
+ghost use Rattle.book.specs.Layout.{five};
+ghost use Rattle.opening.specs.Opening.{left, opening, told};
+use opening::Opened;
+use reading::scripts::AT_LIST;
+
+// An export list, opened into lent buffers.
+pub fn open(
+    text: &[u8],
+    nodes: &mut [u32],
+    names: &mut [u8],
+    lines: &mut [u32],
+    pool: &mut [u8],
+    journal: &mut [u32],
+) -> Opened
+    ensures { λ r. ⌜ (r ≡ told (opening at-list (five (now (nodes .entry)) (now (names .entry)) (now (lines .entry)) (now (pool .entry)) (now (journal .entry))) (now (text .entry))))
+        × (five (now (nodes .exit)) (now (names .exit)) (now (lines .exit)) (now (pool .exit)) (now (journal .exit))
+        ≡ left (five (now (nodes .entry)) (now (names .entry)) (now (lines .entry)) (now (pool .entry)) (now (journal .entry)))
+        (opening at-list (five (now (nodes .entry)) (now (names .entry)) (now (lines .entry)) (now (pool .entry)) (now (journal .entry))) (now (text .entry)))) ⌝ }
+{
+    opening::open(AT_LIST, text, nodes, names, lines, pool, journal)
+}

@@ -1,0 +1,39 @@
+// version_script.rs, the book's side: a version script opened into lent buffers, its counts and its nodes. Definitions: specs/Questions.antt, from document 01,
+// 'Ranking'; the opening's are those of the crate `opening`. Every question asks first whether the buffers hold a book (14).
+ghost use mathlib.Core.Path.{_≡_};
+ghost use Rattle.reading.specs.Places.{at-script};
+ghost use Rattle.book.specs.Layout.{five};
+ghost use Rattle.opening.specs.Opening.{left, opening, told};
+use opening::Opened;
+use reading::scripts::AT_SCRIPT;
+
+pub mod counts;
+
+// A count, or the number that says no.
+pub enum Count {
+    Counted(u32),
+    Refused(u32),
+}
+
+// A node: where its name starts among the names, how long it is, and its parent's number or 0; or the number that says no.
+pub enum NodeAnswer {
+    Node { start: u32, len: u32, parent: u32 },
+    Refused(u32),
+}
+
+// A version script, opened into lent buffers.
+pub fn open(
+    text: &[u8],
+    nodes: &mut [u32],
+    names: &mut [u8],
+    lines: &mut [u32],
+    pool: &mut [u8],
+    journal: &mut [u32],
+) -> Opened
+    ensures { λ r. ⌜ (r ≡ told (opening at-script (five (now (nodes .entry)) (now (names .entry)) (now (lines .entry)) (now (pool .entry)) (now (journal .entry))) (now (text .entry))))
+        × (five (now (nodes .exit)) (now (names .exit)) (now (lines .exit)) (now (pool .exit)) (now (journal .exit))
+        ≡ left (five (now (nodes .entry)) (now (names .entry)) (now (lines .entry)) (now (pool .entry)) (now (journal .entry)))
+        (opening at-script (five (now (nodes .entry)) (now (names .entry)) (now (lines .entry)) (now (pool .entry)) (now (journal .entry))) (now (text .entry)))) ⌝ }
+{
+    opening::open(AT_SCRIPT, text, nodes, names, lines, pool, journal)
+}
