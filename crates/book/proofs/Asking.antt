@@ -1,6 +1,6 @@
 -- The question that every function asks first, whether lent buffers and counts hold a book, and what a book that is held gives. The Bool that is named x is
 -- what was answered, and the code asked whether it is not. Assumes nothing.
-use Prim.Native.Nat.{ℕ, _≤_}
+use Prim.Native.Nat.{_≤_}
 use mathlib.Core.Path.{_≡_, sym, _∙_}
 use mathlib.Core.Bool.{Bool, true, false, not}
 use mathlib.Core.Option.{some, none}
@@ -8,14 +8,16 @@ use borrow.Author.Tests.{not-true, not-false}
 use lib.ListN.{length}
 use Rattle.numbers.specs.Limits.{node-limit}
 use Rattle.lists.proofs.Tests.{both}
-use Rattle.packing.specs.Tables.{packs}
+use Rattle.packing.specs.Tables.{every, packs}
 use Rattle.packing.proofs.Packings.{is-packs}
 use Rattle.book.specs.declared.Counts.{Counts}
+use Rattle.book.specs.Books.{Book}
 use Rattle.book.specs.Layout.{node-form, line-form, Buffers}
-use Rattle.book.specs.Sanity.{line-ok, sane}
+use Rattle.book.specs.Sanity.{in-range, line-ok, sane}
 use Rattle.book.specs.View.{any-node, laid, book-of, holds, view}
 use Rattle.book.proofs.Forms.{node-laws, line-laws}
-use Rattle.book.proofs.Views.{Layout, laid-packs}
+use Rattle.book.proofs.LineRows.{lines-in-range}
+use Rattle.book.proofs.Views.{laid-packs, layout-of-view}
 
 -- what a book that is held gives: what is viewed, its packings, how many nodes it has, and that it is sane
 pub record Held (c : Counts) (b : Buffers) : Type 0 where
@@ -49,3 +51,7 @@ module _ (c : Counts) (b : Buffers) (x : Bool) (e : x ≡ holds c b) where
   -- a book
   pub asked-held : not x ≡ false → Held c b
   asked-held h = held-book c b (sym e ∙ not-false x h)
+
+-- the lines of a book that is viewed are in range
+pub viewed-in-range : (c : Counts) (b : Buffers) (w : Book) → view c b ≡ some w → every (in-range (length (w .nodes))) (w .lines) ≡ true
+viewed-in-range c b w e = lines-in-range (w .kind) (length (w .nodes)) (w .lines) (layout-of-view c b w e .2 .lines-ok)

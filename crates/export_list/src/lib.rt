@@ -1,10 +1,20 @@
-// export_list.rs, the book's side: an export list opened into lent buffers. Its definition is that of the crate `opening`.
+// export_list.rs, the book's side: an export list opened into lent buffers, and whether it contains a name. Definitions: specs/Membership.antt, from document
+// 01, 'Ranking'; the opening's is that of the crate `opening`. The question asks first whether the buffers hold a book (14).
 ghost use mathlib.Core.Path.{_≡_};
 ghost use Rattle.reading.specs.Places.{at-list};
 ghost use Rattle.book.specs.Layout.{five};
 ghost use Rattle.opening.specs.Opening.{left, opening, told};
 use opening::Opened;
 use reading::scripts::AT_LIST;
+
+pub mod lookups;
+
+// In the list or not, or the number that says no.
+pub enum Membership {
+    Within,
+    Without,
+    Refused(u32),
+}
 
 // An export list, opened into lent buffers.
 pub fn open(

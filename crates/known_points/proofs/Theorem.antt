@@ -15,7 +15,17 @@ use Rattle.reading.specs.Tokens.{begins, named, name-in, to-semicolon, to-brace
 use Rattle.reading.specs.Matchers.{line-to, extern-open, extern-at, extern-inside, in-extern, in-bare, matcher, bare-line, bare-matcher}
 use Rattle.reading.specs.Scripts.{name-to, node-at, script-at, parent-to, parent-at, node-end, sole-end, inside-body, body-at, sole-at, list-at, opening-at, start-script, go-node, go-body, go-sole, go-list, next-script, next-list, next-symbol, next}
 use Rattle.reading.specs.Events.{reading-within, reading-from, reading}
-use Rattle.known_points.specs.KnownPoints.{bytes, keeps, kept-matches, fits, Points}
+use Rattle.lists.specs.Same.{same}
+use Rattle.packing.specs.Tables.{packed}
+use Rattle.book.specs.Books.{first-named}
+use Rattle.book.specs.Layout.{node-form, line-form}
+use Rattle.opening.specs.Building.{line-room, node-room, take-event, take-kept, take-node, take-parent}
+use Rattle.opening.specs.Opening.{build, build-reading, kind-of, nothing-yet, opening, rust-style}
+use Rattle.ranking.specs.Matching.{class-matches, line-matches, seen}
+use Rattle.ranking.specs.Walk.{deciding, exact-of, exact-stages, first-line, glob-of, glob-stages, stages, walk}
+use Rattle.version_script.specs.Questions.{version-count}
+use Rattle.version_script.specs.Lookups.{index-of, last-named, locality-of, node-version, version-of, wanted-version}
+use Rattle.known_points.specs.KnownPoints.{bytes, keeps, kept-matches, fits, opens-as, Points}
 
 pub known-points : Points
 unfolding pieces pieces-past sound sound-past
@@ -32,7 +42,13 @@ unfolding pieces pieces-past sound sound-past
     name-to node-at script-at parent-to parent-at node-end sole-end inside-body body-at sole-at list-at opening-at
     start-script go-node go-body go-sole go-list next-script next-list next-symbol next
     reading-within reading-from reading
-    codes bytes keeps kept-matches fits
+    same packed first-named node-form line-form
+    line-room node-room take-event take-kept take-node take-parent
+    build build-reading kind-of nothing-yet opening rust-style
+    class-matches line-matches seen
+    deciding exact-of exact-stages first-line glob-of glob-stages stages walk
+    version-count index-of last-named locality-of node-version version-of wanted-version
+    codes bytes keeps kept-matches fits opens-as
 known-points =
     record {
       p1 = record { quoted = refl; bare = refl };
@@ -43,6 +59,8 @@ known-points =
       p6 = record { yes = refl; unclosed = refl };
       p7 = record { yes = refl; no = refl };
       p8 = record { yes = refl };
-      p9 = record { accepted-so-far = refl };
-      p10 = record { nodes = refl; text = refl };
+      p9 = record { count = refl };
+      p10 = record { parent = refl; wanted = refl };
+      p11 = record { version = refl; locality = refl };
+      p12 = record { fx = refl; fx-local = refl; fxy = refl; fxy-global = refl };
     }

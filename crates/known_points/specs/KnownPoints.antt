@@ -1,21 +1,28 @@
--- 01's 'Known points', as far as what they speak of is defined: P1 to P8, and of P9 and P10 what a reader says. One row for each, in 01's words, of the
--- definitions that the code is proved to meet. proofs/Theorem.antt proves the table.
+-- 01's 'Known points', P1 to P12. One row for each, in 01's words, of the definitions that the code is proved to meet. proofs/Theorem.antt proves the table.
 -- Assumes nothing.
 use Prim.Native.Nat.{ℕ}
 use Prim.Native.String.{String}
 use mathlib.Core.Path.{_≡_}
 use mathlib.Core.List.{List, [], _∷_}
 use mathlib.Core.Bool.{Bool, true, false}
-use lib.ListN.{take, drop}
+use mathlib.Core.Option.{Option, some, none}
+use lib.ListN.{getD}
 use Rattle.lists.specs.Texts.{codes}
 use Rattle.utf8.specs.Utf8.{encoding, chars}
 use Rattle.pattern.specs.declared.Edition.the-variants.{Reld}
 use Rattle.pattern.specs.Patterns.{elements, matches}
 use Rattle.glob_match.specs.declared.Class.the-variants.{Exact, Escaped, NonStar, Star, All}
-use Rattle.reading.specs.declared.Event.the-variants.{Node, Body, Parent}
-use Rattle.reading.specs.Places.{at-script}
-use Rattle.reading.specs.Events.{accepted, reading}
 use Rattle.glob_match.specs.Keeping.{Keep, kept, refused, keep}
+use Rattle.reading.specs.Places.{at-script}
+use Rattle.packing.specs.Padding.{zeros}
+use Rattle.book.specs.Books.{Book, no-node}
+use Rattle.book.specs.Layout.{Buffers, five}
+use Rattle.opening.specs.Opening.{Opening, opens, declined, opening}
+use Rattle.ranking.specs.Matching.{Name, name-of}
+use Rattle.version_script.specs.declared.Locality.{Locality}
+use Rattle.version_script.specs.declared.Locality.the-variants.{Global, Local}
+use Rattle.version_script.specs.Questions.{version-count}
+use Rattle.version_script.specs.Lookups.{locality-of, version-of, version-value}
 
 -- ---- quoted texts, as bytes in UTF-8
 unfoldable pub bytes : String → List ℕ
@@ -75,15 +82,59 @@ pub record P7 : Type 0 where
 pub record P8 : Type 0 where
   pub yes : fits "h?" (0x68 ∷ 0xC3 ∷ 0xA9 ∷ []) ≡ true
 
--- "P9 `/*/{};` accepted, version count 0." Accepted; the count comes with the book
-pub record P9 : Type 0 where
-  pub accepted-so-far : reading at-script (bytes "/*/{};") .outcome ≡ accepted
+-- ---- a script, opens-as into buffers with room enough
+abbrev pub rooms : Buffers
+rooms = five (zeros 30) (zeros 40) (zeros 40) (zeros 40) []
 
--- "P10 `A {}; B {}; A {}; C {} A;` parent of C is 1; wanted A gives 4." The parent text, and before it the nodes; their numbers come with the book
+abbrev pub given : Opening → Option Book
+given (opens w) = some w
+given (declined n p) = none
+
+unfoldable pub opens-as : String → Option Book
+opens-as t = given (opening at-script rooms (bytes t))
+
+abbrev pub of-book : {A : Type 0} → (Book → A) → Option Book → Option A
+of-book f (some w) = some (f w)
+of-book f none = none
+
+-- the parent of a node, by its number
+abbrev pub parent-of : ℕ → Book → ℕ
+parent-of i w = getD (w .nodes) i no-node .parent
+
+-- a name that no demangler changes
+abbrev pub plain : String → Name
+plain t = name-of (bytes t) (bytes t)
+
+-- its index, 0 for none, with no version wanted, or with one; and its locality
+abbrev pub index : String → Book → ℕ
+index t w = version-value (version-of w (plain t) none)
+
+abbrev pub index-wanted : String → String → Book → ℕ
+index-wanted t v w = version-value (version-of w (plain t) (some (bytes v)))
+
+abbrev pub place : String → Book → Locality
+place t w = locality-of w (plain t)
+
+-- "P9 `/*/{};` accepted, version count 0."
+pub record P9 : Type 0 where
+  pub count : of-book version-count (opens-as "/*/{};") ≡ some 0
+
+-- "P10 `A {}; B {}; A {}; C {} A;` parent of C is 1; wanted A gives 4."
 pub record P10 : Type 0 where
-  pub nodes : reading at-script (bytes "A {}; B {}; A {}; C {} A;") .events
-      ≡ Node 0 1 ∷ Body ∷ Parent 4 0 ∷ Node 6 1 ∷ Body ∷ Parent 10 0 ∷ Node 12 1 ∷ Body ∷ Parent 16 0 ∷ Node 18 1 ∷ Body ∷ Parent 23 1 ∷ []
-  pub text : take 1 (drop 23 (bytes "A {}; B {}; A {}; C {} A;")) ≡ bytes "A"
+  pub parent : of-book (parent-of 4) (opens-as "A {}; B {}; A {}; C {} A;") ≡ some 1
+  pub wanted : of-book (index-wanted "f" "A") (opens-as "A {}; B {}; A {}; C {} A;") ≡ some 4
+
+-- "P11 `V { extern "C++" { f; }; local: f; };` for f, f: index 2, local."
+pub record P11 : Type 0 where
+  pub version : of-book (index "f") (opens-as "V { extern \"C++\" { f; }; local: f; };") ≡ some 2
+  pub locality : of-book (place "f") (opens-as "V { extern \"C++\" { f; }; local: f; };") ≡ some Local
+
+-- "P12 `A { f*; }; B { local: f?; }; C { f*; };` fx: 3 local; fxy: 4 global."
+pub record P12 : Type 0 where
+  pub fx : of-book (index "fx") (opens-as "A { f*; }; B { local: f?; }; C { f*; };") ≡ some 3
+  pub fx-local : of-book (place "fx") (opens-as "A { f*; }; B { local: f?; }; C { f*; };") ≡ some Local
+  pub fxy : of-book (index "fxy") (opens-as "A { f*; }; B { local: f?; }; C { f*; };") ≡ some 4
+  pub fxy-global : of-book (place "fxy") (opens-as "A { f*; }; B { local: f?; }; C { f*; };") ≡ some Global
 
 -- the table
 pub record Points : Type 0 where
@@ -97,3 +148,5 @@ pub record Points : Type 0 where
   pub p8 : P8
   pub p9 : P9
   pub p10 : P10
+  pub p11 : P11
+  pub p12 : P12

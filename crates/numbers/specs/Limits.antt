@@ -1,4 +1,4 @@
--- 01's limits, last accepted, as far as they are asked yet. An export list is a script here. Assumes nothing.
+-- 01's limits, last accepted. An export list is a script here. Assumes nothing.
 use Prim.Native.Nat.{ℕ}
 
 -- "script 1,048,576 bytes"
@@ -9,7 +9,7 @@ script-limit = 1048576
 abbrev pub token-limit : ℕ
 token-limit = 65536
 
--- "raw name … 4,096, demangled 65,536": a match takes either, so the larger; who looks a raw name up asks the smaller before
+-- "raw name or wanted version 4,096, demangled 65,536": a match takes either name, so the larger; who looks a raw name up asks the smaller before
 abbrev pub name-limit : ℕ
 name-limit = 65536
 
@@ -28,3 +28,10 @@ pool-limit = 2097152
 -- "edits 4,096"
 abbrev pub edit-limit : ℕ
 edit-limit = 4096
+
+-- "raw name or wanted version 4,096"
+abbrev pub raw-name-limit : ℕ
+raw-name-limit = 4096
+
+abbrev pub version-limit : ℕ
+version-limit = 4096

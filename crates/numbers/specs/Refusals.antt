@@ -37,6 +37,10 @@ no-room = 8
 abbrev pub name-not-utf8 : ℕ
 name-not-utf8 = 9
 
+-- "unknown wanted version"
+abbrev pub unknown-version : ℕ
+unknown-version = 10
+
 -- "no such node, section, language or standing line; local or node not 0 in an export list"
 abbrev pub no-such : ℕ
 no-such = 11

@@ -8,6 +8,10 @@ pub const TOKEN_LIMIT: usize = 65536;
 
 pub const NAME_LIMIT: usize = 65536;
 
+pub const RAW_NAME_LIMIT: usize = 4096;
+
+pub const VERSION_LIMIT: usize = 4096;
+
 pub const NODE_LIMIT: usize = 1024;
 
 pub const LINE_LIMIT: usize = 16384;
@@ -34,6 +38,8 @@ pub const UNKNOWN_PARENT: u32 = 7;
 pub const NO_ROOM: u32 = 8;
 
 pub const NAME_NOT_UTF8: u32 = 9;
+
+pub const UNKNOWN_VERSION: u32 = 10;
 
 pub const NO_SUCH: u32 = 11;
 

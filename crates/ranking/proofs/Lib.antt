@@ -1,4 +1,6 @@
 pub mod Stages
 pub mod Deciders
 pub mod Unmatched
+pub mod NameTests
+pub mod Answers
 mod Leading

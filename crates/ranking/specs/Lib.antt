@@ -1,3 +1,4 @@
 pub mod Matching
 pub mod Walk
 pub mod Ranks
+pub mod Names

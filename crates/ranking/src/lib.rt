@@ -19,6 +19,8 @@ use packing::same_bytes;
 use pattern::Edition;
 use pattern::matching::match_name;
 
+pub mod names;
+
 // The number of the line that decides, or nothing where no line matches.
 pub enum Deciding {
     Line(usize),

@@ -1,9 +1,10 @@
 -- What is asked of a version book's nodes (specs/Questions.antt): each exit of the functions that answer it, how parents are counted row by row, and that
 -- both counts of the Rust kind are 0. The Bool that is named x is whether the buffers hold a book, and the code asked whether they do not. Assumes nothing.
-use Prim.Native.Nat.{ℕ, zero, suc, _+_, _-_, _*_, _≤_, _<_}
+use Prim.Native.Nat.{ℕ, zero, suc, _+_, _*_, _≤_, _<_}
 use mathlib.Core.Path.{_≡_, refl, sym, ap, _∙_}
 use mathlib.Core.List.{List, [], _∷_}
-use mathlib.Core.Bool.{Bool, true, false, cond, not, _&&_}
+use mathlib.Core.Bool.{Bool, true, false, cond, not}
+use mathlib.Core.Option.{some}
 use native.Mathlib.Numerals.{add-one}
 use native.Mathlib.Omega.{arith}
 use borrow.Author.Tests.{eqb-true, eq-eqb, ne-eqb, lt-ltb, le-ltb}
@@ -13,15 +14,16 @@ use lib.Seq.{drop-cons, getD-drop}
 use Rattle.numbers.specs.Limits.{node-limit}
 use Rattle.numbers.specs.Refusals.{no-book, no-such, wrong-kind}
 use Rattle.lists.proofs.Tests.{both}
-use Rattle.packing.specs.Tables.{packed, packs, things}
+use Rattle.packing.specs.Tables.{packed, things}
 use Rattle.packing.proofs.Packings.{row-cell}
 use Rattle.book.specs.declared.Counts.{Counts}
 use Rattle.book.specs.Books.{Node, Book, export, no-node, rust}
-use Rattle.book.specs.Layout.{five, node-form}
-use Rattle.book.specs.Sanity.{named-good, nodes-good, kind-good, sane}
-use Rattle.book.specs.View.{any-node, book-of, holds, view}
+use Rattle.book.specs.Layout.{Buffers, five, node-form}
+use Rattle.book.specs.Sanity.{nodes-good, kind-good, sane}
+use Rattle.book.specs.View.{book-of, holds, view}
 use Rattle.book.proofs.Forms.{node-laws}
 use Rattle.book.proofs.NodeRows.{nodes-packed, nodes-count, node-row}
+use Rattle.book.proofs.Views.{layout-of-view}
 use Rattle.book.proofs.Asking.{Held, asked-none, asked-held}
 use Rattle.version_script.specs.declared.Count.the-variants as count
 use Rattle.version_script.specs.declared.NodeAnswer.the-variants as node
@@ -161,18 +163,20 @@ no-parents (x ∷ []) h g =
     let d = both (eqb (x .parent) 0) _ (b .1) in
     rw (d .0)
 
-module _ (w : Book) (g : sane w ≡ true) (k : w .kind ≡ rust) where
-  one-alone : length (w .nodes) ≡ 1
+module _ (c : Counts) (b : Buffers) (w : Book) (e : view c b ≡ some w) (k : w .kind ≡ rust) where
+  node-alone : (length (w .nodes) ≡ 1) × (nodes-good (w .nodes) ≡ true)
   unfolding sane kind-good
-  one-alone =
-      let b = both (nodes-good (w .nodes)) _ g in
-      let d = both (kind-good w) _ (b .1) .0 in
-      eqb-true _ _ (both (eqb (length (w .nodes)) 1) _ (rw k at d) .0)
+  node-alone =
+      let g = both (nodes-good (w .nodes)) _ (layout-of-view c b w e .3) in
+      let d = both (kind-good w) _ (g .1) .0 in (
+        eqb-true _ _ (both (eqb (length (w .nodes)) 1) _ (rw k at d) .0),
+        g .0,
+      )
 
-  pub rust-versions : version-count w ≡ 0
-  unfolding version-count
-  rust-versions = rw (eq-eqb _ _ one-alone)
+  pub rust-versions : counted version-count (view c b) ≡ count.Counted 0
+  unfolding counted version-count
+  rust-versions = rw (e, k, node-alone .0)
 
-  pub rust-parents : parent-count w ≡ 0
-  unfolding sane parent-count
-  rust-parents = no-parents (w .nodes) one-alone (both (nodes-good (w .nodes)) _ g .0)
+  pub rust-parents : counted parent-count (view c b) ≡ count.Counted 0
+  unfolding counted parent-count
+  rust-parents = rw (e, k, no-parents (w .nodes) (node-alone .0) (node-alone .1))
