@@ -27,3 +27,6 @@ pub const NODE_WIDTH: usize = 3;
 pub const LINE_WIDTH: usize = 4;
 
 pub const EDIT_WIDTH: usize = 2;
+
+// "32 is added to a struck line's code."
+pub const STRUCK: u32 = 32;

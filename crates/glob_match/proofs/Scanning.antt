@@ -102,6 +102,13 @@ module _ (s : List ℕ) (k : Class) (i : ℕ) (left : scan Exact false s ≡ sca
     unfolding scan
     here = left ∙ rw (add-one i, drop-cons s i 0 h)
 
+    -- behind `]` there is no sign
+    pub scan-plain : 93 < getD s i 0 → scan Exact false s ≡ scan k false (drop (i + 1) s)
+    unfolding scanned nonstar
+    scan-plain q =
+        let no : (n : ℕ) → n ≤ 93 → eqb (getD s i 0) n ≡ false = λ n h. ne-eqb (getD s i 0) n (λ e. omega arith) in
+        here ∙ rw (no 42 (omega arith), no 92 (omega arith), no 91 (omega arith), no 93 (omega arith), no 63 (omega arith))
+
     pub scan-star : getD s i 0 ≡ 42 → Star ≡ scan Exact false s
     scan-star e = sym (here ∙ rw (eq-eqb (getD s i 0) 42 e))
 

@@ -49,7 +49,7 @@ fn with_byte(class: Class, c: u8) -> Class
     class
 }
 
-// The scan: a `*` decides at once, a `\` skips a byte.
+// The scan: a `*` decides at once, a `\` skips a byte. No sign that it looks for stands behind `]`, and most letters do.
 pub(crate) fn analyze_glob_pattern(pattern: &[u8]) -> Class
     ensures { λ r. ⌜ r ≡ scan Class.Exact false (now (pattern .entry)) ⌝ }
 {
@@ -57,6 +57,10 @@ pub(crate) fn analyze_glob_pattern(pattern: &[u8]) -> Class
     let mut i = 0;
     while i < pattern.len() {
         let c = pattern[i];
+        if b']' < c {
+            i += 1;
+            continue;
+        }
         if c == b'*' {
             return Class::Star;
         }

@@ -19,7 +19,8 @@ use Rattle.lists.specs.Same.{same}
 use Rattle.packing.specs.Tables.{packed}
 use Rattle.book.specs.Books.{first-named}
 use Rattle.book.specs.Layout.{node-form, line-form}
-use Rattle.opening.specs.Building.{line-room, node-room, take-event, take-kept, take-node, take-parent}
+use Rattle.rooms.specs.Rooms.{line-room, node-room}
+use Rattle.opening.specs.Building.{take-event, take-kept, take-node, take-parent}
 use Rattle.opening.specs.Opening.{build, build-reading, kind-of, nothing-yet, opening, rust-style}
 use Rattle.ranking.specs.Matching.{class-matches, line-matches, seen}
 use Rattle.ranking.specs.Walk.{deciding, exact-of, exact-stages, first-line, glob-of, glob-stages, stages, walk}

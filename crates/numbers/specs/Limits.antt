@@ -33,5 +33,6 @@ edit-limit = 4096
 abbrev pub raw-name-limit : ℕ
 raw-name-limit = 4096
 
+-- the same of a wanted version
 abbrev pub version-limit : ℕ
 version-limit = 4096

@@ -1,4 +1,4 @@
--- 01's 'Numbers that say no', as far as they are given yet. Assumes nothing.
+-- 01's 'Numbers that say no'. Assumes nothing.
 use Prim.Native.Nat.{ℕ}
 
 -- "script, text, trimmed token or name over its limit"
@@ -45,7 +45,11 @@ unknown-version = 10
 abbrev pub no-such : ℕ
 no-such = 11
 
--- "version, locality or count query on an export list", and the other questions that a kind of book does not answer
+-- "undo with no edit"
+abbrev pub nothing-to-undo : ℕ
+nothing-to-undo = 12
+
+-- "export query or `add_symbol` on a version book; version, locality or count query on an export list; add or strike on Rust kind"
 abbrev pub wrong-kind : ℕ
 wrong-kind = 13
 

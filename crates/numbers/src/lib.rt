@@ -43,6 +43,8 @@ pub const UNKNOWN_VERSION: u32 = 10;
 
 pub const NO_SUCH: u32 = 11;
 
+pub const NOTHING_TO_UNDO: u32 = 12;
+
 pub const WRONG_KIND: u32 = 13;
 
 pub const NO_BOOK: u32 = 14;

@@ -13,7 +13,7 @@ use Rattle.packing.specs.Tables.{packed}
 use Rattle.packing.proofs.TableLaws.{packed-append, packed-set}
 use Rattle.book.specs.Books.{Node, Line, no-node}
 use Rattle.book.specs.Layout.{Buffers, line-form, line-width, node-form, node-width}
-use Rattle.opening.specs.Building.{line-room, node-room}
+use Rattle.rooms.specs.Rooms.{line-room, node-room}
 
 pub record Roomy (b : Buffers) (xs : List Node) (ys : List Line) : Type 0 where
   pub node-rows : node-width * length xs ≤ length (b .nodes)

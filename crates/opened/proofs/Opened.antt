@@ -126,8 +126,12 @@ starts-free place e = go (eqb place at-script) refl e
     go true z f = let q : place ≡ at-script = eqb-true place at-script z in (omega arith, rw q)
     go false z f = let q : place ≡ at-list = eqb-true place at-list f in (omega arith, rw q)
 
+pub opened-viewable : (place : ℕ) (b : Buffers) (s : List ℕ) (w : Book) → opens-at place ≡ true → opening place b s ≡ opens w → Viewable b w
+opened-viewable place b s w h e =
+    let f = starts-free place h in
+    viewable place b s w (f .0) (f .1) e
+
 pub opened-holds : Opened-holds
 opened-holds place b s w h e =
-    let f = starts-free place h in
-    let v = viewable place b s w (f .0) (f .1) e in
+    let v = opened-viewable place b s w h e in
     view-of-layout b w (v .fits) (v .sane)

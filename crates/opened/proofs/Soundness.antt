@@ -23,7 +23,8 @@ use Rattle.book.specs.Books.{Node, Line, edition-of, export, first-named, gener
 use Rattle.book.specs.Edits.{stands}
 use Rattle.book.specs.Layout.{Buffers, node-width}
 use Rattle.book.specs.Sanity.{kind-allows, line-ok, name-good, no-semicolon}
-use Rattle.opening.specs.Building.{Building, Taken, on, no, in-block, line-room, new-line, node-room, out-of-block, part, take-event, take-kept, take-node, take-parent}
+use Rattle.rooms.specs.Rooms.{line-room, node-room}
+use Rattle.opening.specs.Building.{Building, Taken, on, no, in-block, new-line, out-of-block, part, take-event, take-kept, take-node, take-parent}
 use Rattle.opening.specs.Opening.{nothing-yet}
 use Rattle.opening.proofs.Kept.{kept-line}
 use Rattle.opening.proofs.NodeEvents.{every-more}

@@ -17,13 +17,14 @@ use Rattle.book.specs.Books.{edition-of, regular}
 use Rattle.book.specs.Layout.{Buffers, five, node-form}
 use Rattle.book.specs.View.{any-node, book-of}
 use Rattle.book.proofs.Forms.{node-laws}
+use Rattle.rooms.specs.Rooms.{line-room, node-room, pool-room}
+use Rattle.rooms.proofs.Putting.{room-both}
 use Rattle.opening.specs.declared.Progress.{Progress}
 use Rattle.opening.specs.declared.Taking.{Taking}
 use Rattle.opening.specs.declared.Taking.the-variants.{On}
-use Rattle.opening.specs.Building.{Building, Taken, line-room, node-room, on, no, part, take-event, take-kept, take-node}
+use Rattle.opening.specs.Building.{Building, Taken, on, no, part, take-event, take-kept, take-node}
 use Rattle.opening.specs.Opening.{Opening, build, on-taken}
-use Rattle.opening.specs.State.{Lies, Took, Took-line, Took-node, Took-parent, building, built, inside-block, outside-block, pool-room}
-use Rattle.opening.proofs.Kept.{room-both}
+use Rattle.opening.specs.State.{Lies, Took, Took-line, Took-node, Took-parent, building, built, inside-block, outside-block}
 use Rattle.opening.proofs.States.{is-state, nodes-of}
 
 -- an event of a reading lies in its text

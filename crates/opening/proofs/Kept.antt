@@ -1,31 +1,26 @@
--- What is kept of a token is as a book's line asks: a kept glob stands, All has no bytes, and no line is longer than a token may be. And the bytes that are
--- put at the front of a part of a buffer are pasted into it. Assumes nothing.
-use Prim.Native.Nat.{ℕ, _+_, _-_, _≤_, _<_}
-use mathlib.Core.Path.{_≡_, refl, sym, ap, ap₂, _∙_}
-use mathlib.Core.List.{List, [], _∷_, _++_, append-assoc}
+-- What is kept of a token is as a book's line asks: a kept glob stands, All has no bytes, and no line is longer than a token may be. Assumes
+-- nothing.
+use Prim.Native.Nat.{ℕ, _≤_, _<_}
+use mathlib.Core.Path.{_≡_, refl, ap, ap₂}
+use mathlib.Core.List.{List, [], _∷_}
 use mathlib.Core.Bool.{Bool, true, false, cond, not, _||_}
 use native.Mathlib.Decide.{ℕ-discrete}
 use native.Mathlib.Omega.{arith}
-use borrow.Author.Tests.{eq-eqb, ne-eqb, eqb-true, le-leb, lt-leb, lt-ltb, ltb-false, ltb-true}
-use lib.Dec.{eqb, leb, ltb}
-use lib.ListN.{length, take, drop, length-take, length-drop, take-append-drop}
-use lib.Seq.{paste, drop-append-le, drop-drop, take-length}
-use Rattle.numbers.specs.Limits.{pool-limit, token-limit}
-use Rattle.lists.specs.Front.{front}
+use borrow.Author.Tests.{eq-eqb, ne-eqb, eqb-true, le-leb, lt-ltb}
+use lib.Dec.{eqb}
+use lib.ListN.{length}
+use Rattle.numbers.specs.Limits.{token-limit}
 use Rattle.lists.proofs.SameLaws.{same-refl}
 use Rattle.pattern.specs.declared.Edition.{Edition}
 use Rattle.pattern.specs.Patterns.{refusal}
 use Rattle.pattern.specs.Storing.{stored, stored-byte, negated-from}
 use Rattle.glob_match.specs.declared.Class.{Class}
 use Rattle.glob_match.specs.declared.Class.the-variants.{Exact, Escaped, NonStar, Star, All}
-use Rattle.glob_match.specs.declared.Stored.{Stored}
 use Rattle.glob_match.specs.Classes.{class-number, lone-star, quoted, scan, unquoted}
 use Rattle.glob_match.specs.Keeping.{Keep, kept, refused, over, keep, keep-as, keep-class, keep-glob, keep-scanned, keep-when}
-use Rattle.glob_match.specs.Answers.{keep-answer, keep-buffer}
 use Rattle.glob_match.proofs.Keeping.{bytes, keep-few}
 use Rattle.book.specs.Books.{edition-of, regular}
 use Rattle.book.specs.Sanity.{content-good, glob-stands, in-range, kind-allows, line-ok}
-use Rattle.opening.specs.State.{Put, pool-room}
 
 -- ---- storing twice changes nothing
 byte-twice : (b : Bool) (c : ℕ) → stored-byte b (stored-byte b c) ≡ stored-byte b c
@@ -140,60 +135,3 @@ module _ (t : List ℕ) (k : Class) (bs : List ℕ) (h : keep (edition-of regula
         all-empty k kept-fine,
       )
       (globs-stand k kept-fine)
-
--- ---- how far the pool q can be filled
-pub room-length : (q : List ℕ) → pool-room q ≤ length q
-room-length q = go (ltb pool-limit (length q)) refl
-  where
-    go : (x : Bool) → ltb pool-limit (length q) ≡ x → cond x pool-limit (length q) ≤ length q
-    go true h = omega (arith, ltb-true pool-limit (length q) h)
-    go false h = omega arith
-
-pub room-limit : (q : List ℕ) → pool-room q ≤ pool-limit
-room-limit q = go (ltb pool-limit (length q)) refl
-  where
-    go : (x : Bool) → ltb pool-limit (length q) ≡ x → cond x pool-limit (length q) ≤ pool-limit
-    go true h = omega arith
-    go false h = ltb-false pool-limit (length q) h
-
-pub room-both : (q : List ℕ) (k : ℕ) → k ≤ length q → k ≤ pool-limit → k ≤ pool-room q
-room-both q k a b = go (ltb pool-limit (length q))
-  where
-    go : (x : Bool) → k ≤ cond x pool-limit (length q)
-    go true = b
-    go false = a
-
--- ---- bytes at the front of the part of q that has k elements from `at` on
-front-part : (q bs : List ℕ) (at k : ℕ) → length bs ≤ k → at + k ≤ length q
-    → take at q ++ (front bs (take k (drop at q)) ++ drop k (drop at q)) ≡ paste q at bs (length bs)
-unfolding front
-front-part q bs at k h j =
-    let d : List ℕ = drop at q in
-    let l : length bs ≤ length (take k d) = omega (arith, length-take k d, length-drop at q) in
-    let e : drop (length bs) (take k d) ++ drop k d ≡ drop (length bs) d
-    = sym (drop-append-le (length bs) (take k d) (drop k d) l) ∙ ap (drop (length bs)) (take-append-drop k d) in
-    ap (λ (x : List ℕ). take at q ++ x) (append-assoc bs (drop (length bs) (take k d)) (drop k d) ∙ ap (λ (x : List ℕ). bs ++ x) (e ∙ drop-drop (length bs) at q))
-    ∙ rw (take-length, append-assoc)
-
--- what `store_token` answers and leaves in the part up to `end`
-put-part : (K : Keep) (q v : List ℕ) (at end : ℕ) (r : Stored) → end ≡ pool-room q → at ≤ pool-room q
-    → r ≡ keep-answer K (length (take (end - at) (drop at q))) → v ≡ keep-buffer K (take (end - at) (drop at q))
-    → Put K q at r (take at q ++ (v ++ drop (end - at) (drop at q)))
-unfolding keep-answer keep-buffer
-put-part (kept k bs) q v at end r e h a b =
-    let w = room-length q in
-    let n : length (take (end - at) (drop at q)) ≡ end - at = omega (arith, length-take (end - at) (drop at q), length-drop at q) in (
-      λ i.
-          let t : leb (length bs) (length (take (end - at) (drop at q))) ≡ true = le-leb (length bs) (length (take (end - at) (drop at q))) (omega arith) in (
-            a ∙ rw t,
-            rw (b, t) (front-part q bs at (end - at) (omega arith) (omega arith)),
-          ),
-      λ i. a ∙ rw (lt-leb (length bs) (length (take (end - at) (drop at q))) (omega arith)),
-    )
-put-part (refused n) q v at end r e h a b = a
-
--- with the edition x that `edition_of` answers
-pub put-stored : (x : Edition) (t q v : List ℕ) (at end : ℕ) (r : Stored) → x ≡ edition-of regular → end ≡ pool-room q → at ≤ pool-room q
-    → r ≡ keep-answer (keep x t) (length (take (end - at) (drop at q))) → v ≡ keep-buffer (keep x t) (take (end - at) (drop at q))
-    → Put (keep (edition-of regular) t) q at r (take at q ++ (v ++ drop (end - at) (drop at q)))
-put-stored x t q v at end r z e h a b = rw (← z) (put-part (keep x t) q v at end r e h a b)

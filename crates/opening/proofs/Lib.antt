@@ -5,3 +5,4 @@ pub mod LineEvents
 pub mod EachEvent
 pub mod Opens
 pub mod Refusing
+pub mod RefusalPlaces

@@ -19,9 +19,10 @@ use Rattle.book.specs.Layout.{five, line-form, node-form, node-width}
 use Rattle.book.specs.Sanity.{in-range, line-ok}
 use Rattle.book.specs.View.{any-node}
 use Rattle.book.proofs.Forms.{node-laws}
+use Rattle.rooms.specs.Rooms.{node-room}
 use Rattle.opening.specs.declared.Progress.{Progress}
 use Rattle.opening.specs.declared.Taking.the-variants.{On, No}
-use Rattle.opening.specs.Building.{node-room, take-node, take-parent}
+use Rattle.opening.specs.Building.{take-node, take-parent}
 use Rattle.opening.specs.State.{Took-node, Took-parent, built}
 use Rattle.opening.proofs.States.{State, building-is, is-state, lines-of, nodes-of, state-is}
 

@@ -24,7 +24,8 @@ use Rattle.reading.specs.Events as events
 use Rattle.reading.proofs.Refusals.{of-reader, reading-refuses}
 use Rattle.book.specs.Books.{edition-of, first-named, regular}
 use Rattle.book.specs.Layout.{Buffers, node-width}
-use Rattle.opening.specs.Building.{Building, Taken, line-room, node-room, no, on, part, take-event, take-kept, take-node, take-parent}
+use Rattle.rooms.specs.Rooms.{line-room, node-room}
+use Rattle.opening.specs.Building.{Building, Taken, no, on, part, take-event, take-kept, take-node, take-parent}
 use Rattle.opening.specs.Opening.{Opening, build, build-reading, declined, ended, nothing-yet, on-taken, opening, opens}
 
 -- a number of a refused opening

@@ -1,12 +1,10 @@
 -- A book while its text is read: what each event of the reading makes of it. Assumes nothing.
-use Prim.Native.Nat.{ℕ, _+_, _-_, _*_}
+use Prim.Native.Nat.{ℕ, _-_}
 use mathlib.Core.List.{List, [], _∷_, _++_}
 use mathlib.Core.Bool.{Bool, true, false, cond, _&&_, _||_, not}
-use lib.Dec.{eqb, leb, ltb}
+use lib.Dec.{eqb, ltb}
 use lib.ListN.{length, getD, set, take, drop}
-use Rattle.numbers.specs.Limits.{line-limit, node-limit, pool-limit}
 use Rattle.numbers.specs.Refusals.{no-room, unknown-parent}
-use Rattle.packing.specs.Tables.{packed}
 use Rattle.pattern.specs.declared.Edition.{Edition}
 use Rattle.glob_match.specs.Classes.{class-number}
 use Rattle.glob_match.specs.Keeping.{Keep, kept, refused, keep}
@@ -14,7 +12,8 @@ use Rattle.reading.specs.declared.Event.{Event}
 use Rattle.reading.specs.declared.Event.the-variants.{Node, Body, Section, Extern, Closed, Line, Parent}
 use Rattle.book.specs.Books.{all-class, edition-of, exact-class, first-named, global, local, no-node, regular}
 use Rattle.book.specs.Books as book
-use Rattle.book.specs.Layout.{Buffers, line-form, line-width, node-form, node-width}
+use Rattle.book.specs.Layout.{Buffers}
+use Rattle.rooms.specs.Rooms.{line-room, node-room}
 
 -- what is there so far: nodes and lines; whether the reading is in an extern block; whether the globals have what the Rust kind's have not, an extern block
 -- or a line that is not Exact; and whether a bare `*;` stands among the locals
@@ -33,20 +32,6 @@ pub data Taken : Type 0 where
 -- the part of the text s that starts at p and has n bytes
 abbrev pub part : List ℕ → ℕ → ℕ → List ℕ
 part s p n = take n (drop p s)
-
--- ---- "a row, byte or journal limit or room would be passed"
-unfoldable pub node-room : Buffers → List book.Node → List ℕ → Bool
-node-room b xs name =
-    ltb (length xs) node-limit
-    && (leb (node-width * (length xs + 1)) (length (b .nodes))
-    && leb (length (packed node-form xs) + length name) (length (b .names)))
-
-unfoldable pub line-room : Buffers → List book.Line → List ℕ → Bool
-line-room b xs bs =
-    ltb (length xs) line-limit
-    && (leb (line-width * (length xs + 1)) (length (b .lines))
-    && (leb (length (packed line-form xs) + length bs) pool-limit
-    && leb (length (packed line-form xs) + length bs) (length (b .pool))))
 
 -- ---- a named node begins: "A node's room is asked after its name"
 abbrev pub with-node : Building → List ℕ → Building

@@ -1,24 +1,19 @@
 -- A book while its text is read, as it stands in the buffers, and what each event makes of it there. Assumes nothing.
-use Prim.Native.Nat.{ℕ, _+_, _*_, _≤_, _<_}
+use Prim.Native.Nat.{ℕ, _+_, _*_, _≤_}
 use mathlib.Core.Path.{_≡_}
 use mathlib.Core.List.{List, []}
 use mathlib.Core.Bool.{Bool, true, false, cond, not, _&&_, _||_}
 use lib.Dec.{eqb, leb, ltb}
 use lib.ListN.{length}
-use lib.Seq.{paste}
-use Rattle.numbers.specs.Limits.{line-limit, pool-limit, script-limit}
-use Rattle.numbers.specs.Refusals.{no-room}
+use Rattle.numbers.specs.Limits.{script-limit}
 use Rattle.packing.specs.Padding.{zeros}
-use Rattle.glob_match.specs.declared.Stored.{Stored}
-use Rattle.glob_match.specs.declared.Stored.the-variants.{As}
-use Rattle.glob_match.specs.declared.Stored.the-variants as stored
-use Rattle.glob_match.specs.Keeping.{Keep, kept, refused, keep}
+use Rattle.glob_match.specs.Keeping.{keep}
 use Rattle.reading.specs.declared.Event.{Event}
 use Rattle.reading.specs.declared.Event.the-variants.{Node, Body, Section, Extern, Closed, Line, Parent}
 use Rattle.reading.specs.Places.{at-list}
 use Rattle.book.specs.declared.Counts.{Counts}
 use Rattle.book.specs.Books.{edition-of, export, global, regular, rust}
-use Rattle.book.specs.Layout.{Buffers, counts-of, five, laid-out, line-width}
+use Rattle.book.specs.Layout.{Buffers, counts-of, five, laid-out}
 use Rattle.book.specs.View.{book-of, laid}
 use Rattle.opening.specs.declared.Built.{Built}
 use Rattle.opening.specs.declared.Built.the-variants.{Done, Refused}
@@ -101,20 +96,6 @@ outside-block g = record {
   mixed = g .mixed;
   starred = g .starred;
 }
-
--- ---- room for a line: how far the pool can be filled, and whether there is a row for line i
-abbrev pub pool-room : List ℕ → ℕ
-pool-room q = cond (ltb pool-limit (length q)) pool-limit (length q)
-
-abbrev pub fits-row : List ℕ → ℕ → Bool
-fits-row l i = ltb i line-limit && leb (line-width * (i + 1)) (length l)
-
--- what is kept of a token, put into the pool q from `at` on where it can be
-abbrev pub Put : Keep → List ℕ → ℕ → Stored → List ℕ → Type 0
-Put (kept k bs) q at r q′ =
-    (at + length bs ≤ pool-room q → (r ≡ As k (length bs)) × (q′ ≡ paste q at bs (length bs)))
-    × (pool-room q < at + length bs → r ≡ stored.Refused no-room)
-Put (refused n) q at r q′ = r ≡ stored.Refused n
 
 -- ---- the text has ended: the kind, and the counts, in whatever buffers
 abbrev pub kind-told : ℕ → Progress → ℕ

@@ -7,11 +7,11 @@ ghost use lib.Dec.{eqb, ltb};
 ghost use lib.ListN.{length};
 ghost use Rattle.numbers.specs.Limits.{node-limit, script-limit};
 ghost use Rattle.packing.specs.Tables.{packs};
-ghost use Rattle.glob_match.specs.Keeping.{keep};
-ghost use Rattle.book.specs.Books.{all-class, edition-of, exact-class, global, local, regular};
+ghost use Rattle.book.specs.Books.{all-class, exact-class, global, local};
 ghost use Rattle.book.specs.Layout.{five, node-form};
 ghost use Rattle.book.specs.View.{any-node};
-ghost use Rattle.opening.specs.State.{Put, Took-line, Took-node, Took-parent, fits-row, inside-block, outside-block, pool-room};
+ghost use Rattle.rooms.specs.Rooms.{pool-room};
+ghost use Rattle.opening.specs.State.{Took-line, Took-node, Took-parent, inside-block, outside-block};
 use crate::Progress;
 use crate::Taking;
 use book::LINE_WIDTH;
@@ -21,15 +21,14 @@ use book::editions::edition_of;
 use book::nodes::first_named;
 use glob_match::Stored;
 use glob_match::classes::class_number;
-use glob_match::storing::store_token;
-use numbers::LINE_LIMIT;
 use numbers::NO_ROOM;
 use numbers::NODE_LIMIT;
-use numbers::POOL_LIMIT;
 use numbers::UNKNOWN_PARENT;
 use packing::put_bytes;
 use packing::put_four;
 use packing::put_three;
+use rooms::has_row;
+use rooms::put_token;
 
 // A named node begins.
 pub(crate) fn take_node(
@@ -107,26 +106,6 @@ pub(crate) fn take_closed(g: Progress) -> Progress
     }
 }
 
-// How far the pool can be filled.
-fn pool_end(pool: &[u8]) -> usize
-    ensures { λ r. ⌜ r ≡ pool-room (now (pool .entry)) ⌝ }
-{
-    if POOL_LIMIT < pool.len() {
-        return POOL_LIMIT;
-    }
-    pool.len()
-}
-
-// Whether there is a row for line n.
-fn has_row(lines: &[u32], n: usize) -> bool
-    ensures { λ r. ⌜ r ≡ fits-row (now (lines .entry)) n ⌝ }
-{
-    if LINE_LIMIT <= n {
-        return false;
-    }
-    n < lines.len() / LINE_WIDTH
-}
-
 // Whether the globals have what the Rust kind's have not, behind a line of that section and class.
 fn mixed_behind(g: Progress, section: u32, class: u32) -> bool
     ensures { λ r. ⌜ r ≡ g .mixed || (eqb section global && not (eqb class exact-class)) ⌝ }
@@ -156,15 +135,6 @@ fn starred_behind(g: Progress, section: u32, class: u32) -> bool
     !g.inside
 }
 
-// What is kept of a token, in the pool from a place on.
-fn put_token(token: &[u8], at: usize, pool: &mut [u8]) -> Stored
-    requires { ⌜ at ≤ pool-room (now pool) ⌝ }
-    ensures { λ r. ⌜ Put (keep (edition-of regular) (now (token .entry))) (now (pool .entry)) at r (now (pool .exit)) ⌝ }
-{
-    let end = pool_end(pool);
-    store_token(edition_of(REGULAR), token, &mut pool[at..end])
-}
-
 // A line of the node that began last.
 pub(crate) fn take_line(
     g: Progress,
@@ -180,7 +150,7 @@ pub(crate) fn take_line(
 {
     let n = g.lines;
     let at = g.pool;
-    match put_token(token, at, pool) {
+    match put_token(edition_of(REGULAR), token, at, pool) {
         Stored::Refused(no) => Taking::No(no, p),
         Stored::As(class, size) => {
             if !has_row(lines, n) {

@@ -2,4 +2,5 @@ pub mod PaddingLaws
 pub mod TableLaws
 pub mod Packings
 pub mod Turns
+pub mod Windows
 mod Loops

@@ -1,5 +1,5 @@
--- Laws of a padded buffer (specs/Padding.antt): its length, its front, and what a paste behind what is there, or zeros over its end, make of it.
--- Assumes nothing.
+-- Laws of a padded buffer (specs/Padding.antt): its length, its front, and what a paste behind what is there, zeros over its end, or a part that is cleared
+-- make of it. Assumes nothing.
 use Prim.Native.Nat.{ℕ, zero, suc, _+_, _-_, _≤_}
 use mathlib.Core.Path.{_≡_, refl, sym, ap, ap₂, _∙_}
 use mathlib.Core.Bool.{true}
@@ -9,7 +9,7 @@ use native.Mathlib.Omega.{arith}
 use borrow.Author.Tests.{eqb-true}
 use lib.Dec.{eqb}
 use lib.ListN.{length, take, drop, length-append, length-replicate, length-drop, take-append-drop, replicate-append-replicate}
-use lib.Seq.{paste, take-append-seam, drop-append-seam, drop-append-add, take-length, length-take-le}
+use lib.Seq.{paste, drop-paste, take-append-seam, drop-append-seam, drop-append-add, drop-drop, take-length, length-take-le}
 use Rattle.lists.proofs.Tests.{both}
 use Rattle.packing.specs.Padding.{zeros, pad, all-zero}
 
@@ -20,6 +20,10 @@ length-pad n xs h = simp (length-append, length-replicate) (omega arith)
 
 zeros-at : (m n : ℕ) → m ≡ n → zeros m ≡ zeros n
 zeros-at m n e = ap zeros e
+
+-- zeros behind zeros
+pub zeros-join : (a b n : ℕ) → a + b ≡ n → zeros a ++ zeros b ≡ zeros n
+zeros-join a b n e = replicate-append-replicate a b 0 ∙ zeros-at (a + b) n e
 
 drop-zeros : (k n : ℕ) → drop k (zeros n) ≡ zeros (n - k)
 drop-zeros zero n = zeros-at n (n - 0) (omega arith)
@@ -74,7 +78,19 @@ pad-split l k h z =
     ∙ ap (λ (r : List ℕ). take k l ++ r)
     (all-zero-is (drop k l) z ∙ zeros-at (length (drop k l)) (length l - length (take k l)) (omega (arith, length-drop k l, length-take-le k l h)))
 
--- ---- pastes, as a caller has them: a buffer that is padded, an index and a count that are lengths
+-- ---- pastes
+-- behind what is pasted a list is as it was
+pub paste-behind : (d s : List ℕ) (at n k : ℕ) → at + n ≤ k → at ≤ length d → n ≤ length s → drop k (paste d at s n) ≡ drop k d
+paste-behind d s at n k h a b =
+    let m : ℕ = k - (at + n) in
+    let e : k ≡ at + n + m = omega arith in
+    ap (λ (i : ℕ). drop i (paste d at s n)) e
+    ∙ sym (drop-drop m (at + n) (paste d at s n))
+    ∙ ap (drop m) (drop-paste d at s n a b)
+    ∙ drop-drop m (at + n) d
+    ∙ ap (λ (i : ℕ). drop i d) (sym e)
+
+-- as a caller has them: a buffer that is padded, an index and a count that are lengths
 module _ (n : ℕ) (l xs ys : List ℕ) (at k : ℕ) where
   -- what is pasted behind what is there is appended
   pub pad-put : l ≡ pad n xs → at ≡ length xs → k ≡ length ys → at + k ≤ n → paste l at ys k ≡ pad n (xs ++ ys)
@@ -90,3 +106,21 @@ module _ (n : ℕ) (l xs ys : List ℕ) (at k : ℕ) where
       let d : length ys + (n - (length xs + length ys)) ≡ n - length xs = omega arith in
       rw (e, a, b)
       (simp (append-assoc, take-append-seam, take-zeros, drop-append-add, drop-append-seam, length-append, replicate-append-replicate, d))
+
+-- ---- zeros in the place of a part that is lent: ys is what the part holds then, as many zeros as it has numbers
+module _ (l ys : List ℕ) where
+  -- a part from a to e
+  pub part-cleared : (a e : ℕ) → a ≤ e → e ≤ length l → ys ≡ zeros (length (take (e - a) (drop a l)))
+      → take a l ++ (ys ++ drop (e - a) (drop a l)) ≡ take a l ++ (zeros (e - a) ++ drop e l)
+  part-cleared a e h r q =
+      let n : length (take (e - a) (drop a l)) ≡ e - a = length-take-le (e - a) (drop a l) (omega (arith, length-drop a l)) in
+      let k : a + (e - a) ≡ e = omega arith in
+      rw (q, n, drop-drop, k)
+
+  -- the front, where the rest is zero
+  pub front-cleared : (k : ℕ) → k ≤ length l → all-zero (drop k l) ≡ true → ys ≡ zeros (length (take k l)) → ys ++ drop k l ≡ pad (length l) []
+  front-cleared k h z q =
+      let n : length (take k l) + length (drop k l) ≡ length l = omega (arith, length-take-le k l h, length-drop k l) in
+      ap₂ (λ (a b : List ℕ). a ++ b) q (all-zero-is (drop k l) z)
+      ∙ zeros-join (length (take k l)) (length (drop k l)) (length l) n
+      ∙ pad-nil (length l)

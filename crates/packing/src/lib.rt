@@ -1,9 +1,9 @@
-// Lent buffers: clearing them, asking whether their rest is zero, and writing bytes and rows of numbers. What a buffer holds, and how rows and bytes are
-// packed, is defined once for every buffer: specs/Padding.antt and specs/Tables.antt.
+// Lent buffers: clearing them, asking whether their rest is zero, writing bytes and rows of numbers, and moving bytes down. What a buffer holds, and how
+// rows and bytes are packed, is defined once for every buffer: specs/Padding.antt and specs/Tables.antt.
 ghost use mathlib.Core.Path.{_≡_};
 ghost use mathlib.Core.List.{[], _∷_};
 ghost use Prim.Native.Nat.{_+_, _≤_};
-ghost use lib.ListN.{length, drop};
+ghost use lib.ListN.{length, drop, take};
 ghost use lib.Seq.{paste};
 ghost use Rattle.lists.specs.Same.{same};
 ghost use Rattle.packing.specs.Padding.{all-zero, zeros};
@@ -81,6 +81,21 @@ pub fn put_bytes(into: &mut [u8], at: usize, bytes: &[u8])
     let mut i = 0;
     while i < bytes.len() {
         into[at + i] = bytes[i];
+        i += 1;
+    }
+}
+
+// Bytes moved down within their buffer. They are copied upward from the lowest, so that each is read before another is written over it.
+pub fn move_down(bytes: &mut [u8], from: usize, to: usize, n: usize)
+    requires { ⌜ (to ≤ from) × (from + n ≤ length (now bytes)) ⌝ }
+    ensures { λ _. ⌜ now (bytes .exit) ≡ paste (now (bytes .entry)) to (take n (drop from (now (bytes .entry)))) n ⌝ }
+{
+    if to == from {
+        return;
+    }
+    let mut i = 0;
+    while i < n {
+        bytes[to + i] = bytes[from + i];
         i += 1;
     }
 }

@@ -78,7 +78,7 @@ unfolding next next-symbol
 behind-ends s c e = rw e
 
 -- its number is small, and its place one of the text
-standing-refuses : (s : List ℕ) (c : Cursor) → Standing s c → (n p : ℕ) → next s c ≡ Refused n p → (n ≤ 4) × (p ≤ length s)
+pub standing-refuses : (s : List ℕ) (c : Cursor) → Standing s c → (n p : ℕ) → next s c ≡ Refused n p → (n ≤ 4) × (p ≤ length s)
 standing-refuses s c k n p h = (small n (next-refuses s c n p h .0), next-refuses s c n p h .1 (go (eqb (c .place) behind-symbol) refl))
   where
     go : (t : Bool) → eqb (c .place) behind-symbol ≡ t → c .at ≤ length s

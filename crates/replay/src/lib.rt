@@ -3,7 +3,7 @@ ghost use Prim.Native.Nat.{_+_, _≤_};
 use libc::STDOUT_FILENO;
 
 // The value of a hex digit, 16 for any other byte.
-fn hex_digit(b: u8) -> u8
+pub fn hex_digit(b: u8) -> u8
     ensures { λ r. ⌜ r ≤ 16 ⌝ }
 {
     if b < b'0' {

@@ -48,6 +48,10 @@ none-wanted has v h = rw (not-true has h)
 pub one-wanted : (has : Bool) (v : List ℕ) → not has ≡ false → ltb version-limit (length v) ≡ long-wanted (wanted-of has v)
 one-wanted has v h = rw (not-false has h)
 
+-- ---- behind the check
+pub book-asked : (c : Counts) (b : Buffers) (x : Bool) → x ≡ holds c b → not x ≡ false → holds c b ≡ true
+book-asked c b x e h = sym e ∙ not-false x h
+
 -- ---- version
 module _ (c : Counts) (n m l p j raw demangled : List ℕ) (has : Bool) (v : List ℕ) (x : Bool) (e : x ≡ holds c (five n m l p j)) where
   pub version-no-book : not x ≡ true → version.Refused no-book ≡ version-asked (view c (five n m l p j)) (name-of raw demangled) (wanted-of has v)

@@ -70,7 +70,7 @@ abbrev pub decided-locality : List Line → Option ℕ → Locality
 decided-locality ls (some i) = cond (eqb (getD ls i no-line .section) global) locality.Global locality.Local
 decided-locality ls none = locality.Nothing
 
--- "global for listed names, else local"
+-- "global for listed names, else local"; the global lines of a book of the Rust kind are Exact and general, and none is struck (14)
 unfoldable pub listed : List Line → List ℕ → Bool
 listed [] t = false
 listed (x ∷ xs) t = (eqb (x .section) global && same (x .bytes) t) || listed xs t
@@ -95,7 +95,7 @@ version-asked (some w) n v =
     (cond (eqb (name-refusal n (long-wanted v)) 0) (version-of w n v)
     (version.Refused (name-refusal n (long-wanted v))))
 
--- "with or without a wanted version": locality is asked without one
+-- "with or without a wanted version": locality is asked without one, so none refuses it
 unfoldable pub locality-asked : Option Book → Name → Locality
 locality-asked none n = locality.Refused no-book
 locality-asked (some w) n =
@@ -103,22 +103,22 @@ locality-asked (some w) n =
     (cond (eqb (name-refusal n false) 0) (locality-of w n)
     (locality.Refused (name-refusal n false)))
 
--- ---- the paper's number of these answers, and its value: an index, 0 for none; 0 nothing, 1 global, 2 local
-abbrev pub version-number : Version → ℕ
-version-number (version.Index i) = 0
-version-number version.Unversioned = 0
-version-number (version.Refused n) = n
+-- ---- the paper's number of these answers, 0 where they are done, and their value: an index, 0 for none; 0 nothing, 1 global, 2 local
+abbrev pub version-refusal : Version → ℕ
+version-refusal (version.Index i) = 0
+version-refusal version.Unversioned = 0
+version-refusal (version.Refused n) = n
 
 abbrev pub version-value : Version → ℕ
 version-value (version.Index i) = i .0
 version-value version.Unversioned = 0
 version-value (version.Refused n) = 0
 
-abbrev pub locality-number : Locality → ℕ
-locality-number locality.Nothing = 0
-locality-number locality.Global = 0
-locality-number locality.Local = 0
-locality-number (locality.Refused n) = n
+abbrev pub locality-refusal : Locality → ℕ
+locality-refusal locality.Nothing = 0
+locality-refusal locality.Global = 0
+locality-refusal locality.Local = 0
+locality-refusal (locality.Refused n) = n
 
 abbrev pub locality-value : Locality → ℕ
 locality-value locality.Nothing = 0

@@ -1,4 +1,5 @@
--- What a version book is asked about its nodes, as 01 has it under 'Ranking': the counts, and a node's name and parent. Assumes nothing.
+-- What a version book is asked about its nodes: the counts, as 01 has them under 'Ranking'; and a node's name and parent, for who shows a book, which 01 does not
+-- name. Assumes nothing.
 use Prim.Native.Nat.{ℕ, _+_}
 use mathlib.Core.List.{List, [], _∷_}
 use mathlib.Core.Bool.{cond}
@@ -42,11 +43,19 @@ unfoldable pub node-of : ℕ → Option Book → NodeAnswer
 node-of i none = node.Refused no-book
 node-of i (some w) = cond (eqb (w .kind) export) (node.Refused wrong-kind) (node-told i w)
 
--- ---- the paper's numbers of these answers: the refusal or 0, and the values
-abbrev pub count-number : Count → ℕ
-count-number (count.Counted n) = 0
-count-number (count.Refused n) = n
+-- ---- the paper's number of these answers, 0 where they are done, and their values
+abbrev pub count-refusal : Count → ℕ
+count-refusal (count.Counted n) = 0
+count-refusal (count.Refused n) = n
 
 abbrev pub count-value : Count → ℕ
 count-value (count.Counted n) = n
 count-value (count.Refused n) = 0
+
+abbrev pub node-refusal : NodeAnswer → ℕ
+node-refusal (node.Node start len parent) = 0
+node-refusal (node.Refused n) = n
+
+abbrev pub node-values : NodeAnswer → List ℕ
+node-values (node.Node start len parent) = start ∷ len ∷ parent ∷ []
+node-values (node.Refused n) = []

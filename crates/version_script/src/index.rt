@@ -8,7 +8,7 @@ pub struct NodeNumber(pub u16);
 pub struct VersionIndex(pub u32);
 
 impl VersionIndex {
-    // The index of a symbol that is global and in no node.
+    // The named value for global, which an empty wanted version gives.
     pub const GLOBAL: VersionIndex = VersionIndex(1);
 
     // "index is 1 plus number": the only way from one to the other.

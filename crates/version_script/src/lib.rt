@@ -1,6 +1,6 @@
 // version_script.rs, the book's side: a version script opened into lent buffers, its counts and its nodes, and the version and locality of a name. Definitions:
 // specs/Questions.antt and specs/Lookups.antt, from document 01, 'Ranking'; the opening's are those of the crate `opening`. Every question asks first whether
-// the buffers hold a book (14).
+// the buffers hold a book (14); `version_in_book` and `locality_in_book` are for callers who know it.
 ghost use mathlib.Core.Path.{_≡_};
 ghost use Rattle.reading.specs.Places.{at-script};
 ghost use Rattle.book.specs.Layout.{five};

@@ -8,7 +8,7 @@ ghost use Rattle.packing.specs.Tables.{packs, things};
 ghost use Rattle.book.specs.Books.{edition-of};
 ghost use Rattle.book.specs.Layout.{five, line-form, node-form};
 ghost use Rattle.book.specs.Sanity.{line-ok};
-ghost use Rattle.book.specs.View.{any-node, view};
+ghost use Rattle.book.specs.View.{any-node, holds, view};
 ghost use Rattle.ranking.specs.Matching.{line-matches, name-of};
 ghost use Rattle.ranking.specs.Walk.{stages, walk};
 ghost use Rattle.version_script.specs.Lookups.{decided-locality, decided-version, known, last-named, listed, locality-asked, long-wanted, node-version, version-asked, wanted-of, wanted-version};
@@ -103,6 +103,39 @@ fn is_long(has_wanted: bool, wanted: &[u8]) -> bool
     VERSION_LIMIT < wanted.len()
 }
 
+// The version of a name in buffers that hold a book; `has_wanted` says that the version `wanted` is wanted.
+pub fn version_in_book(
+    c: Counts,
+    nodes: &[u32],
+    names: &[u8],
+    lines: &[u32],
+    pool: &[u8],
+    journal: &[u32],
+    raw: &[u8],
+    demangled: &[u8],
+    has_wanted: bool,
+    wanted: &[u8],
+) -> Version
+    requires { ⌜ holds c (five (now nodes) (now names) (now lines) (now pool) (now journal)) ≡ true ⌝ }
+    ensures { λ r. ⌜ r ≡ version-asked (view c (five (now (nodes .entry)) (now (names .entry)) (now (lines .entry)) (now (pool .entry)) (now (journal .entry))))
+        (name-of (now (raw .entry)) (now (demangled .entry))) (wanted-of «has_wanted» (now (wanted .entry))) ⌝ }
+{
+    if c.kind == EXPORT {
+        return Version::Refused(WRONG_KIND);
+    }
+    let no = name_refusal(raw, demangled, is_long(has_wanted, wanted));
+    if no != 0 {
+        return Version::Refused(no);
+    }
+    if c.kind == RUST {
+        return Version::Unversioned;
+    }
+    if has_wanted {
+        return wanted_version(c, nodes, names, wanted);
+    }
+    decided_version(c, lines, pool, raw, demangled)
+}
+
 // The version of a name; `has_wanted` says that the version `wanted` is wanted.
 pub fn version_for_symbol(
     c: Counts,
@@ -122,20 +155,18 @@ pub fn version_for_symbol(
     if !is_book(c, nodes, names, lines, pool, journal) {
         return Version::Refused(NO_BOOK);
     }
-    if c.kind == EXPORT {
-        return Version::Refused(WRONG_KIND);
-    }
-    let no = name_refusal(raw, demangled, is_long(has_wanted, wanted));
-    if no != 0 {
-        return Version::Refused(no);
-    }
-    if c.kind == RUST {
-        return Version::Unversioned;
-    }
-    if has_wanted {
-        return wanted_version(c, nodes, names, wanted);
-    }
-    decided_version(c, lines, pool, raw, demangled)
+    version_in_book(
+        c,
+        nodes,
+        names,
+        lines,
+        pool,
+        journal,
+        raw,
+        demangled,
+        has_wanted,
+        wanted,
+    )
 }
 
 // Whether a name is among the globals.
@@ -190,6 +221,37 @@ fn decided_locality(c: Counts, lines: &[u32], pool: &[u8], raw: &[u8], demangled
     }
 }
 
+// Whether a name is global or local, or nothing decides it, in buffers that hold a book.
+pub fn locality_in_book(
+    c: Counts,
+    nodes: &[u32],
+    names: &[u8],
+    lines: &[u32],
+    pool: &[u8],
+    journal: &[u32],
+    raw: &[u8],
+    demangled: &[u8],
+) -> Locality
+    requires { ⌜ holds c (five (now nodes) (now names) (now lines) (now pool) (now journal)) ≡ true ⌝ }
+    ensures { λ r. ⌜ r ≡ locality-asked (view c (five (now (nodes .entry)) (now (names .entry)) (now (lines .entry)) (now (pool .entry)) (now (journal .entry))))
+        (name-of (now (raw .entry)) (now (demangled .entry))) ⌝ }
+{
+    if c.kind == EXPORT {
+        return Locality::Refused(WRONG_KIND);
+    }
+    let no = name_refusal(raw, demangled, false);
+    if no != 0 {
+        return Locality::Refused(no);
+    }
+    if c.kind == RUST {
+        if is_listed(c, lines, pool, raw) {
+            return Locality::Global;
+        }
+        return Locality::Local;
+    }
+    decided_locality(c, lines, pool, raw, demangled)
+}
+
 // Whether a name is global or local, or nothing decides it.
 pub fn locality(
     c: Counts,
@@ -207,18 +269,5 @@ pub fn locality(
     if !is_book(c, nodes, names, lines, pool, journal) {
         return Locality::Refused(NO_BOOK);
     }
-    if c.kind == EXPORT {
-        return Locality::Refused(WRONG_KIND);
-    }
-    let no = name_refusal(raw, demangled, false);
-    if no != 0 {
-        return Locality::Refused(no);
-    }
-    if c.kind == RUST {
-        if is_listed(c, lines, pool, raw) {
-            return Locality::Global;
-        }
-        return Locality::Local;
-    }
-    decided_locality(c, lines, pool, raw, demangled)
+    locality_in_book(c, nodes, names, lines, pool, journal, raw, demangled)
 }

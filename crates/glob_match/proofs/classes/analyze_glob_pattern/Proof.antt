@@ -7,7 +7,7 @@ use borrow.Author.Needs.{needs}
 use lib.ListN.{length, drop}
 use Rattle.glob_match.specs.Classes.{scan}
 use Rattle.glob_match.specs.declared.Class.the-variants.{Exact}
-use Rattle.glob_match.proofs.Scanning.{scan-star, scan-escape, scan-on, scan-end}
+use Rattle.glob_match.proofs.Scanning.{scan-plain, scan-star, scan-escape, scan-on, scan-end}
 use Rattle.glob_match.proofs.classes.analyze_glob_pattern.Statement.{statement}
 use Rattle.glob_match.proofs.classes.analyze_glob_pattern.Tie as tie
 
@@ -23,12 +23,6 @@ loop-holds c = refl
 shared-slice-read-c : tie.Need-shared-slice-read-c Inv-loop μ-loop
 shared-slice-read-c c = search needs
 
-returns : tie.Need-returns Inv-loop μ-loop
-returns c = search scan-star
-
-with-byte-requires : tie.Need-with-byte-requires Inv-loop μ-loop
-with-byte-requires c κs = search needs
-
 add-i : tie.Need-add-i Inv-loop μ-loop
 add-i c = search needs
 
@@ -36,7 +30,13 @@ loop-less : tie.Need-loop-less Inv-loop μ-loop
 loop-less c = omega arith
 
 loop-again : tie.Need-loop-again Inv-loop μ-loop
-loop-again c = search scan-escape
+loop-again c = search scan-plain
+
+returns : tie.Need-returns Inv-loop μ-loop
+returns c = search scan-star
+
+with-byte-requires : tie.Need-with-byte-requires Inv-loop μ-loop
+with-byte-requires c κs = search needs
 
 add-i-2 : tie.Need-add-i-2 Inv-loop μ-loop
 add-i-2 c = search needs
@@ -45,7 +45,16 @@ loop-less-2 : tie.Need-loop-less-2 Inv-loop μ-loop
 loop-less-2 c = omega arith
 
 loop-again-2 : tie.Need-loop-again-2 Inv-loop μ-loop
-loop-again-2 c = search scan-on
+loop-again-2 c = search scan-escape
+
+add-i-3 : tie.Need-add-i-3 Inv-loop μ-loop
+add-i-3 c = search needs
+
+loop-less-3 : tie.Need-loop-less-3 Inv-loop μ-loop
+loop-less-3 c = omega arith
+
+loop-again-3 : tie.Need-loop-again-3 Inv-loop μ-loop
+loop-again-3 c = search scan-on
 
 returns-2 : tie.Need-returns-2 Inv-loop μ-loop
 returns-2 c = search scan-end
@@ -58,12 +67,15 @@ analyze-glob-pattern-spec =
     μ-loop
     loop-holds
     shared-slice-read-c
-    returns
-    with-byte-requires
     add-i
     loop-less
     loop-again
+    returns
+    with-byte-requires
     add-i-2
     loop-less-2
     loop-again-2
+    add-i-3
+    loop-less-3
+    loop-again-3
     returns-2)

@@ -4,10 +4,15 @@ use native.Mathlib.Omega.{arith}
 use mathlib.Core.List.{[]}
 use mathlib.Core.Path.{sym, _∙_}
 use borrow.Author.Tests.{not-true, not-false}
-use Rattle.opening.proofs.LineEvents.{line-added, line-ends, line-refused, line-rowless, row-number, row-within}
-use Rattle.opening.proofs.Kept.{class-few, room-limit}
+use Rattle.rooms.proofs.Putting.{room-limit}
+use Rattle.rooms.proofs.Rows.{row-number, row-within}
+use Rattle.opening.proofs.LineEvents.{line-added, line-ends, line-refused, line-rowless}
+use Rattle.opening.proofs.Kept.{class-few}
 use Rattle.opening.proofs.taken.take_line.Statement.{statement}
 use Rattle.opening.proofs.taken.take_line.Tie as tie
+
+edition-of-requires : tie.Need-edition-of-requires
+edition-of-requires c κs = search needs
 
 put-token-requires : tie.Need-put-token-requires
 put-token-requires c κs = search needs
@@ -30,8 +35,9 @@ same-length-2 c = search needs
 returns : tie.Need-returns
 returns c =
     let x = c .before .before .before .before .before .before .before .before in
-    let a = x .before .before .before .before .before .args in
-    line-rowless (a .g) (a .p) (a .section) (a .language) (a .token .now) (a .lines .now) (a .pool .now) (x .put-token .result) _ (x .put-token .ensures)
+    let a = x .before .before .before .before .before .before .args in
+    line-rowless (a .g) (a .p) (a .section) (a .language) (a .token .now) (a .lines .now) (a .pool .now)
+    (x .before .before .edition-of .result) (x .before .before .edition-of .ensures) (x .put-token .result) _ (x .put-token .ensures)
     _ _ [] [] (c .before .before .before .before .class .given .1) (sym (c .before .has-row .ensures) ∙ not-true _ (c .if1 .taken))
 
 class-number-requires : tie.Need-class-number-requires
@@ -46,7 +52,7 @@ cast-node c = search needs
 mul-put-four : tie.Need-mul-put-four
 mul-put-four c =
     let x = c .before .before .before .before .before .before .before .before .before .before .before in
-    let a = x .before .before .before .before .before .args in
+    let a = x .before .before .before .before .before .before .args in
     let i = c .before .before .before in
     let r = row-number (a .lines .now) (a .g .lines) (sym (i .before .has-row .ensures) ∙ not-false _ (i .if1 .left)) in
     omega arith
@@ -66,23 +72,24 @@ add-put-four-2 c = omega (arith, c .before .before .class-number .ensures, class
 cast-put-four : tie.Need-cast-put-four
 cast-put-four c =
     let x = c .before .before .before .before .before .before .before .before .before .before .before in
-    let a = x .before .before .before .before .before .args in
+    let a = x .before .before .before .before .before .before .args in
     omega (arith, room-limit (a .pool .now))
 
 cast-put-four-2 : tie.Need-cast-put-four-2
 cast-put-four-2 c =
     let x = c .before .before .before .before .before .before .before .before .before .before .before in
-    let a = x .before .before .before .before .before .args in
+    let a = x .before .before .before .before .before .before .args in
     omega (
       arith,
-      line-ends (a .g) (a .p) (a .section) (a .language) (a .token .now) (a .lines .now) (a .pool .now) (x .put-token .result) _ (x .put-token .ensures)
+      line-ends (a .g) (a .p) (a .section) (a .language) (a .token .now) (a .lines .now) (a .pool .now)
+          (x .before .before .edition-of .result) (x .before .before .edition-of .ensures) (x .put-token .result) _ (x .put-token .ensures)
           _ _ (c .before .before .before .before .before .before .before .class .given .1),
     )
 
 put-four-requires : tie.Need-put-four-requires
 put-four-requires c κs =
     let x = c .before .before .before .before .before .before .before .before .before .before .before in
-    let a = x .before .before .before .before .before .args in
+    let a = x .before .before .before .before .before .before .args in
     let i = c .before .before .before in
     let r = row-within (a .lines .now) (a .g .lines) (sym (i .before .has-row .ensures) ∙ not-false _ (i .if1 .left)) in
     omega arith
@@ -93,21 +100,22 @@ mixed-behind-requires c κs = search needs
 starred-behind-requires : tie.Need-starred-behind-requires
 starred-behind-requires c κs = search needs
 
-add-t25 : tie.Need-add-t25
-add-t25 c =
+add-t26 : tie.Need-add-t26
+add-t26 c =
     let x = c .before .before .before .before .before .before .before .before .before .before .before .before .before .before .before .before in
-    let a = x .before .before .before .before .before .args in
+    let a = x .before .before .before .before .before .before .args in
     let i = c .before .before .before .before .before .before .before .before in
     let r = row-number (a .lines .now) (a .g .lines) (sym (i .before .has-row .ensures) ∙ not-false _ (i .if1 .left)) in
     omega arith
 
-add-t35 : tie.Need-add-t35
-add-t35 c =
+add-t36 : tie.Need-add-t36
+add-t36 c =
     let x = c .before .before .before .before .before .before .before .before .before .before .before .before .before .before .before .before in
-    let a = x .before .before .before .before .before .args in
+    let a = x .before .before .before .before .before .before .args in
     omega (
       arith,
-      line-ends (a .g) (a .p) (a .section) (a .language) (a .token .now) (a .lines .now) (a .pool .now) (x .put-token .result) _ (x .put-token .ensures)
+      line-ends (a .g) (a .p) (a .section) (a .language) (a .token .now) (a .lines .now) (a .pool .now)
+          (x .before .before .edition-of .result) (x .before .before .edition-of .ensures) (x .put-token .result) _ (x .put-token .ensures)
           _ _ (c .before .before .before .before .before .before .before .before .before .before .before .before .class .given .1),
     )
 
@@ -117,8 +125,9 @@ same-length-3 c = search needs
 returns-2 : tie.Need-returns-2
 returns-2 c =
     let x = c .before .before .before .before .before in
-    let a = x .before .before .before .before .before .args in
-    line-refused (a .g) (a .p) (a .section) (a .language) (a .token .now) (a .lines .now) (a .pool .now) (x .put-token .result) _ (x .put-token .ensures) _ [] [] (c .before .no .given .1)
+    let a = x .before .before .before .before .before .before .args in
+    line-refused (a .g) (a .p) (a .section) (a .language) (a .token .now) (a .lines .now) (a .pool .now)
+    (x .before .before .edition-of .result) (x .before .before .edition-of .ensures) (x .put-token .result) _ (x .put-token .ensures) _ [] [] (c .before .no .given .1)
 
 same-length-4 : tie.Need-same-length-4
 same-length-4 c = search needs
@@ -129,9 +138,10 @@ same-length-5 c = search needs
 returns-3 : tie.Need-returns-3
 returns-3 c =
     let x = c .before .before .before .before .before .before .before .before .before .before .before .before .before .before .before .before in
-    let a = x .before .before .before .before .before .args in
+    let a = x .before .before .before .before .before .before .args in
     let i = c .before .before .before .before .before .before .before .before in
-    line-added (a .g) (a .p) (a .section) (a .language) (a .token .now) (a .lines .now) (a .pool .now) (x .put-token .result) _ (x .put-token .ensures)
+    line-added (a .g) (a .p) (a .section) (a .language) (a .token .now) (a .lines .now) (a .pool .now)
+    (x .before .before .edition-of .result) (x .before .before .edition-of .ensures) (x .put-token .result) _ (x .put-token .ensures)
     _ _ _ _ _ _ (i .before .before .before .before .class .given .1) (sym (i .before .has-row .ensures) ∙ not-false _ (i .if1 .left)) (omega arith) (omega arith)
     (c .before .before .before .before .before .before .before .class-number .ensures) (c .before .mixed-behind .ensures) (c .starred-behind .ensures) (c .before .before .before .before .put-four .ensures)
 
@@ -139,6 +149,7 @@ pub take-line-spec : {M : Type 1} → statement M
 take-line-spec =
     tie.close
     (tie.spec
+    edition-of-requires
     put-token-requires
     enum-known-no
     enum-known-class
@@ -159,8 +170,8 @@ take-line-spec =
     put-four-requires
     mixed-behind-requires
     starred-behind-requires
-    add-t25
-    add-t35
+    add-t26
+    add-t36
     same-length-3
     returns-2
     same-length-4

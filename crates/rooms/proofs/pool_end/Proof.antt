@@ -1,7 +1,7 @@
 -- `pool_end` meets its contract. Assumes nothing.
 use borrow.Author.Tests.{le-ltb, lt-ltb}
-use Rattle.opening.proofs.taken.pool_end.Statement.{statement}
-use Rattle.opening.proofs.taken.pool_end.Tie as tie
+use Rattle.rooms.proofs.pool_end.Statement.{statement}
+use Rattle.rooms.proofs.pool_end.Tie as tie
 
 returns : tie.Need-returns
 returns c = rw (lt-ltb _ _ (c .if1 .taken))

@@ -1,15 +1,13 @@
 -- `put_token` meets its contract: the part of the pool behind what is there is lent to `store_token`. Assumes nothing.
 use borrow.Author.Needs.{needs}
 use native.Mathlib.Omega.{arith}
-use Rattle.opening.proofs.Kept.{put-stored, room-length}
-use Rattle.opening.proofs.taken.put_token.Statement.{statement}
-use Rattle.opening.proofs.taken.put_token.Tie as tie
+use Rattle.glob_match.specs.Keeping.{keep}
+use Rattle.rooms.proofs.Putting.{put-part, room-length}
+use Rattle.rooms.proofs.put_token.Statement.{statement}
+use Rattle.rooms.proofs.put_token.Tie as tie
 
 pool-end-requires : tie.Need-pool-end-requires
 pool-end-requires c κs = search needs
-
-edition-of-requires : tie.Need-edition-of-requires
-edition-of-requires c κs = search needs
 
 sub-store-token : tie.Need-sub-store-token
 sub-store-token c = search needs
@@ -19,8 +17,9 @@ part-store-token-start c = search needs
 
 part-store-token-end : tie.Need-part-store-token-end
 part-store-token-end c =
-    let a = c .before .before .before .before .before .args in
-    omega (arith, room-length (a .pool .now), c .before .pool-end .ensures)
+    let p = c in
+    let a = p .before .before .before .before .args in
+    omega (arith, room-length (a .pool .now), p .pool-end .ensures)
 
 store-token-requires : tie.Need-store-token-requires
 store-token-requires c κs = search needs
@@ -31,11 +30,10 @@ same-length c = search needs
 returns : tie.Need-returns
 returns c =
     let x = c .before .before in
-    let e = x .before .before in
-    let p = e .before in
+    let p = x .before .before in
     let s = p .before .before .before .before in
     let a = s .args in
-    put-stored (e .edition-of .result) (a .token .now) (a .pool .now) _ (a .at) (p .pool-end .result) (x .store-token .result) (e .edition-of .ensures)
+    put-part (keep (a .edition) (a .token .now)) (a .pool .now) _ (a .at) (p .pool-end .result) (x .store-token .result)
     (p .pool-end .ensures) (s .pre) (x .store-token .ensures .0) (x .store-token .ensures .1)
 
 pub put-token-spec : {M : Type 1} → statement M
@@ -43,7 +41,6 @@ put-token-spec =
     tie.close
     (tie.spec
     pool-end-requires
-    edition-of-requires
     sub-store-token
     part-store-token-start
     part-store-token-end

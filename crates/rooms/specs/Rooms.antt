@@ -1,0 +1,54 @@
+-- Whether a row or bytes more have room in lent buffers and are within their limits: "a row, byte or journal limit or room would be passed" is 8. Assumes
+-- nothing.
+use Prim.Native.Nat.{ℕ, _+_, _*_, _≤_, _<_}
+use mathlib.Core.Path.{_≡_}
+use mathlib.Core.List.{List}
+use mathlib.Core.Bool.{Bool, cond, _&&_}
+use lib.Dec.{leb, ltb}
+use lib.ListN.{length}
+use lib.Seq.{paste}
+use Rattle.numbers.specs.Limits.{edit-limit, line-limit, node-limit, pool-limit}
+use Rattle.numbers.specs.Refusals.{no-room}
+use Rattle.packing.specs.Tables.{packed}
+use Rattle.glob_match.specs.declared.Stored.{Stored}
+use Rattle.glob_match.specs.declared.Stored.the-variants as stored
+use Rattle.glob_match.specs.Keeping.{Keep, kept, refused}
+use Rattle.book.specs.Books.{Edit, Line, Node}
+use Rattle.book.specs.Layout.{Buffers, edit-width, line-form, line-width, node-form, node-width}
+
+-- ---- a node more, with its name
+unfoldable pub node-room : Buffers → List Node → List ℕ → Bool
+node-room b xs name =
+    ltb (length xs) node-limit
+    && (leb (node-width * (length xs + 1)) (length (b .nodes))
+    && leb (length (packed node-form xs) + length name) (length (b .names)))
+
+-- ---- a line more, with its bytes
+unfoldable pub line-room : Buffers → List Line → List ℕ → Bool
+line-room b xs bs =
+    ltb (length xs) line-limit
+    && (leb (line-width * (length xs + 1)) (length (b .lines))
+    && (leb (length (packed line-form xs) + length bs) pool-limit
+    && leb (length (packed line-form xs) + length bs) (length (b .pool))))
+
+-- a row for line i in l
+abbrev pub fits-row : List ℕ → ℕ → Bool
+fits-row l i = ltb i line-limit && leb (line-width * (i + 1)) (length l)
+
+-- how far the pool q can be filled
+abbrev pub pool-room : List ℕ → ℕ
+pool-room q = cond (ltb pool-limit (length q)) pool-limit (length q)
+
+-- what is kept of a token, put into the pool q from `at` on where it can be. A refusal leaves the pool as it was
+abbrev pub Put : Keep → List ℕ → ℕ → Stored → List ℕ → Type 0
+Put (kept k bs) q at r q′ =
+    (at + length bs ≤ pool-room q → (r ≡ stored.As k (length bs)) × (q′ ≡ paste q at bs (length bs)))
+    × (pool-room q < at + length bs → (r ≡ stored.Refused no-room) × (q′ ≡ q))
+Put (refused n) q at r q′ = (r ≡ stored.Refused n) × (q′ ≡ q)
+
+-- ---- an edit more: a row for edit i of the journal j
+abbrev pub edit-row : List ℕ → ℕ → Bool
+edit-row j i = ltb i edit-limit && leb (edit-width * (i + 1)) (length j)
+
+unfoldable pub edit-room : Buffers → List Edit → Bool
+edit-room b es = edit-row (b .journal) (length es)
