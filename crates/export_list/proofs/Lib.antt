@@ -1,1 +1,3 @@
 pub mod Members
+mod AddedEvents
+mod AddedTexts

@@ -28,10 +28,10 @@ contains-asked (some w) n =
     (membership.Refused wrong-kind)
 
 -- the paper's number of these answers, and its value
-abbrev pub membership-number : Membership → ℕ
-membership-number membership.Within = 0
-membership-number membership.Without = 0
-membership-number (membership.Refused n) = n
+abbrev pub membership-refusal : Membership → ℕ
+membership-refusal membership.Within = 0
+membership-refusal membership.Without = 0
+membership-refusal (membership.Refused n) = n
 
 abbrev pub membership-value : Membership → ℕ
 membership-value membership.Within = 1

@@ -1,0 +1,81 @@
+// A line appended to a book in lent buffers, with its edit. Definitions: changes/specs/Trial.antt (`append`), from document 01, 'The book'.
+ghost use mathlib.Core.Path.{_≡_};
+ghost use mathlib.Core.Bool.{true};
+ghost use Prim.Native.Nat.{_≤_, _<_};
+ghost use Rattle.glob_match.specs.Keeping.{keep};
+ghost use Rattle.book.specs.Books.{edition-of};
+ghost use Rattle.book.specs.Layout.{five};
+ghost use Rattle.book.specs.View.{book-of, laid};
+ghost use Rattle.changes.specs.declared.Edited.the-variants as answer;
+ghost use Rattle.changes.specs.Changes.{after, edited};
+ghost use Rattle.changes.specs.Trial.{append, unplaced};
+use book::Counts;
+use book::EDIT_WIDTH;
+use book::LINE_WIDTH;
+use book::editions::edition_of;
+use changes::ADD;
+use changes::Edited;
+use glob_match::Stored;
+use glob_match::classes::class_number;
+use glob_match::storing::store_token;
+use numbers::NO_ROOM;
+use packing::put_four;
+use packing::put_two;
+use rooms::has_edit;
+use rooms::has_row;
+use rooms::put_token;
+
+// What refuses a token that has no row: 1, 5 or 6, else 8.
+fn refusal_without_row(kind: u32, token: &[u8]) -> u32
+    ensures { λ r. ⌜ r ≡ unplaced (keep (edition-of kind) (now (token .entry))) ⌝ }
+{
+    let mut nothing = [0u8; 1];
+    match store_token(edition_of(kind), token, &mut nothing[..0]) {
+        Stored::Refused(no) => no,
+        Stored::As(_, _) => NO_ROOM,
+    }
+}
+
+// A line of a node, in a section and a language, with a trimmed token.
+pub fn append(
+    c: Counts,
+    nodes: &[u32],
+    names: &[u8],
+    lines: &mut [u32],
+    pool: &mut [u8],
+    journal: &mut [u32],
+    node: u32,
+    section: u32,
+    language: u32,
+    token: &[u8],
+) -> Edited
+    requires { ⌜ (laid c (five (now nodes) (now names) (now lines) (now pool) (now journal)) ≡ true) × (node < c .nodes) × (section ≤ 1) × (language ≤ 1) ⌝ }
+    ensures { λ r. ⌜ (r ≡ edited (append (five (now (nodes .entry)) (now (names .entry)) (now (lines .entry)) (now (pool .entry)) (now (journal .entry))) (book-of c (five (now (nodes .entry)) (now (names .entry)) (now (lines .entry)) (now (pool .entry)) (now (journal .entry)))) node section language (now (token .entry))))
+        × (five (now (nodes .entry)) (now (names .entry)) (now (lines .exit)) (now (pool .exit)) (now (journal .exit))
+        ≡ after (five (now (nodes .entry)) (now (names .entry)) (now (lines .entry)) (now (pool .entry)) (now (journal .entry))) (append (five (now (nodes .entry)) (now (names .entry)) (now (lines .entry)) (now (pool .entry)) (now (journal .entry))) (book-of c (five (now (nodes .entry)) (now (names .entry)) (now (lines .entry)) (now (pool .entry)) (now (journal .entry)))) node section language (now (token .entry)))) ⌝ }
+{
+    let n = c.lines as usize;
+    let e = c.edits as usize;
+    if !has_row(lines, n) {
+        return Edited::Refused(refusal_without_row(c.kind, token));
+    }
+    if !has_edit(journal, e) {
+        return Edited::Refused(refusal_without_row(c.kind, token));
+    }
+    match put_token(edition_of(c.kind), token, c.pool as usize, pool) {
+        Stored::Refused(no) => Edited::Refused(no),
+        Stored::As(class, size) => {
+            let code = class_number(class) * 4 + section * 2 + language;
+            put_four(lines, LINE_WIDTH * n, node, code, c.pool, size as u32);
+            put_two(journal, EDIT_WIDTH * e, ADD, c.lines);
+            Edited::Done(Counts {
+                kind: c.kind,
+                nodes: c.nodes,
+                names: c.names,
+                lines: c.lines + 1,
+                pool: c.pool + (size as u32),
+                edits: c.edits + 1,
+            })
+        }
+    }
+}

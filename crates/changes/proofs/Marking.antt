@@ -1,0 +1,21 @@
+-- A line with another mark is as right as before. Assumes nothing.
+use Prim.Native.Nat.{ℕ, _≤_}
+use mathlib.Core.Path.{_≡_}
+use mathlib.Core.Bool.{true}
+use borrow.Author.Tests.{le-leb}
+use lib.Dec.{leb, ltb}
+use Rattle.lists.proofs.Tests.{both}
+use Rattle.book.specs.Books.{Line, all-class, local}
+use Rattle.book.specs.Edits.{marked}
+use Rattle.book.specs.Sanity.{content-good, in-range, kind-allows, line-ok}
+
+pub marked-ok : (kind nodes mark : ℕ) (x : Line) → mark ≤ 1 → line-ok kind nodes x ≡ true → line-ok kind nodes (marked mark x) ≡ true
+unfolding line-ok in-range kind-allows content-good
+marked-ok kind nodes mark x h g =
+    let a = both (in-range nodes x) _ g in
+    let b = both (ltb (x .node) nodes) _ (a .0) in
+    let c = both (leb (x .class) all-class) _ (b .1) in
+    let d = both (leb (x .section) local) _ (c .1) in
+    let e = both (leb (x .language) 1) _ (d .1) in
+    let f = both (leb (x .struck) 1) _ (e .1) in
+    rw (b .0, c .0, d .0, e .0, le-leb mark 1 h, f .1) (a .1)

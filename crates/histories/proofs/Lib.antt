@@ -1,0 +1,9 @@
+pub mod StandingLines
+pub mod Asked
+pub mod Trails
+pub mod Viewables
+pub mod Numbered
+pub mod Calls
+pub mod SymbolLines
+pub mod EachCall
+pub mod Demand

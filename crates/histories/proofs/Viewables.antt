@@ -1,0 +1,113 @@
+-- A book of the Regular kind or an export list with other lines and edits: with a line more, with one struck, and with those alone that stand, it fits and is
+-- sane again. Assumes nothing.
+use Prim.Native.Nat.{ℕ, _+_, _*_, _≤_, _<_}
+use mathlib.Core.Path.{_≡_, refl}
+use mathlib.Core.List.{List, [], _∷_, _++_}
+use mathlib.Core.Bool.{Bool, true, false}
+use mathlib.Core.Option.{some}
+use native.Mathlib.Omega.{arith}
+use borrow.Author.Tests.{leb-true, le-leb, ltb-true}
+use lib.Dec.{eqb, leb, ltb}
+use lib.ListN.{length, set, length-append, length-set}
+use Rattle.numbers.specs.Limits.{edit-limit}
+use Rattle.lists.proofs.Tests.{both}
+use Rattle.packing.specs.Tables.{every, packed}
+use Rattle.packing.proofs.TableLaws.{every-append, every-at, every-set, packed-set}
+use Rattle.book.specs.Books.{Book, Edit, Line, add, all-class, local, no-line, rust}
+use Rattle.book.specs.Edits.{all-back, journal-fits, line-at, marked, take-back}
+use Rattle.book.specs.Layout.{Buffers, edit-width, line-form}
+use Rattle.book.specs.Sanity.{content-good, edit-ok, in-range, kind-allows, kind-good, line-ok, nodes-good, sane}
+use Rattle.rooms.specs.Rooms.{edit-room, line-room}
+use Rattle.opened.proofs.Opened.{Viewable}
+use Rattle.changes.specs.Trial.{standing, with-line}
+use Rattle.changes.proofs.AddedLines.{fits-line}
+use Rattle.changes.proofs.Marking.{marked-ok}
+use Rattle.changes.proofs.Standing.{standing-bytes, standing-every, standing-length, standing-stand}
+use Rattle.histories.proofs.Asked.{book-with}
+use Rattle.histories.proofs.Trails.{journal-last}
+
+-- ---- a book
+module _ (b : Buffers) (w : Book) (ls : List Line) (es : List Edit) (v : Viewable b (book-with w ls es)) where
+  pub journal-sane : journal-fits es ls ≡ true
+  unfolding sane
+  journal-sane = both (kind-good (book-with w ls es)) _ (both (nodes-good (w .nodes)) _ (v .sane) .1) .1
+
+  module _ (k : eqb (w .kind) rust ≡ false) where
+    kind-again : (ls′ : List Line) (es′ : List Edit) → kind-good (book-with w ls′ es′) ≡ kind-good (book-with w ls es)
+    unfolding kind-good
+    kind-again ls′ es′ = rw k
+
+    sane-again : (ls′ : List Line) (es′ : List Edit) → journal-fits es′ ls′ ≡ true → sane (book-with w ls′ es′) ≡ true
+    unfolding sane
+    sane-again ls′ es′ j =
+        let n = both (nodes-good (w .nodes)) _ (v .sane) in
+        let g = both (kind-good (book-with w ls es)) _ (n .1) in
+        rw (n .0, kind-again ls′ es′, g .0) j
+
+    -- ---- with an edit more
+    more-edits : (e : Edit) → edit-room b es ≡ true → (edit-width * length (es ++ e ∷ []) ≤ length (b .journal)) × (length (es ++ e ∷ []) ≤ edit-limit)
+    unfolding edit-room
+    more-edits e r =
+        let a = both (ltb (length es) edit-limit) _ r in
+        let n : length (es ++ e ∷ []) ≡ length es + 1 = length-append es (e ∷ []) in
+        (omega (arith, leb-true (edit-width * (length es + 1)) (length (b .journal)) (a .1)), omega (arith, ltb-true (length es) edit-limit (a .0)))
+
+    edits-more : (e : Edit) → edit-ok e ≡ true → every edit-ok (es ++ e ∷ []) ≡ true
+    unfolding every
+    edits-more e o = every-append edit-ok es (e ∷ []) (v .fits .edits-ok) (rw o)
+
+    pub viewable-line : (x : Line) → line-ok (w .kind) (length (w .nodes)) x ≡ true → line-room b ls (x .bytes) ≡ true → edit-room b es ≡ true
+        → take-back (record { what = add; line = length ls }) (ls ++ x ∷ []) ≡ some ls → Viewable b (with-line (book-with w ls es) x)
+    viewable-line x o r q z =
+        let e : Edit = record { what = add; line = length ls } in
+        record {
+          fits = fits-line b (book-with w ls es) (v .fits) x o r q;
+          sane = sane-again (ls ++ x ∷ []) (es ++ e ∷ []) (journal-last es e (ls ++ x ∷ []) ls z journal-sane);
+        }
+
+    pub viewable-strike : (i : ℕ) (e : Edit) → i < length ls → edit-ok e ≡ true → edit-room b es ≡ true
+        → take-back e (set ls i (marked 1 (line-at ls i))) ≡ some ls → Viewable b (book-with w (set ls i (marked 1 (line-at ls i))) (es ++ e ∷ []))
+    unfolding line-form
+    viewable-strike i e h p q z =
+        let y : Line = marked 1 (line-at ls i) in
+        let m = more-edits e q in
+        let l : length (set ls i y) ≡ length ls = length-set ls i y in
+        let c : packed line-form (set ls i y) ≡ packed line-form ls = packed-set line-form ls i y no-line refl in
+        let ok : Line → Bool = line-ok (w .kind) (length (w .nodes)) in
+        let o : ok y ≡ true = marked-ok (w .kind) (length (w .nodes)) 1 (line-at ls i) (omega arith) (every-at ok ls i no-line (v .fits .lines-ok) h) in
+        record {
+          fits = record {
+            node-room = v .fits .node-room;
+            name-room = v .fits .name-room;
+            line-room = rw l (v .fits .line-room);
+            pool-room = rw c (v .fits .pool-room);
+            edit-room = m .0;
+            few-nodes = v .fits .few-nodes;
+            few-lines = rw l (v .fits .few-lines);
+            few-bytes = rw c (v .fits .few-bytes);
+            few-edits = m .1;
+            lines-ok = every-set ok ls i y (v .fits .lines-ok) o;
+            edits-ok = edits-more e p;
+          };
+          sane = sane-again (set ls i y) (es ++ e ∷ []) (journal-last es e (set ls i y) ls z journal-sane);
+        }
+
+    -- ---- with those lines alone that stand, and no edit
+    pub viewable-standing : Viewable b (book-with w (standing ls) [])
+    unfolding every journal-fits all-back
+    viewable-standing = record {
+      fits = record {
+        node-room = v .fits .node-room;
+        name-room = v .fits .name-room;
+        line-room = omega (arith, standing-length ls, v .fits .line-room);
+        pool-room = omega (arith, standing-bytes ls, v .fits .pool-room);
+        edit-room = omega arith;
+        few-nodes = v .fits .few-nodes;
+        few-lines = omega (arith, standing-length ls, v .fits .few-lines);
+        few-bytes = omega (arith, standing-bytes ls, v .fits .few-bytes);
+        few-edits = omega arith;
+        lines-ok = standing-every (line-ok (w .kind) (length (w .nodes))) ls (v .fits .lines-ok);
+        edits-ok = refl;
+      };
+      sane = sane-again (standing ls) [] (standing-stand ls);
+    }

@@ -1,0 +1,124 @@
+-- Histories of a trial book: calls with their answers, what they do to lent counts and buffers, and, told without any buffer, which lines they leave and where
+-- undoing leads back to. Assumes nothing.
+use Prim.Native.Nat.{ℕ, zero, suc}
+use mathlib.Core.List.{List, [], _∷_, _++_}
+use mathlib.Core.Bool.{Bool, cond}
+use lib.Dec.{eqb}
+use lib.ListN.{set}
+use Rattle.linker_script.specs.Trim.{trim-end}
+use Rattle.packing.specs.Tables.{every}
+use Rattle.pattern.specs.declared.Edition.{Edition}
+use Rattle.glob_match.specs.Classes.{class-number}
+use Rattle.glob_match.specs.Keeping.{Keep, kept, refused, keep}
+use Rattle.reading.specs.declared.Event.{Event}
+use Rattle.reading.specs.declared.Event.the-variants as event
+use Rattle.reading.specs.Events.{reading}
+use Rattle.book.specs.declared.Counts.{Counts}
+use Rattle.book.specs.Books.{Line, global}
+use Rattle.book.specs.Edits.{line-at, marked, stands}
+use Rattle.book.specs.Layout.{Buffers}
+use Rattle.book.specs.View.{view}
+use Rattle.opening.specs.Building.{part}
+use Rattle.changes.specs.Changes.{Change, after, counts-after, edit-refusal, edited}
+use Rattle.changes.specs.Trial.{add-asked, settle-asked, standing, strike-asked, undo-asked}
+use Rattle.changes.specs.Symbols.{symbol-asked, symbol-place}
+
+-- ---- the calls
+pub data Call : Type 0 where
+  adds : ℕ → ℕ → ℕ → List ℕ → Call
+  strikes : ℕ → Call
+  undoes : Call
+  settles : Call
+  adds-symbol : List ℕ → Bool → Call
+
+-- the counts and the buffers that a call is lent
+pub record Lent : Type 0 where
+  pub counts : Counts
+  pub buffers : Buffers
+
+-- what a call comes to: what the public functions promise
+unfoldable pub change : Lent → Call → Change
+change x (adds node section language t) = add-asked (x .buffers) (view (x .counts) (x .buffers)) node section language t
+change x (strikes i) = strike-asked (x .buffers) (view (x .counts) (x .buffers)) i
+change x undoes = undo-asked (view (x .counts) (x .buffers))
+change x settles = settle-asked (view (x .counts) (x .buffers))
+change x (adds-symbol t bare) = symbol-asked (x .buffers) (view (x .counts) (x .buffers)) t bare
+
+-- the number that it answers, 0 where it is done
+unfoldable pub answer : Lent → Call → ℕ
+answer x k = edit-refusal (edited (change x k))
+
+-- "each call … gets the buffers and counts that the last one left"
+unfoldable pub lent-after : Lent → Call → Lent
+lent-after x k = record { counts = counts-after (x .counts) (change x k); buffers = after (x .buffers) (change x k) }
+
+unfoldable pub run : Lent → List Call → Lent
+run x [] = x
+run x (k ∷ ks) = run (lent-after x k) ks
+
+-- a history: the calls with their answers, "refused calls included"
+pub record Told : Type 0 where
+  pub call : Call
+  pub number : ℕ
+
+unfoldable pub history : Lent → List Call → List Told
+history x [] = []
+history x (k ∷ ks) = record { call = k; number = answer x k } ∷ history (lent-after x k) ks
+
+-- ---- without buffers: the lines now, those before each edit that can still be undone, the latest first, and the moment that undoing all leads back to
+pub record Desk : Type 0 where
+  pub moment : List Line
+  pub earlier : List (List Line)
+  pub lines : List Line
+
+-- at an opening, and behind a settle that dropped a line
+abbrev pub desk-at : List Line → Desk
+desk-at ls = record { moment = ls; earlier = []; lines = ls }
+
+abbrev pub edited-to : Desk → List Line → Desk
+edited-to d ls = record { moment = d .moment; earlier = d .lines ∷ d .earlier; lines = ls }
+
+abbrev pub back-to : Desk → List (List Line) → Desk
+back-to d [] = d
+back-to d (ls ∷ earlier) = record { moment = d .moment; earlier = earlier; lines = ls }
+
+-- a line that is added, of what is kept of a token
+abbrev pub with-kept : Desk → ℕ → ℕ → ℕ → Keep → Desk
+with-kept d node section language (kept k bs) =
+    edited-to d (d .lines ++ record { node = node; class = class-number k; section = section; language = language; struck = 0; bytes = bs } ∷ [])
+with-kept d node section language (refused n) = d
+
+-- the lines of a text of `add_symbol`, each an add of its own
+abbrev pub with-event : Edition → List ℕ → Desk → Event → Desk
+with-event e s d (event.Node p n) = d
+with-event e s d event.Body = d
+with-event e s d (event.Section section) = d
+with-event e s d (event.Extern section language) = d
+with-event e s d event.Closed = d
+with-event e s d (event.Line section language p n) = with-kept d 0 global language (keep e (part s p n))
+with-event e s d (event.Parent p n) = d
+
+unfoldable pub with-events : Edition → List ℕ → Desk → List Event → Desk
+with-events e s d [] = d
+with-events e s d (x ∷ xs) = with-events e s (with-event e s d x) xs
+
+abbrev pub settled-to : Bool → Desk → Desk
+settled-to all-stand d = cond all-stand d (desk-at (standing (d .lines)))
+
+-- a call that was done
+unfoldable pub follow : Edition → Desk → Call → Desk
+follow e d (adds node section language t) = with-kept d node section language (keep e (trim-end t))
+follow e d (strikes i) = edited-to d (set (d .lines) i (marked 1 (line-at (d .lines) i)))
+follow e d undoes = back-to d (d .earlier)
+follow e d settles = settled-to (every stands (d .lines)) d
+follow e d (adds-symbol t bare) = with-events e t d (reading (symbol-place bare) t .events)
+
+-- a refused call changes nothing
+unfoldable pub leads : Edition → Desk → List Told → Desk
+leads e d [] = d
+leads e d (x ∷ xs) = leads e (cond (eqb (x .number) 0) (follow e d (x .call)) d) xs
+
+-- so many undos
+unfoldable pub undos : ℕ → List Call
+undos zero = []
+undos (suc n) = undoes ∷ undos n

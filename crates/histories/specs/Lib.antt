@@ -1,0 +1,2 @@
+pub mod Histories
+pub mod Demand

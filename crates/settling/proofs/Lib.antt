@@ -1,0 +1,3 @@
+mod Unstruck
+mod Sifting
+mod Settles

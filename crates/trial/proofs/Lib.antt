@@ -1,0 +1,5 @@
+mod Marks
+mod Settling
+mod Strikes
+mod TakenBack
+pub mod Adds
