@@ -1,0 +1,3 @@
+mod Lending
+mod Told
+mod OpeningExits

@@ -1,0 +1,55 @@
+-- The library for C, C++ and Rust programs: numbers and slices only. The book is six lent buffers: its counts, then nodes, names, lines, pool and journal.
+-- Assumes nothing.
+use Prim.Native.Nat.{ℕ, _+_, _*_}
+use mathlib.Core.List.{List, [], _∷_}
+use mathlib.Core.Bool.{Bool, cond, not}
+use mathlib.Core.Option.{Option, none}
+use lib.Dec.{eqb, ltb}
+use lib.ListN.{length, getD, set}
+use Rattle.numbers.specs.Limits.{script-limit}
+use Rattle.numbers.specs.Refusals.{no-room, too-long}
+use Rattle.packing.specs.Padding.{zeros}
+use Rattle.book.specs.declared.Counts.{Counts}
+use Rattle.book.specs.Books.{Book}
+use Rattle.book.specs.Layout.{Buffers, counts-of}
+use Rattle.book.specs.View.{view}
+use Rattle.opening.specs.Opening.{Opening, opens, declined, opening}
+
+-- "kind, nodes, name bytes, lines, pool bytes, edits"
+abbrev pub counts-row : Counts → List ℕ
+counts-row c = c .kind ∷ c .nodes ∷ c .names ∷ c .lines ∷ c .pool ∷ c .edits ∷ []
+
+abbrev pub row-counts : List ℕ → Counts
+row-counts l = record { kind = getD l 0 0; nodes = getD l 1 0; names = getD l 2 0; lines = getD l 3 0; pool = getD l 4 0; edits = getD l 5 0 }
+
+-- six numbers are counts; any other number of them is no book
+abbrev pub six : List ℕ → Bool
+six l = eqb (length l) 6
+
+unfoldable pub lent : List ℕ → Buffers → Option Book
+lent l b = cond (six l) (view (row-counts l) b) none
+
+-- a number that says yes or no
+abbrev pub flag : ℕ → Bool
+flag n = not (eqb n 0)
+
+-- ---- opening: behind the text's own 1, counts that are not six numbers have no room for the counts (8)
+unfoldable pub opening-with : ℕ → List ℕ → Buffers → List ℕ → Opening
+opening-with place l b s = cond (ltb script-limit (length s)) (declined too-long 0) (cond (six l) (opening place b s) (declined no-room 0))
+
+-- 0, or the number with 256 times its place
+unfoldable pub opening-told : Opening → ℕ
+opening-told (opens w) = 0
+opening-told (declined n p) = n + 256 * p
+
+-- the counts, or zeros
+unfoldable pub counts-left : List ℕ → Opening → List ℕ
+counts-left l (opens w) = counts-row (counts-of w)
+counts-left l (declined n p) = zeros (length l)
+
+-- ---- a question that is refused with n, or answered where n is 0 with the value v into `out`, which is refused last where it has no room
+unfoldable pub number-told : ℕ → List ℕ → ℕ
+number-told n out = cond (eqb n 0) (cond (eqb (length out) 0) no-room 0) n
+
+unfoldable pub value-left : ℕ → ℕ → List ℕ → List ℕ
+value-left n v out = cond (eqb n 0) (set out 0 v) out

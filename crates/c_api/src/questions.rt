@@ -1,0 +1,176 @@
+// What a lent book is asked. `out` shorter than needed is refused 8, last, and nothing is written where anything is refused.
+ghost use mathlib.Core.Path.{_≡_};
+ghost use Rattle.book.specs.Layout.{five};
+ghost use Rattle.ranking.specs.Matching.{name-of};
+ghost use Rattle.version_script.specs.Questions.{count-refusal, count-value, counted, parent-count, version-count};
+ghost use Rattle.version_script.specs.Lookups.{locality-asked, locality-refusal, locality-value, version-asked, version-refusal, version-value, wanted-of};
+ghost use Rattle.export_list.specs.Membership.{contains-asked, membership-refusal, membership-value};
+ghost use Rattle.c_api.specs.Calls.{flag, lent, number-told, value-left};
+use crate::lent::COUNTS;
+use crate::lent::answer;
+use crate::lent::counts_of;
+use export_list::Membership;
+use export_list::lookups::contains;
+use numbers::NO_BOOK;
+use version_script::Count;
+use version_script::Locality;
+use version_script::Version;
+use version_script::counts::parent_count;
+use version_script::counts::version_count;
+use version_script::lookups::locality;
+use version_script::lookups::version_for_symbol;
+
+#[no_mangle]
+pub extern "C" fn tuno_version_count(
+    counts: &[u32],
+    nodes: &[u32],
+    names: &[u8],
+    lines: &[u32],
+    pool: &[u8],
+    journal: &[u32],
+    out: &mut [u32],
+) -> u32
+    ensures { λ r. ⌜ (r ≡ number-told (count-refusal (counted version-count (lent (now (counts .entry)) (five (now (nodes .entry)) (now (names .entry)) (now (lines .entry)) (now (pool .entry)) (now (journal .entry)))))) (now (out .entry)))
+        × (now (out .exit) ≡ value-left (count-refusal (counted version-count (lent (now (counts .entry)) (five (now (nodes .entry)) (now (names .entry)) (now (lines .entry)) (now (pool .entry)) (now (journal .entry)))))) (count-value (counted version-count (lent (now (counts .entry)) (five (now (nodes .entry)) (now (names .entry)) (now (lines .entry)) (now (pool .entry)) (now (journal .entry)))))) (now (out .entry))) ⌝ }
+{
+    if counts.len() != COUNTS {
+        return NO_BOOK;
+    }
+    match version_count(counts_of(counts), nodes, names, lines, pool, journal) {
+        Count::Refused(no) => answer(no, 0, out),
+        Count::Counted(n) => answer(0, n, out),
+    }
+}
+
+#[no_mangle]
+pub extern "C" fn tuno_parent_count(
+    counts: &[u32],
+    nodes: &[u32],
+    names: &[u8],
+    lines: &[u32],
+    pool: &[u8],
+    journal: &[u32],
+    out: &mut [u32],
+) -> u32
+    ensures { λ r. ⌜ (r ≡ number-told (count-refusal (counted parent-count (lent (now (counts .entry)) (five (now (nodes .entry)) (now (names .entry)) (now (lines .entry)) (now (pool .entry)) (now (journal .entry)))))) (now (out .entry)))
+        × (now (out .exit) ≡ value-left (count-refusal (counted parent-count (lent (now (counts .entry)) (five (now (nodes .entry)) (now (names .entry)) (now (lines .entry)) (now (pool .entry)) (now (journal .entry)))))) (count-value (counted parent-count (lent (now (counts .entry)) (five (now (nodes .entry)) (now (names .entry)) (now (lines .entry)) (now (pool .entry)) (now (journal .entry)))))) (now (out .entry))) ⌝ }
+{
+    if counts.len() != COUNTS {
+        return NO_BOOK;
+    }
+    match parent_count(counts_of(counts), nodes, names, lines, pool, journal) {
+        Count::Refused(no) => answer(no, 0, out),
+        Count::Counted(n) => answer(0, n, out),
+    }
+}
+
+// The index of the version, 0 for none. `has_wanted`, where it is not 0, says that `wanted` is the version that is wanted.
+#[no_mangle]
+pub extern "C" fn tuno_version_for_symbol(
+    counts: &[u32],
+    nodes: &[u32],
+    names: &[u8],
+    lines: &[u32],
+    pool: &[u8],
+    journal: &[u32],
+    raw: &[u8],
+    demangled: &[u8],
+    has_wanted: u32,
+    wanted: &[u8],
+    out: &mut [u32],
+) -> u32
+    ensures { λ r. ⌜ (r ≡ number-told (version-refusal (version-asked (lent (now (counts .entry)) (five (now (nodes .entry)) (now (names .entry)) (now (lines .entry)) (now (pool .entry)) (now (journal .entry)))) (name-of (now (raw .entry)) (now (demangled .entry))) (wanted-of (flag «has_wanted») (now (wanted .entry))))) (now (out .entry)))
+        × (now (out .exit) ≡ value-left (version-refusal (version-asked (lent (now (counts .entry)) (five (now (nodes .entry)) (now (names .entry)) (now (lines .entry)) (now (pool .entry)) (now (journal .entry)))) (name-of (now (raw .entry)) (now (demangled .entry))) (wanted-of (flag «has_wanted») (now (wanted .entry))))) (version-value (version-asked (lent (now (counts .entry)) (five (now (nodes .entry)) (now (names .entry)) (now (lines .entry)) (now (pool .entry)) (now (journal .entry)))) (name-of (now (raw .entry)) (now (demangled .entry))) (wanted-of (flag «has_wanted») (now (wanted .entry))))) (now (out .entry))) ⌝ }
+{
+    if counts.len() != COUNTS {
+        return NO_BOOK;
+    }
+    let has = has_wanted != 0;
+    match version_for_symbol(
+        counts_of(counts),
+        nodes,
+        names,
+        lines,
+        pool,
+        journal,
+        raw,
+        demangled,
+        has,
+        wanted,
+    ) {
+        Version::Refused(no) => answer(no, 0, out),
+        Version::Unversioned => answer(0, 0, out),
+        Version::Index(i) => answer(0, i.0, out),
+    }
+}
+
+// 0 for nothing, 1 for global, 2 for local.
+#[no_mangle]
+pub extern "C" fn tuno_locality(
+    counts: &[u32],
+    nodes: &[u32],
+    names: &[u8],
+    lines: &[u32],
+    pool: &[u8],
+    journal: &[u32],
+    raw: &[u8],
+    demangled: &[u8],
+    out: &mut [u32],
+) -> u32
+    ensures { λ r. ⌜ (r ≡ number-told (locality-refusal (locality-asked (lent (now (counts .entry)) (five (now (nodes .entry)) (now (names .entry)) (now (lines .entry)) (now (pool .entry)) (now (journal .entry)))) (name-of (now (raw .entry)) (now (demangled .entry))))) (now (out .entry)))
+        × (now (out .exit) ≡ value-left (locality-refusal (locality-asked (lent (now (counts .entry)) (five (now (nodes .entry)) (now (names .entry)) (now (lines .entry)) (now (pool .entry)) (now (journal .entry)))) (name-of (now (raw .entry)) (now (demangled .entry))))) (locality-value (locality-asked (lent (now (counts .entry)) (five (now (nodes .entry)) (now (names .entry)) (now (lines .entry)) (now (pool .entry)) (now (journal .entry)))) (name-of (now (raw .entry)) (now (demangled .entry))))) (now (out .entry))) ⌝ }
+{
+    if counts.len() != COUNTS {
+        return NO_BOOK;
+    }
+    match locality(
+        counts_of(counts),
+        nodes,
+        names,
+        lines,
+        pool,
+        journal,
+        raw,
+        demangled,
+    ) {
+        Locality::Refused(no) => answer(no, 0, out),
+        Locality::Nothing => answer(0, 0, out),
+        Locality::Global => answer(0, 1, out),
+        Locality::Local => answer(0, 2, out),
+    }
+}
+
+// 1 where the name is in the list, else 0.
+#[no_mangle]
+pub extern "C" fn tuno_contains(
+    counts: &[u32],
+    nodes: &[u32],
+    names: &[u8],
+    lines: &[u32],
+    pool: &[u8],
+    journal: &[u32],
+    raw: &[u8],
+    demangled: &[u8],
+    out: &mut [u32],
+) -> u32
+    ensures { λ r. ⌜ (r ≡ number-told (membership-refusal (contains-asked (lent (now (counts .entry)) (five (now (nodes .entry)) (now (names .entry)) (now (lines .entry)) (now (pool .entry)) (now (journal .entry)))) (name-of (now (raw .entry)) (now (demangled .entry))))) (now (out .entry)))
+        × (now (out .exit) ≡ value-left (membership-refusal (contains-asked (lent (now (counts .entry)) (five (now (nodes .entry)) (now (names .entry)) (now (lines .entry)) (now (pool .entry)) (now (journal .entry)))) (name-of (now (raw .entry)) (now (demangled .entry))))) (membership-value (contains-asked (lent (now (counts .entry)) (five (now (nodes .entry)) (now (names .entry)) (now (lines .entry)) (now (pool .entry)) (now (journal .entry)))) (name-of (now (raw .entry)) (now (demangled .entry))))) (now (out .entry))) ⌝ }
+{
+    if counts.len() != COUNTS {
+        return NO_BOOK;
+    }
+    match contains(
+        counts_of(counts),
+        nodes,
+        names,
+        lines,
+        pool,
+        journal,
+        raw,
+        demangled,
+    ) {
+        Membership::Refused(no) => answer(no, 0, out),
+        Membership::Without => answer(0, 0, out),
+        Membership::Within => answer(0, 1, out),
+    }
+}
