@@ -29,7 +29,7 @@ pub const EDGE_BYTES: [&[u8]; 25] = [
 ];
 
 /// What random texts are damaged with.
-const DAMAGE: [&[u8]; 9] = [
+pub const DAMAGE: [&[u8]; 9] = [
     b"\xbf",
     b"\xc3",
     b"\xe2\x82",
@@ -90,7 +90,7 @@ impl Random {
     }
 
     /// Mostly one of three letters, so that names come close to patterns.
-    fn character(&mut self) -> char {
+    pub fn character(&mut self) -> char {
         match self.below(16) {
             0 => self.pick(&EDGES),
             1 => self.below(128) as u8 as char,
@@ -183,7 +183,7 @@ impl Random {
     }
 
     /// One character more, one less, or another one.
-    fn change(&mut self, name: &mut Vec<char>) {
+    pub fn change(&mut self, name: &mut Vec<char>) {
         let at = self.below(name.len() + 1);
         let kind = self.below(3);
         if kind > 0 && at < name.len() {

@@ -1,10 +1,12 @@
 //! A book in lent buffers: the proved library's functions over it (`ours`), document 01's row 14
-//! read slowly (`fault`), and a book apart from buffers, which can be edited and laid out (`model`).
+//! (`fault`) and its ranking (`ranking`) read slowly, and a book apart from buffers, which can be
+//! edited and laid out (`model`).
 
 pub mod buffers;
 pub mod fault;
 pub mod model;
 pub mod ours;
+pub mod ranking;
 
 /// The kinds of a book.
 pub mod kind {
@@ -17,6 +19,9 @@ pub mod kind {
 pub mod limit {
     pub const SCRIPT: usize = 1_048_576;
     pub const TOKEN: usize = 65_536;
+    pub const RAW: usize = 4_096;
+    pub const DEMANGLED: usize = 65_536;
+    pub const WANTED: usize = 4_096;
     pub const NODES: usize = 1_024;
     pub const LINES: usize = 16_384;
     pub const POOL: usize = 2_097_152;

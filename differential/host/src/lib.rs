@@ -29,6 +29,7 @@ pub mod refusal {
     pub const UNKNOWN_PARENT: u64 = 7;
     pub const NO_ROOM: u64 = 8;
     pub const NAME_NOT_UTF8: u64 = 9;
+    pub const UNKNOWN_VERSION: u64 = 10;
     pub const WRONG_KIND: u64 = 13;
     pub const NO_BOOK: u64 = 14;
 }

@@ -5,32 +5,10 @@ use crate::events;
 use differential::report::{expect, smallest};
 use differential::tally::Tally;
 use host::refusal;
+use reading::verdict::{Outside, Verdict, REASONS};
 use reading_host::ours::{self, WIDTH};
 use reading_host::published::{self, Answer};
 use reading_host::Source;
-
-/// Why a text lies outside the domain of equality. It must be refused there, whatever the Rust
-/// does.
-#[derive(Clone, Copy)]
-enum Outside {
-    Limit,
-    Stars,
-    Endless,
-}
-
-/// The same in words, by their numbers.
-const REASONS: [&str; 3] = [
-    "over the limit",
-    "adjacent stars",
-    "an extern block at which the Rust never ends",
-];
-
-enum Verdict {
-    Accepted,
-    Refused,
-    Outside(Outside),
-    Different(String),
-}
 
 /// The numbers on either side of the rows that no call may touch.
 const GUARD: usize = 8;
@@ -76,18 +54,14 @@ impl Comparison {
     }
 
     fn source(&mut self, source: Source, text: &[u8]) {
-        let (outside, agree) = match self.memory.verdict(source, text) {
-            Verdict::Accepted => {
-                self.accepted += 1;
-                (None, true)
-            }
-            Verdict::Refused => (None, true),
-            Verdict::Outside(reason) => (Some(reason as usize), true),
-            Verdict::Different(_) => (None, false),
-        };
+        let verdict = self.memory.verdict(source, text);
+        if let Verdict::Accepted(()) = verdict {
+            self.accepted += 1;
+        }
+        let (outside, agree) = verdict.judged();
         let memory = &mut self.memory;
         self.tally.judge(outside, agree, || {
-            let differs = |text: &[u8]| memory.different(source, text);
+            let differs = |text: &[u8]| memory.verdict(source, text).different();
             format!("{source:?} {}", smallest(text, differs))
         });
     }
@@ -97,13 +71,13 @@ impl Comparison {
 struct Memory(Vec<u64>);
 
 impl Memory {
-    fn verdict(&mut self, source: Source, text: &[u8]) -> Verdict {
+    fn verdict(&mut self, source: Source, text: &[u8]) -> Verdict<()> {
         self.compared(source, text)
             .unwrap_or_else(Verdict::Different)
     }
 
     /// Whether both sides do as they must, or what is wrong.
-    fn compared(&mut self, source: Source, text: &[u8]) -> Result<Verdict, String> {
+    fn compared(&mut self, source: Source, text: &[u8]) -> Result<Verdict<()>, String> {
         let answer = self.events(source, text, ours::room(text.len()))?;
         let (number, value) = (answer % 256, (answer / 256) as usize);
         if text.len() > source.limit() {
@@ -156,7 +130,7 @@ impl Memory {
                 expect(rust.kept == kept, || {
                     format!("the Rust keeps {:?}, we keep {kept:?}", rust.kept)
                 })?;
-                Ok(Verdict::Accepted)
+                Ok(Verdict::Accepted(()))
             }
         }
     }
@@ -205,13 +179,5 @@ impl Memory {
 
     fn rows(&self, count: usize) -> &[u64] {
         &self.0[GUARD..GUARD + count * WIDTH]
-    }
-
-    /// What is wrong with a text, where it differs.
-    fn different(&mut self, source: Source, text: &[u8]) -> Option<String> {
-        match self.verdict(source, text) {
-            Verdict::Different(what) => Some(what),
-            _ => None,
-        }
     }
 }

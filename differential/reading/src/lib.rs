@@ -1,3 +1,5 @@
-//! The texts that the comparisons of reading and of opening share.
+//! What the comparisons of reading, of opening and of lookups share: texts, and how the two sides
+//! compare on one.
 
 pub mod scripts;
+pub mod verdict;

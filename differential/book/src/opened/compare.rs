@@ -10,32 +10,10 @@ use differential::inputs::Random;
 use differential::report::{expect, smallest};
 use differential::tally::Tally;
 use host::{class, refusal};
+use reading::verdict::{Outside, Verdict, REASONS};
 use reading_host::kept::{self, Kept, KeptNode, Matcher};
 use reading_host::published::{self, Accepted, Answer};
 use reading_host::Source;
-
-/// Why a text lies outside the domain of equality. It must be refused there, whatever the Rust
-/// does.
-#[derive(Clone, Copy)]
-enum Outside {
-    Limit,
-    Stars,
-    Endless,
-}
-
-/// The same in words, by their numbers.
-const REASONS: [&str; 3] = [
-    "over the limit",
-    "adjacent stars",
-    "an extern block at which the Rust never ends",
-];
-
-enum Verdict {
-    Accepted(u32),
-    Refused,
-    Outside(Outside),
-    Different(String),
-}
 
 /// The rooms that a text is opened into.
 #[derive(Clone, Copy)]
@@ -147,18 +125,13 @@ impl Comparison {
     fn source(&mut self, source: Source, text: &[u8], case: Case) {
         self.full += u64::from(case.full);
         let verdict = self.openings.verdict(source, text, case);
-        let (outside, agree) = match verdict {
-            Verdict::Accepted(kind) => {
-                self.accepted[kind as usize] += 1;
-                (None, true)
-            }
-            Verdict::Refused => (None, true),
-            Verdict::Outside(reason) => (Some(reason as usize), true),
-            Verdict::Different(_) => (None, false),
-        };
+        if let Verdict::Accepted(kind) = verdict {
+            self.accepted[kind as usize] += 1;
+        }
+        let (outside, agree) = verdict.judged();
         let openings = &mut self.openings;
         self.tally.judge(outside, agree, || {
-            let differs = |text: &[u8]| openings.different(source, text, case);
+            let differs = |text: &[u8]| openings.verdict(source, text, case).different();
             format!("{source:?} {}", smallest(text, differs))
         });
 
@@ -201,21 +174,18 @@ struct Openings {
 }
 
 impl Openings {
-    fn verdict(&mut self, source: Source, text: &[u8], case: Case) -> Verdict {
+    fn verdict(&mut self, source: Source, text: &[u8], case: Case) -> Verdict<u32> {
         self.compared(source, text, case)
             .unwrap_or_else(Verdict::Different)
     }
 
-    /// What is wrong with a text, where it differs.
-    fn different(&mut self, source: Source, text: &[u8], case: Case) -> Option<String> {
-        match self.verdict(source, text, case) {
-            Verdict::Different(what) => Some(what),
-            _ => None,
-        }
-    }
-
     /// Whether both sides do as they must, or what is wrong.
-    fn compared(&mut self, source: Source, text: &[u8], case: Case) -> Result<Verdict, String> {
+    fn compared(
+        &mut self,
+        source: Source,
+        text: &[u8],
+        case: Case,
+    ) -> Result<Verdict<u32>, String> {
         let rooms = match case.full {
             true => Rooms::FULL,
             false => Rooms::ample(text.len()),

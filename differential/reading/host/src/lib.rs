@@ -1,8 +1,9 @@
 //! The two sides of the reader's comparison: `ours`, the proved library's exported function, and
-//! `published`, the Rust that was ported: version_script.rs, export_list.rs, glob_match.rs,
+//! `published`, the Rust that was ported, with `asked`, what it answers of names: version_script.rs, export_list.rs, glob_match.rs,
 //! symbol.rs and hash.rs, unchanged, and the skip function of linker_script.rs, over the crates
 //! winnow, hashbrown, foldhash, glob and memchr.
 
+pub mod asked;
 pub mod kept;
 mod linker_script;
 pub mod ours;

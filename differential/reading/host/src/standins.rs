@@ -1,5 +1,5 @@
-//! What the published files name and no reading asks for. One more stands in a crate of its own,
-//! because it derives: `derive_more::Debug`.
+//! What the published files name and no reading asks for; a lookup asks for a version's index and for
+//! the demangler. One more stands in a crate of its own, because it derives: `derive_more::Debug`.
 
 /// Stands in for the linker's errors: one without its text.
 pub(crate) mod error {
@@ -56,7 +56,7 @@ pub(crate) mod platform {
 /// Stands in for the crate `object`: a version's index, which lookups answer.
 pub(crate) mod object {
     pub(crate) mod elf {
-        pub(crate) struct VersionIndex(u16);
+        pub(crate) struct VersionIndex(pub(crate) u16);
 
         pub(crate) const VER_NDX_GLOBAL: VersionIndex = VersionIndex(1);
 
@@ -70,7 +70,7 @@ pub(crate) mod object {
     }
 }
 
-/// Stands in for the crate `symbolic_common`: a name that could be demangled, for lookups.
+/// Stands in for the crate `symbolic_common`: a name to be demangled, in lookups.
 pub(crate) mod symbolic_common {
     pub(crate) struct Name;
 
@@ -89,8 +89,19 @@ pub(crate) mod symbolic_common {
     }
 }
 
-/// Stands in for the crate `symbolic_demangle`: a demangler that knows no name, for lookups.
+/// Stands in for the crate `symbolic_demangle`: a demangler that answers what it was told to, so that
+/// a lookup can be asked of any two names. At first it knows no name.
 pub(crate) mod symbolic_demangle {
+    use std::cell::RefCell;
+
+    thread_local! {
+        static ANSWER: RefCell<Option<String>> = const { RefCell::new(None) };
+    }
+
+    pub(crate) fn answer(name: Option<&str>) {
+        ANSWER.with_borrow_mut(|answer| *answer = name.map(str::to_string));
+    }
+
     pub(crate) struct DemangleOptions;
 
     impl DemangleOptions {
@@ -109,7 +120,7 @@ pub(crate) mod symbolic_demangle {
 
     impl Demangle for super::symbolic_common::Name {
         fn demangle(&self, _: DemangleOptions) -> Option<String> {
-            None
+            ANSWER.with_borrow(Option::clone)
         }
     }
 }

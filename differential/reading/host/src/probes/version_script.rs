@@ -26,6 +26,21 @@ pub(crate) fn script(text: &[u8]) -> Option<Accepted> {
     })
 }
 
+/// What `find_match` of a Regular script finds: a node, and its section (1 for local). The Rust kind
+/// has none.
+pub(crate) fn deciding(
+    script: &VersionScript,
+    name: &PreHashed<UnversionedSymbolName>,
+) -> Option<(usize, usize)> {
+    let VersionScript::Regular(script) = script else {
+        return None;
+    };
+    let (node, section) = script.find_match(name)?;
+    let local = matches!(section, VersionRuleSection::Local);
+    assert!(local == script.is_local(name), "it answers alike");
+    Some((node, usize::from(local)))
+}
+
 /// The nodes in order of reading: the steps of `parse_version_script`, by its own functions, with
 /// the bodies as they are before they become sets.
 fn nodes(text: &[u8]) -> winnow::Result<Vec<kept::Node>> {

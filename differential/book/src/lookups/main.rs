@@ -1,0 +1,194 @@
+//! Compares what the proved library answers of names with what the published Rust answers: version,
+//! locality and membership, over opened version scripts and export lists.
+//!
+//!     lookups [--seed N] [--rounds N]   compare; exit status 1 when anything differs
+//!     lookups sample FILE [--seed N]    write a sample of the Rust's answers to FILE
+//!
+//! The Rust's side is that of the comparison of reading (../reading/host): `version_for_symbol`,
+//! `find_match` (which `is_local` asks, and which tells global and nothing apart) and `contains`,
+//! unchanged. Stood in for are the demangler, which answers what the host tells it to, and the
+//! version's index, a number. The Rust has no locality for the Rust kind: there the answer is document
+//! 01's, of the globals that the Rust lists. Every answer is also held against document 01's ranking
+//! (../ranking.rs), which says which line decided; how often each kind of line did is printed at the
+//! end. Of each text the counts of versions and parents are compared too, and, of our side alone, that
+//! a question of the other kind is refused 13.
+//!
+//! Outside the domain of equality, where we must refuse, lie names over the limit and names that are
+//! not UTF-8. Of the texts with comments and odd tokens, those that are not opened by both are left out:
+//! `differential/run book` compares them.
+
+mod compare;
+mod coverage;
+mod sample;
+mod texts;
+
+use book::limit;
+use book::model::Model;
+use compare::{Comparison, Question, What};
+use differential::command::Program;
+use differential::inputs::{long, Random};
+use reading::scripts::{self, Kind};
+use reading_host::Source;
+use std::process::ExitCode;
+
+/// The kinds of texts of one round.
+const KINDS: [Kind; 7] = [
+    Kind::Nodes,
+    Kind::Nodes,
+    Kind::Nodes,
+    Kind::Nodes,
+    Kind::OneBody,
+    Kind::RustKind,
+    Kind::ExportList,
+];
+
+/// How many names a text is asked about.
+const NAMES: usize = 12;
+
+fn main() -> ExitCode {
+    Program {
+        name: "lookups",
+        rounds: 40_000,
+        compared,
+        sample: Some(sample::write),
+    }
+    .run()
+}
+
+/// The whole comparison; true when nothing differed.
+fn compared(mut random: Random, rounds: u64) -> bool {
+    let mut comparison = Comparison::new();
+    comparison.phase("scripts and lists over few stems", |comparison| {
+        for _ in 0..rounds {
+            for kind in KINDS {
+                let text = texts::text(&mut random, kind);
+                let source = source(kind);
+                comparison.surely(source, &text, |book| many(&mut random, source, book));
+            }
+        }
+    });
+    comparison.phase(
+        "scripts and lists with comments and odd tokens",
+        |comparison| {
+            for _ in 0..rounds / 4 {
+                for kind in KINDS {
+                    let text = scripts::random(&mut random, kind);
+                    let source = source(kind);
+                    comparison.text(source, &text, |book| many(&mut random, source, book));
+                }
+            }
+        },
+    );
+    comparison.phase("around the limits of names", limits);
+    comparison.finish()
+}
+
+pub fn source(kind: Kind) -> Source {
+    match kind {
+        Kind::ExportList => Source::ExportList,
+        _ => Source::Script,
+    }
+}
+
+/// The questions of some names.
+fn many(random: &mut Random, source: Source, book: &Model) -> Vec<Question> {
+    (0..NAMES)
+        .flat_map(|_| questions(random, source, book))
+        .collect()
+}
+
+/// The questions of one name: of a list whether it has it, of a script its version, with and
+/// without a wanted one, and its locality.
+fn questions(random: &mut Random, source: Source, book: &Model) -> Vec<Question> {
+    let raw = texts::name(random, book);
+    let demangled = (!random.one_in(3)).then(|| texts::name(random, book));
+    let question = |what, wanted| Question {
+        what,
+        raw: raw.clone(),
+        demangled: demangled.clone(),
+        wanted,
+    };
+    match source {
+        Source::ExportList => vec![question(What::Membership, None)],
+        _ => {
+            let mut questions = vec![
+                question(What::Version, None),
+                question(What::Locality, None),
+            ];
+            if let Some(wanted) = texts::wanted(random, book) {
+                questions.push(question(What::Version, Some(wanted)));
+            }
+            questions
+        }
+    }
+}
+
+/// Names of the longest lengths that are taken, and of up to two bytes less and more.
+fn limits(comparison: &mut Comparison) {
+    let lengths = |limit: usize| limit - 2..=limit + 2;
+    let mut scripts = Vec::new();
+    for length in lengths(limit::RAW) {
+        let name = |letter| String::from_utf8(long([b"", letter, b""], length)).expect("letters");
+        scripts.push(format!(
+            "{} {{ {}; local: a*; }}; B {{ extern \"C++\" {{ *a; a?*; }}; {}*; }};",
+            name(b"N"),
+            name(b"a"),
+            name(b"b")
+        ));
+    }
+    scripts.push("{ global: a; local: *; };".to_string());
+    scripts.push("{ extern \"C++\" { b*; }; a*; };".to_string());
+    for text in &scripts {
+        for source in [Source::Script, Source::ExportList] {
+            comparison.text(source, text.as_bytes(), |_| around_limits(source));
+        }
+    }
+}
+
+fn around_limits(source: Source) -> Vec<Question> {
+    let around = |limit: usize, letter: &[u8]| -> Vec<Vec<u8>> {
+        let lengths = limit - 2..=limit + 2;
+        lengths
+            .map(|length| long([b"", letter, b""], length))
+            .collect()
+    };
+    let raws = [around(limit::RAW, b"a"), around(limit::RAW, b"b")].concat();
+    let demangleds = [
+        around(limit::DEMANGLED, b"a"),
+        around(limit::DEMANGLED, b"b"),
+    ]
+    .concat();
+    let wanteds = around(limit::WANTED, b"N");
+    let short = b"a".to_vec();
+    let mut questions = Vec::new();
+    let mut ask = |raw: &Vec<u8>, demangled: Option<&Vec<u8>>, wanted: Option<&Vec<u8>>| {
+        let whats: &[What] = match (source, wanted) {
+            (Source::ExportList, _) => &[What::Membership],
+            (_, Some(_)) => &[What::Version],
+            _ => &[What::Version, What::Locality],
+        };
+        questions.extend(whats.iter().map(|&what| Question {
+            what,
+            raw: raw.clone(),
+            demangled: demangled.cloned(),
+            wanted: wanted.cloned(),
+        }));
+    };
+    for raw in &raws {
+        ask(raw, None, None);
+        ask(raw, Some(&short), None);
+        for demangled in &demangleds {
+            ask(raw, Some(demangled), None);
+        }
+    }
+    for demangled in &demangleds {
+        ask(&short, Some(demangled), None);
+    }
+    if source == Source::Script {
+        for wanted in &wanteds {
+            ask(&short, None, Some(wanted));
+            ask(&b"\xff".to_vec(), None, Some(wanted));
+        }
+    }
+    questions
+}
