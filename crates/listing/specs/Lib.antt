@@ -1,0 +1,4 @@
+pub mod Splitting
+pub mod Lines
+pub mod Positions
+pub mod Listing

@@ -1,0 +1,66 @@
+-- The whole of what verlist prints, as 01 has it, and what is left in the buffers that it is lent. Assumes nothing.
+use Prim.Native.Nat.{ℕ, _+_, _*_}
+use mathlib.Core.List.{List, [], _∷_, _++_}
+use mathlib.Core.Bool.{Bool, cond}
+use mathlib.Core.Option.{Option, some}
+use lib.Dec.{eqb, leb, ltb}
+use lib.ListN.{length}
+use Rattle.numbers.specs.Refusals.{too-long}
+use Rattle.numbers.specs.Signs.{line-feed}
+use Rattle.lists.specs.Front.{front}
+use Rattle.reading.specs.Places.{at-script}
+use Rattle.book.specs.Books.{Book}
+use Rattle.book.specs.Layout.{Buffers}
+use Rattle.opening.specs.Opening.{Opening, opens, declined, left, opening}
+use Rattle.listing.specs.declared.listed.Listed.{Listed}
+use Rattle.listing.specs.Splitting.{mark, script-by, symbols-by}
+use Rattle.listing.specs.Lines.{counts-answered, refused-line, symbol-answered, tail-room}
+
+-- "(65,536 bytes at most)"
+abbrev pub input-limit : ℕ
+input-limit = 65536
+
+-- "one symbol a line (a last LF may lack)": the answers to the lines of s, the first of which has begun with t
+abbrev pub last-answer : Option Book → List ℕ → List ℕ
+last-answer w [] = []
+last-answer w (c ∷ t) = symbol-answered w (c ∷ t)
+
+unfoldable pub answers : Option Book → List ℕ → List ℕ → List ℕ
+answers w t [] = last-answer w t
+answers w t (b ∷ s) = cond (eqb b line-feed) (symbol-answered w t) [] ++ answers w (cond (eqb b line-feed) [] (t ++ b ∷ [])) s
+
+-- "It prints version and parent counts, then …", "or `refused` and the number for the script"
+unfoldable pub printed : Opening → List ℕ → List ℕ
+printed (opens w) symbols = counts-answered (some w) ++ answers (some w) [] symbols
+printed (declined n p) symbols = refused-line n
+
+-- the opening of the script, in buffers with the rooms of b; "longer input prints `refused 1`"
+unfoldable pub input-opening : Buffers → List ℕ → Opening
+input-opening b s = cond (ltb input-limit (length s)) (declined too-long 0) (opening at-script b (script-by s (mark s)))
+
+-- what is printed
+unfoldable pub listing : Buffers → List ℕ → List ℕ
+listing b s = printed (input-opening b s) (symbols-by s (mark s))
+
+-- ---- in a lent buffer of room for every listing of that length; in a smaller one nothing is done
+unfoldable pub has-room : List ℕ → List ℕ → Bool
+has-room s out = leb (tail-room + 15 * length s) (length out)
+
+-- how many bytes are printed, and the script's refusal with its place, or 0
+abbrev pub with-refusal : ℕ → Opening → Listed
+with-refusal n (opens w) = record { length = n; refusal = 0; place = 0 }
+with-refusal n (declined m p) = record { length = n; refusal = m; place = p }
+
+-- the same of what is printed for an opening
+abbrev pub printed-told : Opening → List ℕ → Listed
+printed-told o symbols = with-refusal (length (printed o symbols)) o
+
+unfoldable pub listed : Buffers → List ℕ → List ℕ → Listed
+listed b s out = cond (has-room s out) (with-refusal (length (listing b s)) (input-opening b s)) (record { length = 0; refusal = 0; place = 0 })
+
+unfoldable pub out-left : Buffers → List ℕ → List ℕ → List ℕ
+out-left b s out = cond (has-room s out) (front (listing b s) out) out
+
+-- the book's buffers: as the opening leaves them, where there was one
+unfoldable pub book-left : Buffers → List ℕ → List ℕ → Buffers
+book-left b s out = cond (has-room s out) (cond (ltb input-limit (length s)) b (left b (opening at-script b (script-by s (mark s))))) b

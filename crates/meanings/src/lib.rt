@@ -1,0 +1,64 @@
+// What the numbers that say no mean, for a person, on standard error.
+use libc::STDERR_FILENO;
+
+fn say(text: &[u8]) {
+    io::write_all(STDERR_FILENO, text);
+}
+
+// Where in a text: `line L, column C: `.
+pub fn say_place(line: usize, column: usize) {
+    say(b"line ");
+    io::print_decimal(STDERR_FILENO, line as u64);
+    say(b", column ");
+    io::print_decimal(STDERR_FILENO, column as u64);
+    say(b": ");
+}
+
+// The refusals of reading and storing, 1 to 8.
+fn say_reading(no: u32) {
+    if no == 1 {
+        return say(b"a text, a token or a name is too long\n");
+    }
+    if no == 2 {
+        return say(b"nothing that may stand here, or bytes behind the end\n");
+    }
+    if no == 3 {
+        return say(b"a comment that is not closed, or an extern block without its `}`\n");
+    }
+    if no == 4 {
+        return say(b"extern of another language than C or C++, or within an extern block\n");
+    }
+    if no == 5 {
+        return say(b"a pattern that is not UTF-8\n");
+    }
+    if no == 6 {
+        return say(b"a bracket that is not closed, or two `*` side by side\n");
+    }
+    if no == 7 {
+        return say(b"a parent that no earlier node is\n");
+    }
+    say(b"no room is left\n");
+}
+
+// The meaning of a refusal's number.
+pub fn say_meaning(no: u32) {
+    if no <= 8 {
+        return say_reading(no);
+    }
+    if no == 9 {
+        return say(b"a name that is not UTF-8\n");
+    }
+    if no == 10 {
+        return say(b"a version that no node has\n");
+    }
+    if no == 11 {
+        return say(b"no such node, section, language or standing line\n");
+    }
+    if no == 12 {
+        return say(b"no edit is left to undo\n");
+    }
+    if no == 13 {
+        return say(b"a book of this kind does not answer that\n");
+    }
+    say(b"this is no book\n");
+}

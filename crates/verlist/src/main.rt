@@ -1,0 +1,67 @@
+// The version and locality of symbols under a version script, as document 01 describes it. Standard input (65,536 bytes at most): the script, a line `%%`, then
+// one symbol a line, `@` before a wanted version. What is printed is rendered whole by `listing::listed::render_listing`. Where the script is refused, standard
+// error says where, and what the number means.
+use libc::STDERR_FILENO;
+use libc::STDIN_FILENO;
+use libc::STDOUT_FILENO;
+use listing::listed::Listed;
+use listing::listed::render_listing;
+use listing::positions::position_of;
+
+// The first n bytes of s, or all of it.
+fn front(s: &[u8], n: usize) -> &[u8] {
+    if n < s.len() {
+        return &s[0..n];
+    }
+    s
+}
+
+// Where the script is refused, and why.
+fn explain(text: &[u8], listed: Listed) {
+    let position = position_of(text, listed.place);
+    io::write_all(STDERR_FILENO, b"verlist: ");
+    meanings::say_place(position.line, position.column);
+    meanings::say_meaning(listed.refusal);
+}
+
+// What is printed for an input, rendered into `out`.
+fn print_listing(
+    text: &[u8],
+    nodes: &mut [u32],
+    names: &mut [u8],
+    lines: &mut [u32],
+    pool: &mut [u8],
+    journal: &mut [u32],
+    out: &mut [u8; 983104],
+) -> Listed {
+    let listed = render_listing(text, nodes, names, lines, pool, journal, out);
+    io::write_all(STDOUT_FILENO, front(out, listed.length));
+    listed
+}
+
+fn list(text: &[u8]) {
+    let mut nodes = [0u32; 3072];
+    let mut names = [0u8; 65536];
+    let mut lines = [0u32; 8192];
+    let mut pool = [0u8; 65536];
+    let mut journal = [0u32; 2];
+    let mut out = [0u8; 983104];
+    let listed = print_listing(
+        text,
+        &mut nodes,
+        &mut names,
+        &mut lines,
+        &mut pool,
+        &mut journal,
+        &mut out,
+    );
+    if listed.refusal != 0 {
+        explain(text, listed);
+    }
+}
+
+fn main() {
+    let mut text = [0u8; 65537];
+    let n = io::read_full(STDIN_FILENO, &mut text);
+    list(front(&text, n));
+}

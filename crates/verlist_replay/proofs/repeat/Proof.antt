@@ -1,0 +1,48 @@
+-- `repeat` is safe and ends: each turn is one of the times. Assumes nothing.
+use Prim.Native.Nat.{_-_}
+use mathlib.Core.Path.{_≡_}
+use lib.ListN.{length}
+use borrow.Author.Needs.{needs}
+use Rattle.verlist_replay.proofs.repeat.Statement.{statement}
+use Rattle.verlist_replay.proofs.repeat.Tie as tie
+
+abbrev Inv-loop : tie.InvT-loop
+Inv-loop out₀ start end times at₀ k₀ out at k = length out ≡ length out₀
+
+abbrev μ-loop : tie.MeasureT-loop
+μ-loop out₀ start end times at₀ k₀ out at k = times - k
+
+loop-holds : tie.Need-loop-holds Inv-loop μ-loop
+loop-holds c = search needs
+
+put-again-requires : tie.Need-put-again-requires Inv-loop μ-loop
+put-again-requires c κs = search needs
+
+add-k : tie.Need-add-k Inv-loop μ-loop
+add-k c = search needs
+
+loop-less : tie.Need-loop-less Inv-loop μ-loop
+loop-less c = search needs
+
+loop-again : tie.Need-loop-again Inv-loop μ-loop
+loop-again c = search needs
+
+same-length : tie.Need-same-length Inv-loop μ-loop
+same-length c = search needs
+
+returns : tie.Need-returns Inv-loop μ-loop
+returns c = search needs
+
+pub repeat-spec : {M : Type 1} → statement M
+repeat-spec =
+    tie.close
+    (tie.spec
+    Inv-loop
+    μ-loop
+    loop-holds
+    put-again-requires
+    add-k
+    loop-less
+    loop-again
+    same-length
+    returns)
