@@ -7,3 +7,4 @@ pub mod Calls
 pub mod SymbolLines
 pub mod EachCall
 pub mod Demand
+pub mod KnownHistories

@@ -1,2 +1,3 @@
 pub mod Histories
 pub mod Demand
+pub mod KnownHistories

@@ -16,17 +16,24 @@ use Rattle.reading.specs.Matchers.{line-to, extern-open, extern-at, extern-insi
 use Rattle.reading.specs.Scripts.{name-to, node-at, script-at, parent-to, parent-at, node-end, sole-end, inside-body, body-at, sole-at, list-at, opening-at, start-script, go-node, go-body, go-sole, go-list, next-script, next-list, next-symbol, next}
 use Rattle.reading.specs.Events.{reading-within, reading-from, reading}
 use Rattle.lists.specs.Same.{same}
-use Rattle.packing.specs.Tables.{packed}
+use Rattle.packing.specs.Padding.{all-zero, pad}
+use Rattle.packing.specs.Tables.{every, fine, packed, packs, rows, things}
 use Rattle.book.specs.Books.{first-named}
-use Rattle.book.specs.Layout.{node-form, line-form}
+use Rattle.book.specs.Edits.{all-back, journal-fits}
+use Rattle.book.specs.Layout.{counts-of, edit-form, laid-out, line-form, node-form}
+use Rattle.book.specs.Sanity.{content-good, glob-stands, in-range, kind-allows, kind-good, line-ok, name-good, named-good, nodes-good, parent-good, sane, skipped-first}
+use Rattle.book.specs.View.{book-of, laid, view, within-limits}
+use Rattle.book.specs.View as view
 use Rattle.rooms.specs.Rooms.{line-room, node-room}
 use Rattle.opening.specs.Building.{take-event, take-kept, take-node, take-parent}
-use Rattle.opening.specs.Opening.{build, build-reading, kind-of, nothing-yet, opening, rust-style}
+use Rattle.opening.specs.Opening.{build, build-reading, kind-of, left, nothing-yet, opening, rust-style, told}
 use Rattle.ranking.specs.Matching.{class-matches, line-matches, seen}
+use Rattle.ranking.specs.Names.{bad-name, long-name, name-refusal}
 use Rattle.ranking.specs.Walk.{deciding, exact-of, exact-stages, first-line, glob-of, glob-stages, stages, walk}
-use Rattle.version_script.specs.Questions.{version-count}
-use Rattle.version_script.specs.Lookups.{index-of, last-named, locality-of, node-version, version-of, wanted-version}
-use Rattle.known_points.specs.KnownPoints.{bytes, keeps, kept-matches, fits, opens-as, Points}
+use Rattle.version_script.specs.Questions.{counted, node-of, node-told, version-count}
+use Rattle.version_script.specs.Lookups.{index-of, last-named, locality-asked, locality-of, node-version, version-asked, version-of, wanted-version}
+use Rattle.known_points.specs.KnownPoints.{bytes, keeps, kept-matches, fits, held, Points}
+use Rattle.known_points.specs.KnownPoints as points
 
 pub known-points : Points
 unfolding pieces pieces-past sound sound-past
@@ -43,13 +50,17 @@ unfolding pieces pieces-past sound sound-past
     name-to node-at script-at parent-to parent-at node-end sole-end inside-body body-at sole-at list-at opening-at
     start-script go-node go-body go-sole go-list next-script next-list next-symbol next
     reading-within reading-from reading
-    same packed first-named node-form line-form
+    same all-zero pad every fine packed packs rows things
+    first-named all-back journal-fits counts-of edit-form laid-out line-form node-form
+    content-good glob-stands in-range kind-allows kind-good line-ok name-good named-good nodes-good parent-good sane skipped-first
+    book-of laid view within-limits view.holds
     line-room node-room take-event take-kept take-node take-parent
-    build build-reading kind-of nothing-yet opening rust-style
-    class-matches line-matches seen
+    build build-reading kind-of left nothing-yet opening rust-style told
+    class-matches line-matches seen bad-name long-name name-refusal
     deciding exact-of exact-stages first-line glob-of glob-stages stages walk
-    version-count index-of last-named locality-of node-version version-of wanted-version
-    codes bytes keeps kept-matches fits opens-as
+    counted node-of node-told version-count
+    index-of last-named locality-asked locality-of node-version version-asked version-of wanted-version
+    codes bytes keeps kept-matches fits points.opened held
 known-points =
     record {
       p1 = record { quoted = refl; bare = refl };
@@ -60,8 +71,8 @@ known-points =
       p6 = record { yes = refl; unclosed = refl };
       p7 = record { yes = refl; no = refl };
       p8 = record { yes = refl };
-      p9 = record { count = refl };
+      p9 = record { accepted = refl; count = refl };
       p10 = record { parent = refl; wanted = refl };
-      p11 = record { version = refl; locality = refl };
+      p11 = record { version-of-f = refl; locality-of-f = refl };
       p12 = record { fx = refl; fx-local = refl; fxy = refl; fxy-global = refl };
     }

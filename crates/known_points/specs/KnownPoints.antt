@@ -6,7 +6,6 @@ use mathlib.Core.Path.{_≡_}
 use mathlib.Core.List.{List, [], _∷_}
 use mathlib.Core.Bool.{Bool, true, false}
 use mathlib.Core.Option.{Option, some, none}
-use lib.ListN.{getD}
 use Rattle.lists.specs.Texts.{codes}
 use Rattle.utf8.specs.Utf8.{encoding, chars}
 use Rattle.pattern.specs.declared.Edition.the-variants.{Reld}
@@ -15,14 +14,21 @@ use Rattle.glob_match.specs.declared.Class.the-variants.{Exact, Escaped, NonSta
 use Rattle.glob_match.specs.Keeping.{Keep, kept, refused, keep}
 use Rattle.reading.specs.Places.{at-script}
 use Rattle.packing.specs.Padding.{zeros}
-use Rattle.book.specs.Books.{Book, no-node}
+use Rattle.book.specs.Books.{Book}
 use Rattle.book.specs.Layout.{Buffers, five}
-use Rattle.opening.specs.Opening.{Opening, opens, declined, opening}
+use Rattle.book.specs.View.{view}
+use Rattle.opening.specs.Opening.{Opening, left, opening, told}
 use Rattle.ranking.specs.Matching.{Name, name-of}
+use Rattle.version_script.specs.declared.Version.{Version}
+use Rattle.version_script.specs.declared.Version.the-variants.{Index}
 use Rattle.version_script.specs.declared.Locality.{Locality}
 use Rattle.version_script.specs.declared.Locality.the-variants.{Global, Local}
-use Rattle.version_script.specs.Questions.{version-count}
-use Rattle.version_script.specs.Lookups.{locality-of, version-of, version-value}
+use Rattle.version_script.specs.declared.Count.{Count}
+use Rattle.version_script.specs.declared.Count.the-variants.{Counted}
+use Rattle.version_script.specs.declared.NodeAnswer.{NodeAnswer}
+use Rattle.version_script.specs.declared.NodeAnswer.the-variants.{Node}
+use Rattle.version_script.specs.Questions.{counted, node-of, version-count}
+use Rattle.version_script.specs.Lookups.{locality-asked, version-asked}
 
 -- ---- quoted texts, as bytes in UTF-8
 unfoldable pub bytes : String → List ℕ
@@ -82,59 +88,59 @@ pub record P7 : Type 0 where
 pub record P8 : Type 0 where
   pub yes : fits "h?" (0x68 ∷ 0xC3 ∷ 0xA9 ∷ []) ≡ true
 
--- ---- a script, opens-as into buffers with room enough
+-- ---- a script that is opened in buffers with room enough, and the book that the answered counts and the buffers hold then
 abbrev pub rooms : Buffers
 rooms = five (zeros 30) (zeros 40) (zeros 40) (zeros 40) []
 
-abbrev pub given : Opening → Option Book
-given (opens w) = some w
-given (declined n p) = none
+unfoldable pub opened : String → Opening
+opened t = opening at-script rooms (bytes t)
 
-unfoldable pub opens-as : String → Option Book
-opens-as t = given (opening at-script rooms (bytes t))
+unfoldable pub held : String → Option Book
+held t = view (told (opened t) .counts) (left rooms (opened t))
 
-abbrev pub of-book : {A : Type 0} → (Book → A) → Option Book → Option A
-of-book f (some w) = some (f w)
-of-book f none = none
-
--- the parent of a node, by its number
-abbrev pub parent-of : ℕ → Book → ℕ
-parent-of i w = getD (w .nodes) i no-node .parent
-
--- a name that no demangler changes
+-- what it is asked: the version of a name that no demangler changes, with no version wanted, or with one; its locality; the count of versions; and a node
 abbrev pub plain : String → Name
 plain t = name-of (bytes t) (bytes t)
 
--- its index, 0 for none, with no version wanted, or with one; and its locality
-abbrev pub index : String → Book → ℕ
-index t w = version-value (version-of w (plain t) none)
+abbrev pub version : String → String → Version
+version s t = version-asked (held s) (plain t) none
 
-abbrev pub index-wanted : String → String → Book → ℕ
-index-wanted t v w = version-value (version-of w (plain t) (some (bytes v)))
+abbrev pub version-wanted : String → String → String → Version
+version-wanted s t v = version-asked (held s) (plain t) (some (bytes v))
 
-abbrev pub place : String → Book → Locality
-place t w = locality-of w (plain t)
+abbrev pub index : ℕ → Version
+index i = Index (record { 0 = i })
+
+abbrev pub locality : String → String → Locality
+locality s t = locality-asked (held s) (plain t)
+
+abbrev pub versions : String → Count
+versions s = counted version-count (held s)
+
+abbrev pub node : String → ℕ → NodeAnswer
+node s i = node-of i (held s)
 
 -- "P9 `/*/{};` accepted, version count 0."
 pub record P9 : Type 0 where
-  pub count : of-book version-count (opens-as "/*/{};") ≡ some 0
+  pub accepted : told (opened "/*/{};") .refusal ≡ 0
+  pub count : versions "/*/{};" ≡ Counted 0
 
--- "P10 `A {}; B {}; A {}; C {} A;` parent of C is 1; wanted A gives 4."
+-- "P10 `A {}; B {}; A {}; C {} A;` parent of C is 1; wanted A gives 4." C is node 4, and its name the byte at 3 of the names
 pub record P10 : Type 0 where
-  pub parent : of-book (parent-of 4) (opens-as "A {}; B {}; A {}; C {} A;") ≡ some 1
-  pub wanted : of-book (index-wanted "f" "A") (opens-as "A {}; B {}; A {}; C {} A;") ≡ some 4
+  pub parent : node "A {}; B {}; A {}; C {} A;" 4 ≡ Node 3 1 1
+  pub wanted : version-wanted "A {}; B {}; A {}; C {} A;" "f" "A" ≡ index 4
 
 -- "P11 `V { extern "C++" { f; }; local: f; };` for f, f: index 2, local."
 pub record P11 : Type 0 where
-  pub version : of-book (index "f") (opens-as "V { extern \"C++\" { f; }; local: f; };") ≡ some 2
-  pub locality : of-book (place "f") (opens-as "V { extern \"C++\" { f; }; local: f; };") ≡ some Local
+  pub version-of-f : version "V { extern \"C++\" { f; }; local: f; };" "f" ≡ index 2
+  pub locality-of-f : locality "V { extern \"C++\" { f; }; local: f; };" "f" ≡ Local
 
 -- "P12 `A { f*; }; B { local: f?; }; C { f*; };` fx: 3 local; fxy: 4 global."
 pub record P12 : Type 0 where
-  pub fx : of-book (index "fx") (opens-as "A { f*; }; B { local: f?; }; C { f*; };") ≡ some 3
-  pub fx-local : of-book (place "fx") (opens-as "A { f*; }; B { local: f?; }; C { f*; };") ≡ some Local
-  pub fxy : of-book (index "fxy") (opens-as "A { f*; }; B { local: f?; }; C { f*; };") ≡ some 4
-  pub fxy-global : of-book (place "fxy") (opens-as "A { f*; }; B { local: f?; }; C { f*; };") ≡ some Global
+  pub fx : version "A { f*; }; B { local: f?; }; C { f*; };" "fx" ≡ index 3
+  pub fx-local : locality "A { f*; }; B { local: f?; }; C { f*; };" "fx" ≡ Local
+  pub fxy : version "A { f*; }; B { local: f?; }; C { f*; };" "fxy" ≡ index 4
+  pub fxy-global : locality "A { f*; }; B { local: f?; }; C { f*; };" "fxy" ≡ Global
 
 -- the table
 pub record Points : Type 0 where
