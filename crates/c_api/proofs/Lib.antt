@@ -1,3 +1,4 @@
 mod Lending
 mod Told
 mod OpeningExits
+mod EditExits

@@ -1,7 +1,7 @@
 -- The exits of the openings (src/openings.rt). l is the counts that were lent, b the buffers, s the text; l′ and b′ are what is left of them. The premises are
 -- what the code learned. Assumes nothing.
 use Prim.Native.Nat.{ℕ, _+_, _*_, _<_, _≤_}
-use mathlib.Core.Path.{_≡_, refl, sym, _∙_}
+use mathlib.Core.Path.{_≡_, refl, _∙_}
 use mathlib.Core.List.{List}
 use native.Mathlib.Omega.{arith}
 use borrow.Author.Tests.{eq-eqb, ne-eqb, le-ltb, lt-ltb}

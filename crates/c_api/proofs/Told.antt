@@ -3,7 +3,6 @@
 use Prim.Native.Nat.{ℕ}
 use mathlib.Core.Path.{_≡_, refl, sym, ap, _∙_}
 use mathlib.Core.List.{List}
-use mathlib.Core.Bool.{Bool}
 use mathlib.Core.Option.{Option}
 use lib.ListN.{length}
 use Rattle.numbers.specs.Refusals.{no-book}
@@ -12,17 +11,12 @@ use Rattle.book.specs.Books.{Book}
 use Rattle.book.specs.Layout.{Buffers}
 use Rattle.book.specs.View.{view}
 use Rattle.ranking.specs.Matching.{Name}
-use Rattle.version_script.specs.declared.index.VersionIndex.{VersionIndex}
 use Rattle.version_script.specs.declared.Count.{Count}
-use Rattle.version_script.specs.declared.Count.the-variants as count
 use Rattle.version_script.specs.declared.Version.{Version}
-use Rattle.version_script.specs.declared.Version.the-variants as version
 use Rattle.version_script.specs.declared.Locality.{Locality}
-use Rattle.version_script.specs.declared.Locality.the-variants as locality
 use Rattle.version_script.specs.Questions.{count-refusal, count-value, counted}
 use Rattle.version_script.specs.Lookups.{locality-asked, locality-refusal, locality-value, version-asked, version-refusal, version-value}
 use Rattle.export_list.specs.declared.Membership.{Membership}
-use Rattle.export_list.specs.declared.Membership.the-variants as membership
 use Rattle.export_list.specs.Membership.{contains-asked, membership-refusal, membership-value}
 use Rattle.c_api.specs.Calls.{lent, number-told, row-counts, value-left}
 use Rattle.c_api.proofs.Lending.{lent-none, lent-viewed}

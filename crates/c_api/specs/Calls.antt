@@ -14,6 +14,9 @@ use Rattle.book.specs.Books.{Book}
 use Rattle.book.specs.Layout.{Buffers, counts-of}
 use Rattle.book.specs.View.{view}
 use Rattle.opening.specs.Opening.{Opening, opens, declined, opening}
+use Rattle.changes.specs.declared.Edited.{Edited}
+use Rattle.changes.specs.declared.Edited.the-variants as answer
+use Rattle.changes.specs.Changes.{Change, to, no}
 
 -- "kind, nodes, name bytes, lines, pool bytes, edits"
 abbrev pub counts-row : Counts → List ℕ
@@ -53,3 +56,12 @@ number-told n out = cond (eqb n 0) (cond (eqb (length out) 0) no-room 0) n
 
 unfoldable pub value-left : ℕ → ℕ → List ℕ → List ℕ
 value-left n v out = cond (eqb n 0) (set out 0 v) out
+
+-- ---- an edit: the counts of the book behind it, where it is done
+unfoldable pub counts-edited : List ℕ → Change → List ℕ
+counts-edited l (to w) = counts-row (counts-of w)
+counts-edited l (no n) = l
+
+abbrev pub counts-told : List ℕ → Edited → List ℕ
+counts-told l (answer.Done c) = counts-row c
+counts-told l (answer.Refused n) = l

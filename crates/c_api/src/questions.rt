@@ -38,7 +38,7 @@ pub extern "C" fn tuno_version_count(
     }
     match version_count(counts_of(counts), nodes, names, lines, pool, journal) {
         Count::Refused(no) => answer(no, 0, out),
-        Count::Counted(n) => answer(0, n, out),
+        Count::Counted(versions) => answer(0, versions, out),
     }
 }
 
@@ -60,7 +60,7 @@ pub extern "C" fn tuno_parent_count(
     }
     match parent_count(counts_of(counts), nodes, names, lines, pool, journal) {
         Count::Refused(no) => answer(no, 0, out),
-        Count::Counted(n) => answer(0, n, out),
+        Count::Counted(parents) => answer(0, parents, out),
     }
 }
 

@@ -7,8 +7,7 @@ use mathlib.Core.Bool.{Bool, true, false, cond}
 use mathlib.Core.Option.{Option}
 use native.Mathlib.Nat.{add-zero}
 use native.Mathlib.Omega.{arith}
-use borrow.Author.Tests.{le-leb}
-use lib.Dec.{eqb, leb}
+use lib.Dec.{eqb}
 use lib.ListN.{length, take, drop, length-append, length-drop, length-take, drop-of-length-le}
 use lib.Seq.{drop-drop, paste-zero, take-all, take-length}
 use Rattle.numbers.specs.Signs.{line-feed}
@@ -21,10 +20,9 @@ use Rattle.book.specs.Books.{Book}
 use Rattle.ranking.specs.Matching.{name-of}
 use Rattle.version_script.specs.Lookups.{locality-asked, version-asked}
 use Rattle.listing.specs.Splitting.{at-sign, name-by, name-part, wanted-part}
-use Rattle.listing.specs.Lines.{asked-line, line-left, line-told, symbol-answered, symbol-line}
+use Rattle.listing.specs.Lines.{asked-line, symbol-answered, symbol-line}
 use Rattle.listing.specs.Listing.{answers, last-answer}
-use Rattle.listing.proofs.Pieces.{Puts, few-fields, puts-both, puts-long}
-use Rattle.listing.proofs.Rendered.{Rendered}
+use Rattle.listing.proofs.Pieces.{Begins, Puts, begins-front, few-fields, puts-both, puts-long}
 
 not-here : (q : ℕ) → Here q ≡ Nowhere → ⊥
 not-here q e = let z : _≡_ {A = ℕ} 0 1 = cc in omega arith
@@ -102,23 +100,15 @@ module _ (w : Option Book) where
 
 -- ---- `put_answer`: a line that is rendered into the part of a buffer from a place on
 module _ (w : Option Book) (line d : List ℕ) (at : ℕ) (l : List ℕ) (n : ℕ) (room : at + length line + 48 ≤ length d)
-    (p : Rendered (length line) (symbol-answered w line) (take (length d - at) (drop at d)) l n) where
+    (p : Begins (take (length d - at) (drop at d)) (symbol-answered w line) l n) where
   part : take (length d - at) (drop at d) ≡ drop at d
   part = take-all (length d - at) (drop at d) (omega (arith, length-drop at d))
 
-  fits : leb (length line + 48) (length (drop at d)) ≡ true
-  fits = le-leb (length line + 48) (length (drop at d)) (omega (arith, length-drop at d))
-
-  count : n ≡ length (symbol-answered w line)
-  unfolding line-told
-  count = p .0 ∙ rw (part, fits)
-
   lists : l ≡ front (symbol-answered w line) (drop at d)
-  unfolding line-left
-  lists = p .1 ∙ rw (part, fits)
+  lists = begins-front (take (length d - at) (drop at d)) (symbol-answered w line) l n p ∙ rw part
 
   pub answer-within : at + n ≤ length d
-  answer-within = omega (arith, count, answer-few w line)
+  answer-within = omega (arith, p .0, answer-few w line)
 
   pub answer-put : Puts d at (symbol-answered w line) (take at d ++ (l ++ drop (length d - at) (drop at d))) (at + n)
   unfolding front
@@ -126,7 +116,7 @@ module _ (w : Option Book) (line d : List ℕ) (at : ℕ) (l : List ℕ) (n : �
       let k : length (drop at d) ≤ length d - at = omega (arith, length-drop at d) in
       let e : drop (length d - at) (drop at d) ≡ [] = drop-of-length-le (drop at d) k in
       let t = symbol-answered w line in
-      (ap (λ (k : ℕ). at + k) count, rw (e, append-nil, lists, take-length, drop-drop) (sym (append-assoc (take at d) t (drop (at + length t) d))))
+      (ap (λ (k : ℕ). at + k) (p .0), rw (e, append-nil, lists, take-length, drop-drop) (sym (append-assoc (take at d) t (drop (at + length t) d))))
 
 -- ---- the loop of `render_symbols`: the answers up to the place `at` stand, and those from there on are left
 pub record Answered (w : Option Book) (s d : List ℕ) (from : ℕ) (l : List ℕ) (at end : ℕ) : Type 0 where

@@ -20,10 +20,12 @@ use Rattle.linker_script.specs.declared.Found.{Found}
 use Rattle.linker_script.specs.declared.Found.the-variants.{Here, Nowhere}
 use Rattle.reading.specs.Places.{at-script}
 use Rattle.book.specs.Books.{Book}
-use Rattle.book.specs.Layout.{Buffers}
-use Rattle.book.specs.View.{view}
+use Rattle.packing.specs.Padding.{zeros}
+use Rattle.book.specs.Layout.{Buffers, five}
+use Rattle.book.specs.View.{holds, view}
+use Rattle.book.proofs.Views.{holds-of-view}
 use Rattle.opening.specs.declared.Opened.{Opened}
-use Rattle.opening.specs.Opening.{Opening, declined, left, opening, opens, told}
+use Rattle.opening.specs.Opening.{Opening, cleared, declined, left, opening, opens, told}
 use Rattle.opening.proofs.Refusing.{opening-refuses}
 use Rattle.opened.proofs.Opened.{opened-holds}
 use Rattle.version_script.specs.declared.Count.{Count}
@@ -32,7 +34,7 @@ use Rattle.version_script.specs.Questions.{counted, parent-count, version-count
 use Rattle.listing.specs.declared.listed.Listed.{Listed}
 use Rattle.listing.specs.Splitting.{mark, script-by, symbols-by}
 use Rattle.listing.specs.Lines.{counts-answered, counts-line, refused-line, symbol-answered}
-use Rattle.listing.specs.Listing.{answers, book-left, has-room, input-opening, listed, listing, out-left, printed, printed-told, with-refusal}
+use Rattle.listing.specs.Listing.{answers, book-left, has-room, input-opening, listed, listing, nothing-listed, out-left, printed, printed-told, with-refusal}
 use Rattle.listing.proofs.Answers.{answer-few}
 use Rattle.listing.proofs.Digits.{few-digits}
 use Rattle.listing.proofs.Marks.{mark-within}
@@ -47,6 +49,12 @@ pub refused-listed : (n place : ℕ) (d l : List ℕ) (r : ℕ) → 48 ≤ lengt
 refused-listed n place d l r h p =
     let z = rendered-some 0 (refused-line n) d l r h p in
     (ap (λ (k : ℕ). told-as k n place) (z .0), z .1)
+
+-- five buffers that are zeros, each of its length
+pub all-cleared : (n m l p j n′ m′ l′ p′ j′ : List ℕ) → n′ ≡ zeros (length n) → m′ ≡ zeros (length m) → l′ ≡ zeros (length l) → p′ ≡ zeros (length p)
+    → j′ ≡ zeros (length j) → five n′ m′ l′ p′ j′ ≡ cleared (five n m l p j)
+unfolding cleared
+all-cleared n m l p j n′ m′ l′ p′ j′ e f g h k = λ i. five (e i) (f i) (g i) (h i) (k i)
 
 -- ---- lengths
 refused-few : (n : ℕ) → length (refused-line n) ≤ 19
@@ -95,6 +103,10 @@ module _ (b : Buffers) (s : List ℕ) (x : Opened) (e : x ≡ told (opening at-s
       go (declined n p) f g j =
           let z : x .refusal ≡ n = ap (λ (y : Opened). y .refusal) g in
           absurd (omega (arith, z, h, opening-refuses at-script b s n p f .0))
+
+  -- what is opened holds a book
+  pub script-held : x .refusal ≡ 0 → (b′ : Buffers) → b′ ≡ left b (opening at-script b s) → holds (x .counts) b′ ≡ true
+  script-held h b′ k = let z = script-opens h b′ k in holds-of-view (x .counts) b′ (z .0) (z .1 .1) .0
 
   -- ---- the exits of `render_script`
   module _ (symbols d : List ℕ) (b′ : Buffers) (j : b′ ≡ left b (opening at-script b s)) where
@@ -150,29 +162,30 @@ abbrev Lists : Buffers → List ℕ → List ℕ → Listed → List ℕ → Buf
 Lists b s d r l b′ = (r ≡ listed b s d) × (l ≡ out-left b s d) × (b′ ≡ book-left b s d)
 
 module _ (b : Buffers) (s d : List ℕ) where
-  small : length d < 48 + 15 * length s → Lists b s d (told-as 0 0 0) d b
+  small : (r : Listed) → r ≡ nothing-listed → length d < 48 + 15 * length s → Lists b s d r d b
   unfolding listed out-left book-left has-room
-  small h =
+  small r e h =
       let v : leb (48 + 15 * length s) (length d) ≡ false = lt-leb (48 + 15 * length s) (length d) h in
-      (rw v, rw v, rw v)
+      (rw v e, rw v, rw v)
 
-  pub too-small : length d < 48 → Lists b s d (told-as 0 0 0) d b
-  too-small h = small (omega arith)
+  pub too-small : (r : Listed) → r ≡ nothing-listed → length d < 48 → Lists b s d r d b
+  too-small r e h = small r e (omega arith)
 
   module _ (h : 48 ≤ length d) where
-    pub small-for : (length d - 48) / 15 < length s → Lists b s d (told-as 0 0 0) d b
-    small-for k = small (omega arith)
+    pub small-for : (r : Listed) → r ≡ nothing-listed → (length d - 48) / 15 < length s → Lists b s d r d b
+    small-for r e k = small r e (omega arith)
 
     module _ (k : length s ≤ (length d - 48) / 15) where
       fits : leb (48 + 15 * length s) (length d) ≡ true
       fits = le-leb (48 + 15 * length s) (length d) (omega arith)
 
-      pub too-long-listed : 65536 < length s → (r : Listed) (l : List ℕ)
-          → (r ≡ with-refusal (length (refused-line too-long)) (declined too-long 0)) × (l ≡ front (refused-line too-long) d) → Lists b s d r l b
-      unfolding listed out-left book-left has-room input-opening listing printed
-      too-long-listed g r l p =
+      pub too-long-listed : 65536 < length s → (r : Listed) (l : List ℕ) (b′ : Buffers)
+          → (r ≡ with-refusal (length (refused-line too-long)) (declined too-long 0)) × (l ≡ front (refused-line too-long) d) × (b′ ≡ cleared b)
+          → Lists b s d r l b′
+      unfolding listed out-left book-left has-room input-opening listing printed left
+      too-long-listed g r l b′ p =
           let v : ltb 65536 (length s) ≡ true = lt-ltb 65536 (length s) g in
-          (rw (fits, v) (p .0), rw (fits, v) (p .1), rw (fits, v))
+          (rw (fits, v) (p .0), rw (fits, v) (p .1), rw (fits, v) (p .2))
 
       module _ (g : length s ≤ 65536) where
         whole : (r : Listed) (l : List ℕ) (b′ : Buffers)

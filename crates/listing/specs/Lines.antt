@@ -33,7 +33,8 @@ decimal n = spelled 10 n
 unfoldable pub refused-line : ℕ → List ℕ
 refused-line n = codes "refused " ++ (decimal n ++ line-feed ∷ [])
 
--- ---- "It prints version and parent counts"; where they are refused, as the script is
+-- ---- "It prints version and parent counts"; where they are refused, as the script is. Behind an opening they are not: it leaves a book of a kind that has
+-- these counts. The cases stand here because the functions answer any buffers, an export list and buffers without a book too
 unfoldable pub counts-line : Count → Count → List ℕ
 counts-line (count.Counted n) (count.Counted p) = codes "nodes " ++ (decimal n ++ (codes " parents " ++ (decimal p ++ line-feed ∷ [])))
 counts-line (count.Counted n) (count.Refused m) = refused-line m
@@ -51,7 +52,8 @@ index-field (version.Index i) = decimal (i .0)
 index-field version.Unversioned = dash ∷ []
 index-field (version.Refused n) = refused-fields n
 
--- behind the index
+-- behind the index. Of one book and one name no locality is refused where the version is not, so the refused case does not occur: it is here because the fields
+-- are those of any version and any locality
 unfoldable pub with-locality : List ℕ → Locality → List ℕ
 with-locality index locality.Global = index ++ codes " G"
 with-locality index locality.Local = index ++ codes " L"
@@ -74,7 +76,8 @@ asked-line w name wanted = symbol-line name (version-asked w (name-of name name)
 unfoldable pub symbol-answered : Option Book → List ℕ → List ℕ
 symbol-answered w t = asked-line w (name-part t) (wanted-part t)
 
--- ---- in a lent buffer: what is printed behind a name needs 48 bytes of room at most; where a line might not fit, nothing is written, and 0 is answered
+-- ---- in a lent buffer: where a line might not fit, nothing is written, and 0 is answered. What is printed behind a name, or without one, is shorter than 48
+-- bytes. A whole listing has room in these and 15 for each byte of the input: an answer has at most 14 bytes besides its name, and its line has one at least
 abbrev pub tail-room : ℕ
 tail-room = 48
 

@@ -5,12 +5,13 @@ use mathlib.Core.Bool.{Bool, cond}
 use mathlib.Core.Option.{Option, some}
 use lib.Dec.{eqb, leb, ltb}
 use lib.ListN.{length}
-use Rattle.numbers.specs.Refusals.{too-long}
+use Rattle.numbers.specs.Refusals.{no-room, too-long}
 use Rattle.numbers.specs.Signs.{line-feed}
 use Rattle.lists.specs.Front.{front}
+use Rattle.packing.specs.Padding.{zeros}
 use Rattle.reading.specs.Places.{at-script}
 use Rattle.book.specs.Books.{Book}
-use Rattle.book.specs.Layout.{Buffers}
+use Rattle.book.specs.Layout.{Buffers, edit-width, five, line-width, node-width}
 use Rattle.opening.specs.Opening.{Opening, opens, declined, left, opening}
 use Rattle.listing.specs.declared.listed.Listed.{Listed}
 use Rattle.listing.specs.Splitting.{mark, script-by, symbols-by}
@@ -55,12 +56,20 @@ with-refusal n (declined m p) = record { length = n; refusal = m; place = p }
 abbrev pub printed-told : Opening → List ℕ → Listed
 printed-told o symbols = with-refusal (length (printed o symbols)) o
 
+-- without room: 0 would say that it is done
+abbrev pub nothing-listed : Listed
+nothing-listed = record { length = 0; refusal = no-room; place = 0 }
+
 unfoldable pub listed : Buffers → List ℕ → List ℕ → Listed
-listed b s out = cond (has-room s out) (with-refusal (length (listing b s)) (input-opening b s)) (record { length = 0; refusal = 0; place = 0 })
+listed b s out = cond (has-room s out) (with-refusal (length (listing b s)) (input-opening b s)) nothing-listed
 
 unfoldable pub out-left : Buffers → List ℕ → List ℕ → List ℕ
 out-left b s out = cond (has-room s out) (front (listing b s) out) out
 
--- the book's buffers: as the opening leaves them, where there was one
+-- the book's buffers: as the opening leaves them, which is zeros where it is refused
 unfoldable pub book-left : Buffers → List ℕ → List ℕ → Buffers
-book-left b s out = cond (has-room s out) (cond (ltb input-limit (length s)) b (left b (opening at-script b (script-by s (mark s))))) b
+book-left b s out = cond (has-room s out) (left b (input-opening b s)) b
+
+-- ---- "Its room: 1,024 nodes, 2,048 lines, 65,536 bytes each of names and pool". The journal has the room of one edit, and no edit is made
+unfoldable pub verlist-room : Buffers
+verlist-room = five (zeros (node-width * 1024)) (zeros 65536) (zeros (line-width * 2048)) (zeros 65536) (zeros edit-width)

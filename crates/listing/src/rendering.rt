@@ -159,7 +159,7 @@ fn put_fields(out: &mut [u8], at: usize, v: Version, l: Locality) -> usize
 }
 
 // A symbol's line, with its name.
-fn put_symbol_line(out: &mut [u8], name: &[u8], v: Version, l: Locality) -> usize
+pub(crate) fn put_symbol_line(out: &mut [u8], name: &[u8], v: Version, l: Locality) -> usize
     requires { ⌜ length (now name) + 48 ≤ length (now out) ⌝ }
     ensures { λ r. ⌜ (r ≡ length (symbol-line (now (name .entry)) v l))
         × (now (out .exit) ≡ paste (now (out .entry)) 0 (symbol-line (now (name .entry)) v l) (length (symbol-line (now (name .entry)) v l))) ⌝ }

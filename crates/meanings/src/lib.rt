@@ -14,6 +14,11 @@ pub fn say_place(line: usize, column: usize) {
     say(b": ");
 }
 
+// A number that says nothing.
+fn say_no_number() {
+    say(b"a number that no refusal has\n");
+}
+
 // The refusals of reading and storing, 1 to 8.
 fn say_reading(no: u32) {
     if no == 1 {
@@ -37,7 +42,10 @@ fn say_reading(no: u32) {
     if no == 7 {
         return say(b"a parent that no earlier node is\n");
     }
-    say(b"no room is left\n");
+    if no == 8 {
+        return say(b"no room is left\n");
+    }
+    say_no_number();
 }
 
 // The meaning of a refusal's number.
@@ -60,5 +68,8 @@ pub fn say_meaning(no: u32) {
     if no == 13 {
         return say(b"a book of this kind does not answer that\n");
     }
-    say(b"this is no book\n");
+    if no == 14 {
+        return say(b"this is no book\n");
+    }
+    say_no_number();
 }

@@ -39,6 +39,7 @@ fn print_listing(
     listed
 }
 
+// The five arrays are `verlist-room` of listing's specs/Listing.antt: 01's "1,024 nodes, 2,048 lines, 65,536 bytes each of names and pool".
 fn list(text: &[u8]) {
     let mut nodes = [0u32; 3072];
     let mut names = [0u8; 65536];

@@ -22,8 +22,8 @@ enum-known-no c = search needs
 answer-requires : tie.Need-answer-requires
 answer-requires c κs = search needs
 
-enum-known-n : tie.Need-enum-known-n
-enum-known-n c = search needs
+enum-known-versions : tie.Need-enum-known-versions
+enum-known-versions c = search needs
 
 answer-requires-2 : tie.Need-answer-requires-2
 answer-requires-2 c κs = search needs
@@ -48,7 +48,7 @@ returns-3 c =
     let y = x .before .before .before .before .before in
     let a = y .before .before .before .before .before .before .before .before .before .before .args in
     count-told (a .counts .now) (five _ _ _ _ _) (a .out .now) (y .before .before .if1 .left) _ (y .before .counts-of .ensures) _ _ _ _ _
-    (y .version-count .ensures) (x .before .before .before .n .given .1) (x .answer2 .ensures)
+    (y .version-count .ensures) (x .before .before .before .versions .given .1) (x .answer2 .ensures)
 
 pub tuno-version-count-spec : {M : Type 1} → statement M
 tuno-version-count-spec =
@@ -59,7 +59,7 @@ tuno-version-count-spec =
     version-count-requires
     enum-known-no
     answer-requires
-    enum-known-n
+    enum-known-versions
     answer-requires-2
     same-length
     returns-2

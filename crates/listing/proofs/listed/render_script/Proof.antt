@@ -1,7 +1,7 @@
 -- `render_script` meets its contract. Assumes nothing.
 use borrow.Author.Needs.{needs}
 use Rattle.book.specs.Layout.{five}
-use Rattle.listing.proofs.Scripts.{script-listed, script-refused-listed, symbols-room}
+use Rattle.listing.proofs.Scripts.{script-held, script-listed, script-refused-listed, symbols-room}
 use Rattle.listing.proofs.listed.render_script.Statement.{statement}
 use Rattle.listing.proofs.listed.render_script.Tie as tie
 
@@ -54,9 +54,11 @@ render-symbols-requires c κs =
     let p = at-render-counts .render-counts in
     let a = at-args .args in
     let w = at-open .«open» in
-    symbols-room (five (a .nodes .now) (a .names .now) (a .lines .now) (a .pool .now) (a .journal .now)) (a .script .now)
-    (w .result) (w .ensures .0) (a .symbols .now) (a .out .now) _ (w .ensures .1) (at-if1 .if1 .left) (at-args .pre .0)
-    (at-args .pre .1) _ (p .result) (p .ensures)
+    let b = five (a .nodes .now) (a .names .now) (a .lines .now) (a .pool .now) (a .journal .now) in (
+      symbols-room b (a .script .now) (w .result) (w .ensures .0) (a .symbols .now) (a .out .now) _ (w .ensures .1) (at-if1 .if1 .left) (at-args .pre .0)
+          (at-args .pre .1) _ (p .result) (p .ensures),
+      script-held b (a .script .now) (w .result) (w .ensures .0) (at-if1 .if1 .left) _ (w .ensures .1),
+    )
 
 same-length-7 : tie.Need-same-length-7
 same-length-7 c = search needs

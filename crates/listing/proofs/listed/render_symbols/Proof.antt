@@ -40,7 +40,7 @@ sub-put-answer c =
     let o = at-loop .loop in
     line-starts (view (a .c) (five (a .nodes .now) (a .names .now) (a .lines .now) (a .pool .now) (a .journal .now)))
     (a .symbols .now) (a .out .now) (a .from) (o .out) (o .at) (o .end) (o .inv) (at-loop-test .loop-test .taken)
-    (at-args .pre) _ (at-find .find .ensures) _ (at-p .p .given .1)
+    (at-args .pre .0) _ (at-find .find .ensures) _ (at-p .p .given .1)
 
 part-put-answer-start : tie.Need-part-put-answer-start Inv-loop μ-loop
 part-put-answer-start c =
@@ -53,7 +53,7 @@ part-put-answer-start c =
     let o = at-loop .loop in
     line-starts (view (a .c) (five (a .nodes .now) (a .names .now) (a .lines .now) (a .pool .now) (a .journal .now)))
     (a .symbols .now) (a .out .now) (a .from) (o .out) (o .at) (o .end) (o .inv) (at-loop-test .loop-test .taken)
-    (at-args .pre) _ (at-find .find .ensures) _ (at-p .p .given .1)
+    (at-args .pre .0) _ (at-find .find .ensures) _ (at-p .p .given .1)
 
 part-put-answer-end : tie.Need-part-put-answer-end Inv-loop μ-loop
 part-put-answer-end c =
@@ -66,7 +66,7 @@ part-put-answer-end c =
     let o = at-loop .loop in
     line-ends (view (a .c) (five (a .nodes .now) (a .names .now) (a .lines .now) (a .pool .now) (a .journal .now)))
     (a .symbols .now) (a .out .now) (a .from) (o .out) (o .at) (o .end) (o .inv) (at-loop-test .loop-test .taken)
-    (at-args .pre) _ (at-find .find .ensures) _ (at-p .p .given .1)
+    (at-args .pre .0) _ (at-find .find .ensures) _ (at-p .p .given .1)
 
 put-answer-requires : tie.Need-put-answer-requires Inv-loop μ-loop
 put-answer-requires c κs =
@@ -76,10 +76,12 @@ put-answer-requires c κs =
     let at-loop = at-loop-test .before in
     let at-args = at-loop .before .before .before .before .before .before .before .before in
     let a = at-args .args in
-    let o = at-loop .loop in
-    line-room (view (a .c) (five (a .nodes .now) (a .names .now) (a .lines .now) (a .pool .now) (a .journal .now)))
-    (a .symbols .now) (a .out .now) (a .from) (o .out) (o .at) (o .end) (o .inv) (at-loop-test .loop-test .taken)
-    (at-args .pre) _ (at-find .find .ensures) _ (at-p .p .given .1)
+    let o = at-loop .loop in (
+      line-room (view (a .c) (five (a .nodes .now) (a .names .now) (a .lines .now) (a .pool .now) (a .journal .now)))
+          (a .symbols .now) (a .out .now) (a .from) (o .out) (o .at) (o .end) (o .inv) (at-loop-test .loop-test .taken)
+          (at-args .pre .0) _ (at-find .find .ensures) _ (at-p .p .given .1),
+      at-args .pre .1,
+    )
 
 add-at : tie.Need-add-at Inv-loop μ-loop
 add-at c =
@@ -90,7 +92,7 @@ add-at c =
     let a = s .args in
     let o = l .loop in
     next-within (view (a .c) (five (a .nodes .now) (a .names .now) (a .lines .now) (a .pool .now) (a .journal .now))) (a .symbols .now)
-    (a .out .now) (a .from) (o .out) (o .at) (o .end) (o .inv) (f .before .loop-test .taken) (s .pre) _ (f .find .ensures) _ (c .before .before .before .before .before .before .p .given .1)) in
+    (a .out .now) (a .from) (o .out) (o .at) (o .end) (o .inv) (f .before .loop-test .taken) (s .pre .0) _ (f .find .ensures) _ (c .before .before .before .before .before .before .p .given .1)) in
     let g = c .before .before .before .before .before .before .before .before .before .before .before .before .before .before .before .before .before .before .good in
     omega arith
 
@@ -105,7 +107,7 @@ loop-less c =
     let o = at-loop .loop in
     next-less (view (a .c) (five (a .nodes .now) (a .names .now) (a .lines .now) (a .pool .now) (a .journal .now)))
     (a .symbols .now) (a .out .now) (a .from) (o .out) (o .at) (o .end) (o .inv) (at-loop-test .loop-test .taken)
-    (at-args .pre) _ (at-find .find .ensures) _ (at-p .p .given .1)
+    (at-args .pre .0) _ (at-find .find .ensures) _ (at-p .p .given .1)
 
 loop-again : tie.Need-loop-again Inv-loop μ-loop
 loop-again c =
@@ -119,7 +121,7 @@ loop-again c =
     let a = at-args .args in
     let o = at-loop .loop in
     line-put (view (a .c) (five (a .nodes .now) (a .names .now) (a .lines .now) (a .pool .now) (a .journal .now))) (a .symbols .now)
-    (a .out .now) (a .from) (o .out) (o .at) (o .end) (o .inv) (at-loop-test .loop-test .taken) (at-args .pre) _
+    (a .out .now) (a .from) (o .out) (o .at) (o .end) (o .inv) (at-loop-test .loop-test .taken) (at-args .pre .0) _
     (at-find .find .ensures) _ (at-p .p .given .1) _ (p .result) (p .ensures)
 
 enum-told : tie.Need-enum-told Inv-loop μ-loop
@@ -140,10 +142,12 @@ put-answer-requires-2 c κs =
     let at-loop = at-loop-test .before in
     let at-args = at-loop .before .before .before .before .before .before .before .before in
     let a = at-args .args in
-    let o = at-loop .loop in
-    last-room (view (a .c) (five (a .nodes .now) (a .names .now) (a .lines .now) (a .pool .now) (a .journal .now)))
-    (a .symbols .now) (a .out .now) (a .from) (o .out) (o .at) (o .end) (o .inv) (at-loop-test .loop-test .taken)
-    (at-args .pre)
+    let o = at-loop .loop in (
+      last-room (view (a .c) (five (a .nodes .now) (a .names .now) (a .lines .now) (a .pool .now) (a .journal .now)))
+          (a .symbols .now) (a .out .now) (a .from) (o .out) (o .at) (o .end) (o .inv) (at-loop-test .loop-test .taken)
+          (at-args .pre .0),
+      at-args .pre .1,
+    )
 
 same-length : tie.Need-same-length Inv-loop μ-loop
 same-length c = search needs
@@ -160,7 +164,7 @@ returns c =
     let o = at-loop .loop in
     let p = at-put-answer2 .put-answer2 in
     last-put (view (a .c) (five (a .nodes .now) (a .names .now) (a .lines .now) (a .pool .now) (a .journal .now))) (a .symbols .now)
-    (a .out .now) (a .from) (o .out) (o .at) (o .end) (o .inv) (at-loop-test .loop-test .taken) (at-args .pre) _
+    (a .out .now) (a .from) (o .out) (o .at) (o .end) (o .inv) (at-loop-test .loop-test .taken) (at-args .pre .0) _
     (at-find .find .ensures) (at-enum-told .enum-told .given .1) _ (p .result) (p .ensures)
 
 same-length-2 : tie.Need-same-length-2 Inv-loop μ-loop

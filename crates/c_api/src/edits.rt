@@ -1,0 +1,166 @@
+// A lent book edited: the refusal or 0. Where an edit is done its counts are written; where it is refused nothing is.
+ghost use mathlib.Core.Path.{_≡_};
+ghost use lib.ListN.{length};
+ghost use Rattle.book.specs.Layout.{five};
+ghost use Rattle.changes.specs.Changes.{after, edit-refusal, edited};
+ghost use Rattle.changes.specs.Symbols.{symbol-asked};
+ghost use Rattle.changes.specs.Trial.{add-asked, settle-asked, strike-asked, undo-asked};
+ghost use Rattle.c_api.specs.Calls.{counts-edited, counts-told, flag, lent};
+use crate::lent::COUNTS;
+use crate::lent::counts_of;
+use crate::lent::put_counts;
+use changes::Edited;
+use export_list::symbols::add_symbol;
+use numbers::NO_BOOK;
+use trial::add;
+use trial::settle;
+use trial::strike;
+use trial::undoing::undo_latest;
+
+// What an edit answered, with the counts of the book behind it.
+fn finish(r: Edited, counts: &mut [u32]) -> u32
+    requires { ⌜ length (now counts) ≡ 6 ⌝ }
+    ensures { λ n. ⌜ (n ≡ edit-refusal r) × (now (counts .exit) ≡ counts-told (now (counts .entry)) r) ⌝ }
+{
+    match r {
+        Edited::Refused(no) => no,
+        Edited::Done(c) => {
+            put_counts(counts, c);
+            0
+        }
+    }
+}
+
+// A line more in a node, a section and a language.
+#[no_mangle]
+pub extern "C" fn tuno_add(
+    counts: &mut [u32],
+    nodes: &[u32],
+    names: &[u8],
+    lines: &mut [u32],
+    pool: &mut [u8],
+    journal: &mut [u32],
+    node: u32,
+    section: u32,
+    language: u32,
+    token: &[u8],
+) -> u32
+    ensures { λ r. ⌜ (r ≡ edit-refusal (edited (add-asked (five (now (nodes .entry)) (now (names .entry)) (now (lines .entry)) (now (pool .entry)) (now (journal .entry))) (lent (now (counts .entry)) (five (now (nodes .entry)) (now (names .entry)) (now (lines .entry)) (now (pool .entry)) (now (journal .entry)))) node section language (now (token .entry)))))
+        × (now (counts .exit) ≡ counts-edited (now (counts .entry)) (add-asked (five (now (nodes .entry)) (now (names .entry)) (now (lines .entry)) (now (pool .entry)) (now (journal .entry))) (lent (now (counts .entry)) (five (now (nodes .entry)) (now (names .entry)) (now (lines .entry)) (now (pool .entry)) (now (journal .entry)))) node section language (now (token .entry))))
+        × (five (now (nodes .entry)) (now (names .entry)) (now (lines .exit)) (now (pool .exit)) (now (journal .exit))
+        ≡ after (five (now (nodes .entry)) (now (names .entry)) (now (lines .entry)) (now (pool .entry)) (now (journal .entry))) (add-asked (five (now (nodes .entry)) (now (names .entry)) (now (lines .entry)) (now (pool .entry)) (now (journal .entry))) (lent (now (counts .entry)) (five (now (nodes .entry)) (now (names .entry)) (now (lines .entry)) (now (pool .entry)) (now (journal .entry)))) node section language (now (token .entry)))) ⌝ }
+{
+    if counts.len() != COUNTS {
+        return NO_BOOK;
+    }
+    let c = counts_of(counts);
+    let r = add(
+        c,
+        nodes,
+        names,
+        lines,
+        pool,
+        journal,
+        node,
+        section,
+        language,
+        token,
+    );
+    finish(r, counts)
+}
+
+// A line that stands is struck.
+#[no_mangle]
+pub extern "C" fn tuno_strike(
+    counts: &mut [u32],
+    nodes: &[u32],
+    names: &[u8],
+    lines: &mut [u32],
+    pool: &[u8],
+    journal: &mut [u32],
+    line: u32,
+) -> u32
+    ensures { λ r. ⌜ (r ≡ edit-refusal (edited (strike-asked (five (now (nodes .entry)) (now (names .entry)) (now (lines .entry)) (now (pool .entry)) (now (journal .entry))) (lent (now (counts .entry)) (five (now (nodes .entry)) (now (names .entry)) (now (lines .entry)) (now (pool .entry)) (now (journal .entry)))) line)))
+        × (now (counts .exit) ≡ counts-edited (now (counts .entry)) (strike-asked (five (now (nodes .entry)) (now (names .entry)) (now (lines .entry)) (now (pool .entry)) (now (journal .entry))) (lent (now (counts .entry)) (five (now (nodes .entry)) (now (names .entry)) (now (lines .entry)) (now (pool .entry)) (now (journal .entry)))) line))
+        × (five (now (nodes .entry)) (now (names .entry)) (now (lines .exit)) (now (pool .entry)) (now (journal .exit))
+        ≡ after (five (now (nodes .entry)) (now (names .entry)) (now (lines .entry)) (now (pool .entry)) (now (journal .entry))) (strike-asked (five (now (nodes .entry)) (now (names .entry)) (now (lines .entry)) (now (pool .entry)) (now (journal .entry))) (lent (now (counts .entry)) (five (now (nodes .entry)) (now (names .entry)) (now (lines .entry)) (now (pool .entry)) (now (journal .entry)))) line)) ⌝ }
+{
+    if counts.len() != COUNTS {
+        return NO_BOOK;
+    }
+    let c = counts_of(counts);
+    let r = strike(c, nodes, names, lines, pool, journal, line);
+    finish(r, counts)
+}
+
+// The latest edit is taken back.
+#[no_mangle]
+pub extern "C" fn tuno_undo(
+    counts: &mut [u32],
+    nodes: &[u32],
+    names: &[u8],
+    lines: &mut [u32],
+    pool: &mut [u8],
+    journal: &mut [u32],
+) -> u32
+    ensures { λ r. ⌜ (r ≡ edit-refusal (edited (undo-asked (lent (now (counts .entry)) (five (now (nodes .entry)) (now (names .entry)) (now (lines .entry)) (now (pool .entry)) (now (journal .entry)))))))
+        × (now (counts .exit) ≡ counts-edited (now (counts .entry)) (undo-asked (lent (now (counts .entry)) (five (now (nodes .entry)) (now (names .entry)) (now (lines .entry)) (now (pool .entry)) (now (journal .entry))))))
+        × (five (now (nodes .entry)) (now (names .entry)) (now (lines .exit)) (now (pool .exit)) (now (journal .exit))
+        ≡ after (five (now (nodes .entry)) (now (names .entry)) (now (lines .entry)) (now (pool .entry)) (now (journal .entry))) (undo-asked (lent (now (counts .entry)) (five (now (nodes .entry)) (now (names .entry)) (now (lines .entry)) (now (pool .entry)) (now (journal .entry)))))) ⌝ }
+{
+    if counts.len() != COUNTS {
+        return NO_BOOK;
+    }
+    let c = counts_of(counts);
+    let r = undo_latest(c, nodes, names, lines, pool, journal);
+    finish(r, counts)
+}
+
+// The struck lines are dropped, and the rest is packed.
+#[no_mangle]
+pub extern "C" fn tuno_settle(
+    counts: &mut [u32],
+    nodes: &[u32],
+    names: &[u8],
+    lines: &mut [u32],
+    pool: &mut [u8],
+    journal: &mut [u32],
+) -> u32
+    ensures { λ r. ⌜ (r ≡ edit-refusal (edited (settle-asked (lent (now (counts .entry)) (five (now (nodes .entry)) (now (names .entry)) (now (lines .entry)) (now (pool .entry)) (now (journal .entry)))))))
+        × (now (counts .exit) ≡ counts-edited (now (counts .entry)) (settle-asked (lent (now (counts .entry)) (five (now (nodes .entry)) (now (names .entry)) (now (lines .entry)) (now (pool .entry)) (now (journal .entry))))))
+        × (five (now (nodes .entry)) (now (names .entry)) (now (lines .exit)) (now (pool .exit)) (now (journal .exit))
+        ≡ after (five (now (nodes .entry)) (now (names .entry)) (now (lines .entry)) (now (pool .entry)) (now (journal .entry))) (settle-asked (lent (now (counts .entry)) (five (now (nodes .entry)) (now (names .entry)) (now (lines .entry)) (now (pool .entry)) (now (journal .entry)))))) ⌝ }
+{
+    if counts.len() != COUNTS {
+        return NO_BOOK;
+    }
+    let c = counts_of(counts);
+    let r = settle(c, nodes, names, lines, pool, journal);
+    finish(r, counts)
+}
+
+// The lines of a text, added to an export list, all or none. `without_semicolon`, where it is not 0, says how the text ends.
+#[no_mangle]
+pub extern "C" fn tuno_add_symbol(
+    counts: &mut [u32],
+    nodes: &[u32],
+    names: &[u8],
+    lines: &mut [u32],
+    pool: &mut [u8],
+    journal: &mut [u32],
+    text: &[u8],
+    without_semicolon: u32,
+) -> u32
+    ensures { λ r. ⌜ (r ≡ edit-refusal (edited (symbol-asked (five (now (nodes .entry)) (now (names .entry)) (now (lines .entry)) (now (pool .entry)) (now (journal .entry))) (lent (now (counts .entry)) (five (now (nodes .entry)) (now (names .entry)) (now (lines .entry)) (now (pool .entry)) (now (journal .entry)))) (now (text .entry)) (flag «without_semicolon»))))
+        × (now (counts .exit) ≡ counts-edited (now (counts .entry)) (symbol-asked (five (now (nodes .entry)) (now (names .entry)) (now (lines .entry)) (now (pool .entry)) (now (journal .entry))) (lent (now (counts .entry)) (five (now (nodes .entry)) (now (names .entry)) (now (lines .entry)) (now (pool .entry)) (now (journal .entry)))) (now (text .entry)) (flag «without_semicolon»)))
+        × (five (now (nodes .entry)) (now (names .entry)) (now (lines .exit)) (now (pool .exit)) (now (journal .exit))
+        ≡ after (five (now (nodes .entry)) (now (names .entry)) (now (lines .entry)) (now (pool .entry)) (now (journal .entry))) (symbol-asked (five (now (nodes .entry)) (now (names .entry)) (now (lines .entry)) (now (pool .entry)) (now (journal .entry))) (lent (now (counts .entry)) (five (now (nodes .entry)) (now (names .entry)) (now (lines .entry)) (now (pool .entry)) (now (journal .entry)))) (now (text .entry)) (flag «without_semicolon»))) ⌝ }
+{
+    if counts.len() != COUNTS {
+        return NO_BOOK;
+    }
+    let c = counts_of(counts);
+    let bare = without_semicolon != 0;
+    let r = add_symbol(c, nodes, names, lines, pool, journal, text, bare);
+    finish(r, counts)
+}
