@@ -2,17 +2,18 @@
 use Prim.Native.Nat.{ℕ, _+_, _-_, _<_, _≤_}
 use mathlib.Core.Path.{_≡_, refl, sym, _∙_}
 use mathlib.Core.List.{List, [], _∷_}
-use mathlib.Core.Bool.{Bool, true, false, cond, _&&_, true≢false}
+use mathlib.Core.Bool.{Bool, true, false, cond, _&&_, _||_, true≢false}
 use native.Mathlib.Nat.{add-assoc}
 use native.Mathlib.Numerals.{add-one}
 use native.Mathlib.Omega.{arith}
+use mir.Val.{boolByte}
 use borrow.Author.Tests.{eq-eqb, ne-eqb, le-leb, lt-leb, leb-true}
 use lib.Dec.{eqb, leb}
 use lib.ListN.{length, getD, drop, drop-of-length-le}
 use lib.Seq.{drop-cons, drop-drop}
 use Rattle.glob_match.specs.declared.Class.{Class}
 use Rattle.glob_match.specs.declared.Class.the-variants.{Exact, NonStar, Star, All}
-use Rattle.glob_match.specs.Classes.{class-of, escaped, lone-star, nonstar, quoted, scan, scanned}
+use Rattle.glob_match.specs.Classes.{class-of, escaped, lone-star, nonstar, quoted, scan, scanned, sign}
 
 -- ---- the quotes
 module _ (t : List ℕ) where
@@ -118,3 +119,63 @@ module _ (s : List ℕ) (k : Class) (i : ℕ) (left : scan Exact false s ≡ sca
 
       pub scan-on : (getD s i 0 ≡ 92 → ⊥) → scan Exact false s ≡ scan r false (drop (i + 1) s)
       scan-on q = here ∙ rw (ne-eqb (getD s i 0) 42 n, ne-eqb (getD s i 0) 92 q, ← e)
+
+-- ---- blocks without a sign
+pub mark-byte : (b : Bool) → boolByte b ≡ cond b 1 0
+mark-byte true = refl
+mark-byte false = refl
+
+unmarked : (b : Bool) → cond b 1 0 ≤ 0 → b ≡ false
+unmarked true h = absurd (omega arith)
+unmarked false h = refl
+
+neither : (a b : Bool) → a || b ≡ false → (a ≡ false) × (b ≡ false)
+neither true b h = absurd (true≢false h)
+neither false b h = (refl, h)
+
+scan-none : (s : List ℕ) (i : ℕ) → i < length s → sign (getD s i 0) ≡ false → scan Exact false (drop i s) ≡ scan Exact false (drop (i + 1) s)
+unfolding sign scan scanned nonstar
+scan-none s i h q =
+    let x = getD s i 0 in
+    let a = neither (eqb x 42) (eqb x 63 || (eqb x 91 || (eqb x 92 || eqb x 93))) q in
+    let b = neither (eqb x 63) (eqb x 91 || (eqb x 92 || eqb x 93)) (a .1) in
+    let d = neither (eqb x 91) (eqb x 92 || eqb x 93) (b .1) in
+    let e = neither (eqb x 92) (eqb x 93) (d .1) in
+    rw (add-one i, drop-cons s i 0 h, a .0, b .0, d .0, e .0, e .1)
+
+-- what is known before byte i of the block at a place
+pub record Block (s : List ℕ) (at most i : ℕ) : Type 0 where
+  pub within : i ≤ 16
+  pub left : most ≡ 0 → scan Exact false (drop at s) ≡ scan Exact false (drop (at + i) s)
+
+pub block-start : (s : List ℕ) (at : ℕ) → Block s at 0 0
+block-start s at =
+    let e : at + 0 ≡ at = omega arith in
+    record { within = omega arith; left = λ z. rw e }
+
+module _ (s : List ℕ) (at most i : ℕ) (known : Block s at most i) where
+  pub block-on : at + 16 ≤ length s → i < 16 → (m : ℕ) → m ≡ cond (sign (getD s (at + i) 0)) 1 0 → (r : ℕ) → most ≤ r → m ≤ r → Block s at r (i + 1)
+  block-on room h m e r g k = record {
+    within = omega arith;
+    left = λ z.
+        known .left (omega arith)
+        ∙ scan-none s (at + i) (omega arith) (unmarked (sign (getD s (at + i) 0)) (omega (arith, e)))
+        ∙ rw (add-assoc at i 1);
+  }
+
+  pub block-end : 16 ≤ i → most ≡ 0 → scan Exact false (drop at s) ≡ scan Exact false (drop (at + 16) s)
+  block-end h z =
+      let e : i ≡ 16 = omega (arith, known .within) in
+      known .left z ∙ rw e
+
+-- what is known before the block at i
+pub record Blocks (s : List ℕ) (i : ℕ) : Type 0 where
+  pub within : i ≤ length s
+  pub left : scan Exact false s ≡ scan Exact false (drop i s)
+
+module _ (s : List ℕ) (i : ℕ) (known : Blocks s i) where
+  pub blocks-on : 16 ≤ length s - i → (m : ℕ) → (m ≡ 0 → scan Exact false (drop i s) ≡ scan Exact false (drop (i + 16) s)) → m ≡ 0 → Blocks s (i + 16)
+  blocks-on room m e z = record { within = omega (arith, known .within); left = known .left ∙ e z }
+
+  pub blocks-end : scan Exact false s ≡ scan Exact false (drop i s)
+  blocks-end = known .left

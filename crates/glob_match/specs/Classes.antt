@@ -53,6 +53,10 @@ scan k skips [] = k
 scan k true (c ∷ s) = scan k false s
 scan k false (c ∷ s) = cond (eqb c asterisk) Star (scan (scanned k c) (eqb c backslash) s)
 
+-- the bytes that the scan looks for
+unfoldable pub sign : ℕ → Bool
+sign c = eqb c asterisk || (eqb c question || (eqb c opening || (eqb c backslash || eqb c closing)))
+
 -- "In order"
 unfoldable pub class-of : List ℕ → Class
 class-of t = cond (quoted t) Exact (cond (lone-star t) All (scan Exact false t))

@@ -1,7 +1,9 @@
 // The class of a token.
 ghost use mathlib.Core.Path.{_≡_};
-ghost use mathlib.Core.Bool.{false};
-ghost use Rattle.glob_match.specs.Classes.{class-number, class-of, escaped, lone-star, nonstar, quoted, scan, scanned};
+ghost use mathlib.Core.Bool.{cond, false};
+ghost use Prim.Native.Nat.{_+_, _≤_};
+ghost use lib.ListN.{drop, length};
+ghost use Rattle.glob_match.specs.Classes.{class-number, class-of, escaped, lone-star, nonstar, quoted, scan, scanned, sign};
 use crate::Class;
 
 // The paper's number of a class.
@@ -49,12 +51,57 @@ fn with_byte(class: Class, c: u8) -> Class
     class
 }
 
-// The scan: a `*` decides at once, a `\` skips a byte. No sign that it looks for stands behind `]`, and most letters do.
+// 1 for a sign that the scan looks for, else 0. All tests are made at every byte, so that many bytes can be tested at a time.
+fn mark(c: u8) -> u8
+    ensures { λ r. ⌜ r ≡ cond (sign c) 1 0 ⌝ }
+{
+    ((c == b'*') | ((c == b'?') | ((c == b'[') | ((c == b'\\') | (c == b']'))))) as u8
+}
+
+fn greater(a: u8, b: u8) -> u8
+    ensures { λ r. ⌜ (a ≤ r) × (b ≤ r) ⌝ }
+{
+    if a < b {
+        return b;
+    }
+    a
+}
+
+// 0 where no sign stands in the 16 bytes from a place on.
+fn block_mark(pattern: &[u8], at: usize) -> u8
+    requires { ⌜ at + 16 ≤ length (now pattern) ⌝ }
+    ensures { λ r. ⌜ (r ≡ 0
+        → scan Class.Exact false (drop at (now (pattern .entry))) ≡ scan Class.Exact false (drop (at + 16) (now (pattern .entry)))) ⌝ }
+{
+    let mut most = 0;
+    let mut i = 0;
+    while i < 16 {
+        most = greater(most, mark(pattern[at + i]));
+        i += 1;
+    }
+    most
+}
+
+// How many bytes the blocks of 16 at the front have, up to the first block with a sign.
+fn plain_blocks(pattern: &[u8]) -> usize
+    ensures { λ r. ⌜ scan Class.Exact false (now (pattern .entry)) ≡ scan Class.Exact false (drop r (now (pattern .entry))) ⌝ }
+{
+    let mut i = 0;
+    while 16 <= pattern.len() - i {
+        if block_mark(pattern, i) != 0 {
+            return i;
+        }
+        i += 16;
+    }
+    i
+}
+
+// The scan: a `*` decides at once, a `\` skips a byte. Blocks without a sign are passed first. No sign stands behind `]`, and most letters do.
 pub(crate) fn analyze_glob_pattern(pattern: &[u8]) -> Class
     ensures { λ r. ⌜ r ≡ scan Class.Exact false (now (pattern .entry)) ⌝ }
 {
     let mut class = Class::Exact;
-    let mut i = 0;
+    let mut i = plain_blocks(pattern);
     while i < pattern.len() {
         let c = pattern[i];
         if b']' < c {

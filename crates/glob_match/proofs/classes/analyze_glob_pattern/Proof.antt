@@ -1,7 +1,7 @@
 -- `analyze_glob_pattern` meets its contract. The loop's invariant: what is left decides. Assumes nothing.
 use Prim.Native.Nat.{_-_}
 use mathlib.Core.Bool.{false}
-use mathlib.Core.Path.{_≡_, refl}
+use mathlib.Core.Path.{_≡_}
 use native.Mathlib.Omega.{arith}
 use borrow.Author.Needs.{needs}
 use lib.ListN.{length, drop}
@@ -17,8 +17,11 @@ Inv-loop pattern class₀ i₀ class i = scan Exact false pattern ≡ scan class
 abbrev μ-loop : tie.MeasureT-loop
 μ-loop pattern class₀ i₀ class i = length pattern - i
 
+plain-blocks-requires : tie.Need-plain-blocks-requires Inv-loop μ-loop
+plain-blocks-requires c κs = search needs
+
 loop-holds : tie.Need-loop-holds Inv-loop μ-loop
-loop-holds c = refl
+loop-holds c = c .plain-blocks .ensures
 
 shared-slice-read-c : tie.Need-shared-slice-read-c Inv-loop μ-loop
 shared-slice-read-c c = search needs
@@ -65,6 +68,7 @@ analyze-glob-pattern-spec =
     (tie.spec
     Inv-loop
     μ-loop
+    plain-blocks-requires
     loop-holds
     shared-slice-read-c
     add-i
