@@ -1,4 +1,5 @@
 pub mod Searches
+pub mod Blocks
 pub mod Skipping
 pub mod Trimming
 mod Points
