@@ -12,13 +12,13 @@ use Rattle.numbers.specs.Limits.{pool-limit}
 use Rattle.numbers.specs.Refusals.{no-room}
 use Rattle.packing.specs.Tables.{packed}
 use Rattle.pattern.specs.declared.Edition.{Edition}
-use Rattle.glob_match.specs.declared.Class.{Class}
-use Rattle.glob_match.specs.declared.Stored.{Stored}
-use Rattle.glob_match.specs.declared.Stored.the-variants.{As}
-use Rattle.glob_match.specs.declared.Stored.the-variants as stored
-use Rattle.glob_match.specs.Answers.{keep-answer}
-use Rattle.glob_match.specs.Classes.{class-number}
-use Rattle.glob_match.specs.Keeping.{Keep, kept, refused, keep}
+use Rattle.classes.specs.declared.Class.{Class}
+use Rattle.storing.specs.declared.Stored.{Stored}
+use Rattle.storing.specs.declared.Stored.the-variants.{As}
+use Rattle.storing.specs.declared.Stored.the-variants as stored
+use Rattle.storing.specs.Answers.{keep-answer}
+use Rattle.classes.specs.Classes.{class-number}
+use Rattle.storing.specs.Keeping.{Keep, kept, refused, keep}
 use Rattle.book.specs.declared.Counts.{Counts}
 use Rattle.book.specs.Books.{Book, Line, add, edition-of}
 use Rattle.book.specs.Layout.{Buffers, code-of, counts-of, edit-form, edit-width, five, laid-out, line-form, line-width}

@@ -2,7 +2,7 @@
 ghost use mathlib.Core.Path.{_≡_};
 ghost use mathlib.Core.Bool.{true};
 ghost use Prim.Native.Nat.{_≤_, _<_};
-ghost use Rattle.glob_match.specs.Keeping.{keep};
+ghost use Rattle.storing.specs.Keeping.{keep};
 ghost use Rattle.book.specs.Books.{edition-of};
 ghost use Rattle.book.specs.Layout.{five};
 ghost use Rattle.book.specs.View.{book-of, laid};
@@ -15,15 +15,15 @@ use book::LINE_WIDTH;
 use book::editions::edition_of;
 use changes::ADD;
 use changes::Edited;
-use glob_match::Stored;
-use glob_match::classes::class_number;
-use glob_match::storing::store_token;
+use classes::class_number;
 use numbers::NO_ROOM;
 use packing::put_four;
 use packing::put_two;
 use rooms::has_edit;
 use rooms::has_row;
 use rooms::put_token;
+use storing::Stored;
+use storing::store_token;
 
 // What refuses a token that has no row: 1, 5 or 6, else 8.
 fn refusal_without_row(kind: u32, token: &[u8]) -> u32

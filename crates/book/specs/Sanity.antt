@@ -11,7 +11,7 @@ use Rattle.packing.specs.Tables.{every}
 use Rattle.pattern.specs.declared.Edition.{Edition}
 use Rattle.pattern.specs.Patterns.{refusal}
 use Rattle.pattern.specs.Storing.{stored}
-use Rattle.reading.specs.Tokens.{named}
+use Rattle.tokens.specs.Tokens.{named}
 use Rattle.book.specs.Books.{Node, Line, Edit, Book, regular, rust, export, exact-class, nonstar-class, star-class, all-class, global, local, general, add, strike, edition-of, no-node, first-named}
 use Rattle.book.specs.Edits.{journal-fits}
 

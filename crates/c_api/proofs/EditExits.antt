@@ -17,16 +17,12 @@ use Rattle.changes.specs.Changes.{Change, after, edit-refusal, edited, no, to}
 use Rattle.changes.specs.Symbols.{symbol-asked}
 use Rattle.changes.specs.Trial.{add-asked, settle-asked, strike-asked, undo-asked}
 use Rattle.changes.proofs.Answers.{Answers}
-use Rattle.c_api.specs.Calls.{counts-edited, counts-row, counts-told, lent, row-counts}
+use Rattle.c_api.specs.Calls.{Edits, counts-edited, counts-row, counts-told, row-counts}
 use Rattle.c_api.proofs.Lending.{lent-none, lent-viewed}
 
 -- what is told of an answer a, with r answered
 abbrev pub Finishes : List ℕ → Edited → ℕ → List ℕ → Type 0
 Finishes l a r l′ = (r ≡ edit-refusal a) × (l′ ≡ counts-told l a)
-
--- what is told of an edit x, with r answered
-abbrev pub Tells : List ℕ → Buffers → Change → ℕ → List ℕ → Buffers → Type 0
-Tells l b x r l′ b′ = (r ≡ edit-refusal (edited x)) × (l′ ≡ counts-edited l x) × (b′ ≡ after b x)
 
 -- ---- an edit that is done: its counts are written
 pub counts-written : (l l′ : List ℕ) (a : Edited) (d : Counts) → a ≡ answer.Done d → l′ ≡ counts-row d → Finishes l a 0 l′
@@ -35,56 +31,54 @@ counts-written l l′ a d e x = rw e (refl, x)
 module _ (l : List ℕ) (b : Buffers) where
   -- ---- counts that are not six numbers: no book
   module _ (h : length l ≡ 6 → ⊥) where
-    unlent : (f : Option Book → Change) → f none ≡ no no-book → Tells l b (f (lent l b)) no-book l b
-    unfolding edited counts-edited after
-    unlent f e = rw (lent-none l b h, e) (refl, refl, refl)
+    unlent : (ask : Buffers → Option Book → Change) → ask b none ≡ no no-book → Edits l b ask no-book l b
+    unfolding Edits edited counts-edited after
+    unlent ask e = rw (lent-none l b h, e) (refl, refl, refl)
 
-    pub add-unlent : (node section language : ℕ) (t : List ℕ) → Tells l b (add-asked b (lent l b) node section language t) no-book l b
+    pub add-unlent : (node section language : ℕ) (t : List ℕ) → Edits l b (λ b w. add-asked b w node section language t) no-book l b
     unfolding add-asked
-    add-unlent node section language t = unlent (λ (o : Option Book). add-asked b o node section language t) refl
+    add-unlent node section language t = unlent (λ b w. add-asked b w node section language t) refl
 
-    pub strike-unlent : (i : ℕ) → Tells l b (strike-asked b (lent l b) i) no-book l b
+    pub strike-unlent : (i : ℕ) → Edits l b (λ b w. strike-asked b w i) no-book l b
     unfolding strike-asked
-    strike-unlent i = unlent (λ (o : Option Book). strike-asked b o i) refl
+    strike-unlent i = unlent (λ b w. strike-asked b w i) refl
 
-    pub undo-unlent : Tells l b (undo-asked (lent l b)) no-book l b
+    pub undo-unlent : Edits l b (λ b w. undo-asked w) no-book l b
     unfolding undo-asked
-    undo-unlent = unlent undo-asked refl
+    undo-unlent = unlent (λ b w. undo-asked w) refl
 
-    pub settle-unlent : Tells l b (settle-asked (lent l b)) no-book l b
+    pub settle-unlent : Edits l b (λ b w. settle-asked w) no-book l b
     unfolding settle-asked
-    settle-unlent = unlent settle-asked refl
+    settle-unlent = unlent (λ b w. settle-asked w) refl
 
-    pub symbol-unlent : (s : List ℕ) (bare : Bool) → Tells l b (symbol-asked b (lent l b) s bare) no-book l b
+    pub symbol-unlent : (s : List ℕ) (bare : Bool) → Edits l b (λ b w. symbol-asked b w s bare) no-book l b
     unfolding symbol-asked
-    symbol-unlent s bare = unlent (λ (o : Option Book). symbol-asked b o s bare) refl
+    symbol-unlent s bare = unlent (λ b w. symbol-asked b w s bare) refl
 
   -- ---- six numbers: what the library answers (a) is told
   module _ (h : length l ≡ 6) (c : Counts) (e : c ≡ row-counts l) (r : ℕ) (l′ : List ℕ) (b′ : Buffers) (a : Edited) where
-    finished : (x : Change) → Answers a b b′ x → Finishes l a r l′ → Tells l b x r l′ b′
+    counted : (x : Change) → l′ ≡ counts-told l (edited x) → l′ ≡ counts-edited l x
     unfolding edited counts-edited
-    finished x y z = (rw (y .0) at (z .0), counted x (rw (y .0) at (z .1)), y .1)
-      where
-        counted : (x : Change) → l′ ≡ counts-told l (edited x) → l′ ≡ counts-edited l x
-        counted (to w) k = k
-        counted (no n) k = k
+    counted (to w) k = k
+    counted (no n) k = k
 
-    edit-told : (f : Option Book → Change) → Answers a b b′ (f (view c b)) → Finishes l a r l′ → Tells l b (f (lent l b)) r l′ b′
-    edit-told f y z = rw (lent-viewed l b h c e) (finished (f (view c b)) y z)
+    told : (ask : Buffers → Option Book → Change) → Answers a b b′ (ask b (view c b)) → Finishes l a r l′ → Edits l b ask r l′ b′
+    unfolding Edits
+    told ask y z = rw (lent-viewed l b h c e) (rw (y .0) at (z .0), counted (ask b (view c b)) (rw (y .0) at (z .1)), y .1)
 
     pub add-told : (node section language : ℕ) (t : List ℕ) → Answers a b b′ (add-asked b (view c b) node section language t) → Finishes l a r l′
-        → Tells l b (add-asked b (lent l b) node section language t) r l′ b′
-    add-told node section language t = edit-told (λ (o : Option Book). add-asked b o node section language t)
+        → Edits l b (λ b w. add-asked b w node section language t) r l′ b′
+    add-told node section language t = told (λ b w. add-asked b w node section language t)
 
-    pub strike-told : (i : ℕ) → Answers a b b′ (strike-asked b (view c b) i) → Finishes l a r l′ → Tells l b (strike-asked b (lent l b) i) r l′ b′
-    strike-told i = edit-told (λ (o : Option Book). strike-asked b o i)
+    pub strike-told : (i : ℕ) → Answers a b b′ (strike-asked b (view c b) i) → Finishes l a r l′ → Edits l b (λ b w. strike-asked b w i) r l′ b′
+    strike-told i = told (λ b w. strike-asked b w i)
 
-    pub undo-told : Answers a b b′ (undo-asked (view c b)) → Finishes l a r l′ → Tells l b (undo-asked (lent l b)) r l′ b′
-    undo-told = edit-told undo-asked
+    pub undo-told : Answers a b b′ (undo-asked (view c b)) → Finishes l a r l′ → Edits l b (λ b w. undo-asked w) r l′ b′
+    undo-told = told (λ b w. undo-asked w)
 
-    pub settle-told : Answers a b b′ (settle-asked (view c b)) → Finishes l a r l′ → Tells l b (settle-asked (lent l b)) r l′ b′
-    settle-told = edit-told settle-asked
+    pub settle-told : Answers a b b′ (settle-asked (view c b)) → Finishes l a r l′ → Edits l b (λ b w. settle-asked w) r l′ b′
+    settle-told = told (λ b w. settle-asked w)
 
     pub symbol-told : (s : List ℕ) (bare : Bool) → Answers a b b′ (symbol-asked b (view c b) s bare) → Finishes l a r l′
-        → Tells l b (symbol-asked b (lent l b) s bare) r l′ b′
-    symbol-told s bare = edit-told (λ (o : Option Book). symbol-asked b o s bare)
+        → Edits l b (λ b w. symbol-asked b w s bare) r l′ b′
+    symbol-told s bare = told (λ b w. symbol-asked b w s bare)

@@ -1,10 +1,12 @@
 -- The exits of the openings (src/openings.rt). l is the counts that were lent, b the buffers, s the text; l′ and b′ are what is left of them. The premises are
 -- what the code learned. Assumes nothing.
-use Prim.Native.Nat.{ℕ, _+_, _*_, _<_, _≤_}
+use Prim.Native.Nat.{ℕ, _+_, _*_, _≤_}
 use mathlib.Core.Path.{_≡_, refl, _∙_}
 use mathlib.Core.List.{List}
+use mathlib.Core.Bool.{Bool, true, false, cond}
 use native.Mathlib.Omega.{arith}
-use borrow.Author.Tests.{eq-eqb, ne-eqb, le-ltb, lt-ltb}
+use borrow.Author.Tests.{eq-eqb, ne-eqb, ltb-false}
+use lib.Dec.{ltb}
 use lib.ListN.{length}
 use Rattle.numbers.specs.Limits.{script-limit}
 use Rattle.numbers.specs.Refusals.{no-room, too-long}
@@ -13,39 +15,50 @@ use Rattle.book.specs.Layout.{Buffers, five}
 use Rattle.opening.specs.declared.Opened.{Opened}
 use Rattle.opening.specs.Opening.{Opening, cleared, declined, left, opening, opens, told}
 use Rattle.opening.proofs.RefusalPlaces.{opening-refuses-within}
-use Rattle.c_api.specs.Calls.{counts-left, counts-row, opening-told, opening-with}
+use Rattle.c_api.specs.Calls.{Opens, counts-left, counts-row, opening-told, opening-with}
 
 -- what is told of an opening o, with r answered
-abbrev pub Tells : List ℕ → Buffers → Opening → ℕ → List ℕ → Buffers → Type 0
+abbrev Tells : List ℕ → Buffers → Opening → ℕ → List ℕ → Buffers → Type 0
 Tells l b o r l′ b′ = (r ≡ opening-told o) × (l′ ≡ counts-left l o) × (b′ ≡ left b o)
 
 module _ (place : ℕ) (l : List ℕ) (b : Buffers) (s : List ℕ) where
-  -- ---- refused at once: all is cleared
-  module _ (l′ : List ℕ) (b′ : Buffers) (x : l′ ≡ zeros (length l)) (y : b′ ≡ cleared b) where
-    pub too-long-told : script-limit < length s → Tells l b (opening-with place l b s) too-long l′ b′
-    unfolding opening-with opening-told counts-left left
-    too-long-told h = rw (lt-ltb script-limit (length s) h) (refl, x, y)
+  -- ---- counts that are not six numbers: all is cleared
+  pub uncounted : (length l ≡ 6 → ⊥) → (r : ℕ) (l′ : List ℕ) (b′ : Buffers) → r ≡ cond (ltb script-limit (length s)) too-long no-room
+      → l′ ≡ zeros (length l) → b′ ≡ cleared b → Opens place l b s r l′ b′
+  unfolding Opens opening-with opening-told counts-left left
+  uncounted h r l′ b′ x y z = rw (ne-eqb (length l) 6 h) (go (ltb script-limit (length s)) x)
+    where
+      go : (t : Bool) → r ≡ cond t too-long no-room → Tells l b (cond t (declined too-long 0) (declined no-room 0)) r l′ b′
+      go true x = (x, y, z)
+      go false x = (x, y, z)
 
-    pub no-counts-told : length s ≤ script-limit → (length l ≡ 6 → ⊥) → Tells l b (opening-with place l b s) no-room l′ b′
-    unfolding opening-with opening-told counts-left left
-    no-counts-told h k = rw (le-ltb script-limit (length s) h, ne-eqb (length l) 6 k) (refl, x, y)
+  -- ---- six numbers: the text is opened, and a is what the opening answers
+  six-opens : length l ≡ 6 → opening-with place l b s ≡ opening place b s
+  unfolding opening-with opening
+  six-opens k = rw (eq-eqb (length l) 6 k) (go (ltb script-limit (length s)) _ _)
+    where
+      go : (t : Bool) (x y : Opening) → cond t x (cond t x y) ≡ cond t x y
+      go true x y = refl
+      go false x y = refl
 
-  -- ---- read: a is what the opening answers
-  module _ (h : length s ≤ script-limit) (a : Opened) (e : a ≡ told (opening place b s)) where
-    -- its place is one of the text
+  module _ (a : Opened) (e : a ≡ told (opening place b s)) where
+    -- its place is one of a text that is not too long
     pub place-few : a .place ≤ script-limit
-    unfolding told
-    place-few = rw e (go (opening place b s) refl)
+    unfolding told opening
+    place-few = rw e (go (ltb script-limit (length s)) refl)
       where
-        go : (o : Opening) → opening place b s ≡ o → told o .place ≤ script-limit
-        go (opens w) z = omega arith
-        go (declined n p) z = omega (arith, opening-refuses-within s place b n p z)
+        few : (o : Opening) → length s ≤ script-limit → opening place b s ≡ o → told o .place ≤ script-limit
+        few (opens w) h z = omega arith
+        few (declined n p) h z = omega (arith, opening-refuses-within s place b n p z)
+
+        go : (t : Bool) → ltb script-limit (length s) ≡ t → told (opening place b s) .place ≤ script-limit
+        go true z = rw z (omega arith)
+        go false z = few (opening place b s) (ltb-false script-limit (length s) z) refl
 
     pub opening-done : length l ≡ 6 → (r : ℕ) (l′ : List ℕ) (b′ : Buffers) → r ≡ a .refusal + 256 * a .place → l′ ≡ counts-row (a .counts)
-        → b′ ≡ left b (opening place b s) → Tells l b (opening-with place l b s) r l′ b′
-    unfolding opening-with told opening-told counts-left
-    opening-done k r l′ b′ x y z =
-        rw (le-ltb script-limit (length s) h, eq-eqb (length l) 6 k) (go (opening place b s) (rw e at x) (rw e at y) z)
+        → b′ ≡ left b (opening place b s) → Opens place l b s r l′ b′
+    unfolding Opens told opening-told counts-left
+    opening-done k r l′ b′ x y z = rw (six-opens k) (go (opening place b s) (rw e at x) (rw e at y) z)
       where
         go : (o : Opening) → r ≡ told o .refusal + 256 * told o .place → l′ ≡ counts-row (told o .counts) → b′ ≡ left b o → Tells l b o r l′ b′
         go (opens w) x y z = (x, y, z)

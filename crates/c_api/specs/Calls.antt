@@ -1,6 +1,7 @@
 -- The library for C, C++ and Rust programs: numbers and slices only. The book is six lent buffers: its counts, then nodes, names, lines, pool and journal.
 -- Assumes nothing.
 use Prim.Native.Nat.{ℕ, _+_, _*_}
+use mathlib.Core.Path.{_≡_}
 use mathlib.Core.List.{List, [], _∷_}
 use mathlib.Core.Bool.{Bool, cond, not}
 use mathlib.Core.Option.{Option, none}
@@ -13,10 +14,10 @@ use Rattle.book.specs.declared.Counts.{Counts}
 use Rattle.book.specs.Books.{Book}
 use Rattle.book.specs.Layout.{Buffers, counts-of}
 use Rattle.book.specs.View.{view}
-use Rattle.opening.specs.Opening.{Opening, opens, declined, opening}
+use Rattle.opening.specs.Opening.{Opening, opens, declined, left, opening}
 use Rattle.changes.specs.declared.Edited.{Edited}
 use Rattle.changes.specs.declared.Edited.the-variants as answer
-use Rattle.changes.specs.Changes.{Change, to, no}
+use Rattle.changes.specs.Changes.{Change, to, no, after, edit-refusal, edited}
 
 -- "kind, nodes, name bytes, lines, pool bytes, edits"
 abbrev pub counts-row : Counts → List ℕ
@@ -50,12 +51,21 @@ unfoldable pub counts-left : List ℕ → Opening → List ℕ
 counts-left l (opens w) = counts-row (counts-of w)
 counts-left l (declined n p) = zeros (length l)
 
+-- what an opening of the text s leaves: r answered, the counts l′ and the buffers b′
+unfoldable pub Opens : ℕ → List ℕ → Buffers → List ℕ → ℕ → List ℕ → Buffers → Type 0
+Opens place l b s r l′ b′ =
+    (r ≡ opening-told (opening-with place l b s)) × (l′ ≡ counts-left l (opening-with place l b s)) × (b′ ≡ left b (opening-with place l b s))
+
 -- ---- a question that is refused with n, or answered where n is 0 with the value v into `out`, which is refused last where it has no room
 unfoldable pub number-told : ℕ → List ℕ → ℕ
 number-told n out = cond (eqb n 0) (cond (eqb (length out) 0) no-room 0) n
 
 unfoldable pub value-left : ℕ → ℕ → List ℕ → List ℕ
 value-left n v out = cond (eqb n 0) (set out 0 v) out
+
+-- what a question with the answer a leaves, of which `refusal` and `value` tell: r answered, and out′
+unfoldable pub Replies : {A : Type 0} → (A → ℕ) → (A → ℕ) → A → List ℕ → ℕ → List ℕ → Type 0
+Replies refusal value a out r out′ = (r ≡ number-told (refusal a) out) × (out′ ≡ value-left (refusal a) (value a) out)
 
 -- ---- an edit: the counts of the book behind it, where it is done
 unfoldable pub counts-edited : List ℕ → Change → List ℕ
@@ -65,3 +75,8 @@ counts-edited l (no n) = l
 abbrev pub counts-told : List ℕ → Edited → List ℕ
 counts-told l (answer.Done c) = counts-row c
 counts-told l (answer.Refused n) = l
+
+-- what an edit that is asked of a lent book leaves: r answered, the counts l′ and the buffers b′
+unfoldable pub Edits : List ℕ → Buffers → (Buffers → Option Book → Change) → ℕ → List ℕ → Buffers → Type 0
+Edits l b ask r l′ b′ =
+    (r ≡ edit-refusal (edited (ask b (lent l b)))) × (l′ ≡ counts-edited l (ask b (lent l b))) × (b′ ≡ after b (ask b (lent l b)))

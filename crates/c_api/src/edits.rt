@@ -2,20 +2,20 @@
 ghost use mathlib.Core.Path.{_≡_};
 ghost use lib.ListN.{length};
 ghost use Rattle.book.specs.Layout.{five};
-ghost use Rattle.changes.specs.Changes.{after, edit-refusal, edited};
+ghost use Rattle.changes.specs.Changes.{edit-refusal};
 ghost use Rattle.changes.specs.Symbols.{symbol-asked};
 ghost use Rattle.changes.specs.Trial.{add-asked, settle-asked, strike-asked, undo-asked};
-ghost use Rattle.c_api.specs.Calls.{counts-edited, counts-told, flag, lent};
+ghost use Rattle.c_api.specs.Calls.{Edits, counts-told, flag};
 use crate::lent::COUNTS;
 use crate::lent::counts_of;
 use crate::lent::put_counts;
 use changes::Edited;
-use export_list::symbols::add_symbol;
 use numbers::NO_BOOK;
+use symbols::add_symbol;
 use trial::add;
 use trial::settle;
 use trial::strike;
-use trial::undoing::undo_latest;
+use undoing::undo_latest;
 
 // What an edit answered, with the counts of the book behind it.
 fn finish(r: Edited, counts: &mut [u32]) -> u32
@@ -45,10 +45,9 @@ pub extern "C" fn tuno_add(
     language: u32,
     token: &[u8],
 ) -> u32
-    ensures { λ r. ⌜ (r ≡ edit-refusal (edited (add-asked (five (now (nodes .entry)) (now (names .entry)) (now (lines .entry)) (now (pool .entry)) (now (journal .entry))) (lent (now (counts .entry)) (five (now (nodes .entry)) (now (names .entry)) (now (lines .entry)) (now (pool .entry)) (now (journal .entry)))) node section language (now (token .entry)))))
-        × (now (counts .exit) ≡ counts-edited (now (counts .entry)) (add-asked (five (now (nodes .entry)) (now (names .entry)) (now (lines .entry)) (now (pool .entry)) (now (journal .entry))) (lent (now (counts .entry)) (five (now (nodes .entry)) (now (names .entry)) (now (lines .entry)) (now (pool .entry)) (now (journal .entry)))) node section language (now (token .entry))))
-        × (five (now (nodes .entry)) (now (names .entry)) (now (lines .exit)) (now (pool .exit)) (now (journal .exit))
-        ≡ after (five (now (nodes .entry)) (now (names .entry)) (now (lines .entry)) (now (pool .entry)) (now (journal .entry))) (add-asked (five (now (nodes .entry)) (now (names .entry)) (now (lines .entry)) (now (pool .entry)) (now (journal .entry))) (lent (now (counts .entry)) (five (now (nodes .entry)) (now (names .entry)) (now (lines .entry)) (now (pool .entry)) (now (journal .entry)))) node section language (now (token .entry)))) ⌝ }
+    ensures { λ r. ⌜ Edits (now (counts .entry)) (five (now (nodes .entry)) (now (names .entry)) (now (lines .entry)) (now (pool .entry)) (now (journal .entry)))
+        (λ b w. add-asked b w node section language (now (token .entry)))
+        r (now (counts .exit)) (five (now (nodes .entry)) (now (names .entry)) (now (lines .exit)) (now (pool .exit)) (now (journal .exit))) ⌝ }
 {
     if counts.len() != COUNTS {
         return NO_BOOK;
@@ -80,10 +79,9 @@ pub extern "C" fn tuno_strike(
     journal: &mut [u32],
     line: u32,
 ) -> u32
-    ensures { λ r. ⌜ (r ≡ edit-refusal (edited (strike-asked (five (now (nodes .entry)) (now (names .entry)) (now (lines .entry)) (now (pool .entry)) (now (journal .entry))) (lent (now (counts .entry)) (five (now (nodes .entry)) (now (names .entry)) (now (lines .entry)) (now (pool .entry)) (now (journal .entry)))) line)))
-        × (now (counts .exit) ≡ counts-edited (now (counts .entry)) (strike-asked (five (now (nodes .entry)) (now (names .entry)) (now (lines .entry)) (now (pool .entry)) (now (journal .entry))) (lent (now (counts .entry)) (five (now (nodes .entry)) (now (names .entry)) (now (lines .entry)) (now (pool .entry)) (now (journal .entry)))) line))
-        × (five (now (nodes .entry)) (now (names .entry)) (now (lines .exit)) (now (pool .entry)) (now (journal .exit))
-        ≡ after (five (now (nodes .entry)) (now (names .entry)) (now (lines .entry)) (now (pool .entry)) (now (journal .entry))) (strike-asked (five (now (nodes .entry)) (now (names .entry)) (now (lines .entry)) (now (pool .entry)) (now (journal .entry))) (lent (now (counts .entry)) (five (now (nodes .entry)) (now (names .entry)) (now (lines .entry)) (now (pool .entry)) (now (journal .entry)))) line)) ⌝ }
+    ensures { λ r. ⌜ Edits (now (counts .entry)) (five (now (nodes .entry)) (now (names .entry)) (now (lines .entry)) (now (pool .entry)) (now (journal .entry)))
+        (λ b w. strike-asked b w line)
+        r (now (counts .exit)) (five (now (nodes .entry)) (now (names .entry)) (now (lines .exit)) (now (pool .entry)) (now (journal .exit))) ⌝ }
 {
     if counts.len() != COUNTS {
         return NO_BOOK;
@@ -103,10 +101,9 @@ pub extern "C" fn tuno_undo(
     pool: &mut [u8],
     journal: &mut [u32],
 ) -> u32
-    ensures { λ r. ⌜ (r ≡ edit-refusal (edited (undo-asked (lent (now (counts .entry)) (five (now (nodes .entry)) (now (names .entry)) (now (lines .entry)) (now (pool .entry)) (now (journal .entry)))))))
-        × (now (counts .exit) ≡ counts-edited (now (counts .entry)) (undo-asked (lent (now (counts .entry)) (five (now (nodes .entry)) (now (names .entry)) (now (lines .entry)) (now (pool .entry)) (now (journal .entry))))))
-        × (five (now (nodes .entry)) (now (names .entry)) (now (lines .exit)) (now (pool .exit)) (now (journal .exit))
-        ≡ after (five (now (nodes .entry)) (now (names .entry)) (now (lines .entry)) (now (pool .entry)) (now (journal .entry))) (undo-asked (lent (now (counts .entry)) (five (now (nodes .entry)) (now (names .entry)) (now (lines .entry)) (now (pool .entry)) (now (journal .entry)))))) ⌝ }
+    ensures { λ r. ⌜ Edits (now (counts .entry)) (five (now (nodes .entry)) (now (names .entry)) (now (lines .entry)) (now (pool .entry)) (now (journal .entry)))
+        (λ b w. undo-asked w)
+        r (now (counts .exit)) (five (now (nodes .entry)) (now (names .entry)) (now (lines .exit)) (now (pool .exit)) (now (journal .exit))) ⌝ }
 {
     if counts.len() != COUNTS {
         return NO_BOOK;
@@ -126,10 +123,9 @@ pub extern "C" fn tuno_settle(
     pool: &mut [u8],
     journal: &mut [u32],
 ) -> u32
-    ensures { λ r. ⌜ (r ≡ edit-refusal (edited (settle-asked (lent (now (counts .entry)) (five (now (nodes .entry)) (now (names .entry)) (now (lines .entry)) (now (pool .entry)) (now (journal .entry)))))))
-        × (now (counts .exit) ≡ counts-edited (now (counts .entry)) (settle-asked (lent (now (counts .entry)) (five (now (nodes .entry)) (now (names .entry)) (now (lines .entry)) (now (pool .entry)) (now (journal .entry))))))
-        × (five (now (nodes .entry)) (now (names .entry)) (now (lines .exit)) (now (pool .exit)) (now (journal .exit))
-        ≡ after (five (now (nodes .entry)) (now (names .entry)) (now (lines .entry)) (now (pool .entry)) (now (journal .entry))) (settle-asked (lent (now (counts .entry)) (five (now (nodes .entry)) (now (names .entry)) (now (lines .entry)) (now (pool .entry)) (now (journal .entry)))))) ⌝ }
+    ensures { λ r. ⌜ Edits (now (counts .entry)) (five (now (nodes .entry)) (now (names .entry)) (now (lines .entry)) (now (pool .entry)) (now (journal .entry)))
+        (λ b w. settle-asked w)
+        r (now (counts .exit)) (five (now (nodes .entry)) (now (names .entry)) (now (lines .exit)) (now (pool .exit)) (now (journal .exit))) ⌝ }
 {
     if counts.len() != COUNTS {
         return NO_BOOK;
@@ -151,10 +147,9 @@ pub extern "C" fn tuno_add_symbol(
     text: &[u8],
     without_semicolon: u32,
 ) -> u32
-    ensures { λ r. ⌜ (r ≡ edit-refusal (edited (symbol-asked (five (now (nodes .entry)) (now (names .entry)) (now (lines .entry)) (now (pool .entry)) (now (journal .entry))) (lent (now (counts .entry)) (five (now (nodes .entry)) (now (names .entry)) (now (lines .entry)) (now (pool .entry)) (now (journal .entry)))) (now (text .entry)) (flag «without_semicolon»))))
-        × (now (counts .exit) ≡ counts-edited (now (counts .entry)) (symbol-asked (five (now (nodes .entry)) (now (names .entry)) (now (lines .entry)) (now (pool .entry)) (now (journal .entry))) (lent (now (counts .entry)) (five (now (nodes .entry)) (now (names .entry)) (now (lines .entry)) (now (pool .entry)) (now (journal .entry)))) (now (text .entry)) (flag «without_semicolon»)))
-        × (five (now (nodes .entry)) (now (names .entry)) (now (lines .exit)) (now (pool .exit)) (now (journal .exit))
-        ≡ after (five (now (nodes .entry)) (now (names .entry)) (now (lines .entry)) (now (pool .entry)) (now (journal .entry))) (symbol-asked (five (now (nodes .entry)) (now (names .entry)) (now (lines .entry)) (now (pool .entry)) (now (journal .entry))) (lent (now (counts .entry)) (five (now (nodes .entry)) (now (names .entry)) (now (lines .entry)) (now (pool .entry)) (now (journal .entry)))) (now (text .entry)) (flag «without_semicolon»))) ⌝ }
+    ensures { λ r. ⌜ Edits (now (counts .entry)) (five (now (nodes .entry)) (now (names .entry)) (now (lines .entry)) (now (pool .entry)) (now (journal .entry)))
+        (λ b w. symbol-asked b w (now (text .entry)) (flag «without_semicolon»))
+        r (now (counts .exit)) (five (now (nodes .entry)) (now (names .entry)) (now (lines .exit)) (now (pool .exit)) (now (journal .exit))) ⌝ }
 {
     if counts.len() != COUNTS {
         return NO_BOOK;

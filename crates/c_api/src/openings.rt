@@ -1,13 +1,16 @@
 // Opening a text into lent buffers.
 ghost use mathlib.Core.Path.{_≡_};
 ghost use Prim.Native.Nat.{_+_, _*_, _≤_};
+ghost use mathlib.Core.Bool.{cond};
+ghost use lib.Dec.{ltb};
 ghost use lib.ListN.{length};
 ghost use Rattle.numbers.specs.Limits.{script-limit};
+ghost use Rattle.numbers.specs.Refusals.{no-room, too-long};
 ghost use Rattle.packing.specs.Padding.{zeros};
 ghost use Rattle.reading.specs.Places.{at-list, at-script};
 ghost use Rattle.book.specs.Layout.{five};
-ghost use Rattle.opening.specs.Opening.{cleared, left};
-ghost use Rattle.c_api.specs.Calls.{counts-left, counts-row, opening-told, opening-with};
+ghost use Rattle.opening.specs.Opening.{cleared};
+ghost use Rattle.c_api.specs.Calls.{Opens, counts-row};
 use crate::lent::COUNTS;
 use crate::lent::put_counts;
 use numbers::NO_ROOM;
@@ -38,6 +41,16 @@ fn clear_all(
     clear_numbers(journal);
 }
 
+// Why counts that are not six numbers are refused: a text that is too long comes first.
+fn without_counts(text: &[u8]) -> u64
+    ensures { λ r. ⌜ r ≡ cond (ltb script-limit (length (now (text .entry)))) too-long no-room ⌝ }
+{
+    if SCRIPT_LIMIT < text.len() {
+        return TOO_LONG as u64;
+    }
+    NO_ROOM as u64
+}
+
 // What an opening answered, with its counts written.
 fn told(r: Opened, counts: &mut [u32]) -> u64
     requires { ⌜ (length (now counts) ≡ 6) × (r .place ≤ script-limit) ⌝ }
@@ -57,18 +70,12 @@ pub extern "C" fn tuno_open_version_script(
     pool: &mut [u8],
     journal: &mut [u32],
 ) -> u64
-    ensures { λ r. ⌜ (r ≡ opening-told (opening-with at-script (now (counts .entry)) (five (now (nodes .entry)) (now (names .entry)) (now (lines .entry)) (now (pool .entry)) (now (journal .entry))) (now (text .entry))))
-        × (now (counts .exit) ≡ counts-left (now (counts .entry)) (opening-with at-script (now (counts .entry)) (five (now (nodes .entry)) (now (names .entry)) (now (lines .entry)) (now (pool .entry)) (now (journal .entry))) (now (text .entry))))
-        × (five (now (nodes .exit)) (now (names .exit)) (now (lines .exit)) (now (pool .exit)) (now (journal .exit))
-        ≡ left (five (now (nodes .entry)) (now (names .entry)) (now (lines .entry)) (now (pool .entry)) (now (journal .entry))) (opening-with at-script (now (counts .entry)) (five (now (nodes .entry)) (now (names .entry)) (now (lines .entry)) (now (pool .entry)) (now (journal .entry))) (now (text .entry)))) ⌝ }
+    ensures { λ r. ⌜ Opens at-script (now (counts .entry)) (five (now (nodes .entry)) (now (names .entry)) (now (lines .entry)) (now (pool .entry)) (now (journal .entry))) (now (text .entry))
+        r (now (counts .exit)) (five (now (nodes .exit)) (now (names .exit)) (now (lines .exit)) (now (pool .exit)) (now (journal .exit))) ⌝ }
 {
-    if SCRIPT_LIMIT < text.len() {
-        clear_all(counts, nodes, names, lines, pool, journal);
-        return TOO_LONG as u64;
-    }
     if counts.len() != COUNTS {
         clear_all(counts, nodes, names, lines, pool, journal);
-        return NO_ROOM as u64;
+        return without_counts(text);
     }
     told(
         version_script::open(text, nodes, names, lines, pool, journal),
@@ -86,18 +93,12 @@ pub extern "C" fn tuno_open_export_list(
     pool: &mut [u8],
     journal: &mut [u32],
 ) -> u64
-    ensures { λ r. ⌜ (r ≡ opening-told (opening-with at-list (now (counts .entry)) (five (now (nodes .entry)) (now (names .entry)) (now (lines .entry)) (now (pool .entry)) (now (journal .entry))) (now (text .entry))))
-        × (now (counts .exit) ≡ counts-left (now (counts .entry)) (opening-with at-list (now (counts .entry)) (five (now (nodes .entry)) (now (names .entry)) (now (lines .entry)) (now (pool .entry)) (now (journal .entry))) (now (text .entry))))
-        × (five (now (nodes .exit)) (now (names .exit)) (now (lines .exit)) (now (pool .exit)) (now (journal .exit))
-        ≡ left (five (now (nodes .entry)) (now (names .entry)) (now (lines .entry)) (now (pool .entry)) (now (journal .entry))) (opening-with at-list (now (counts .entry)) (five (now (nodes .entry)) (now (names .entry)) (now (lines .entry)) (now (pool .entry)) (now (journal .entry))) (now (text .entry)))) ⌝ }
+    ensures { λ r. ⌜ Opens at-list (now (counts .entry)) (five (now (nodes .entry)) (now (names .entry)) (now (lines .entry)) (now (pool .entry)) (now (journal .entry))) (now (text .entry))
+        r (now (counts .exit)) (five (now (nodes .exit)) (now (names .exit)) (now (lines .exit)) (now (pool .exit)) (now (journal .exit))) ⌝ }
 {
-    if SCRIPT_LIMIT < text.len() {
-        clear_all(counts, nodes, names, lines, pool, journal);
-        return TOO_LONG as u64;
-    }
     if counts.len() != COUNTS {
         clear_all(counts, nodes, names, lines, pool, journal);
-        return NO_ROOM as u64;
+        return without_counts(text);
     }
     told(
         export_list::open(text, nodes, names, lines, pool, journal),

@@ -1,24 +1,23 @@
 // What a lent book is asked. `out` shorter than needed is refused 8, last, and nothing is written where anything is refused.
-ghost use mathlib.Core.Path.{_≡_};
 ghost use Rattle.book.specs.Layout.{five};
 ghost use Rattle.ranking.specs.Matching.{name-of};
 ghost use Rattle.version_script.specs.Questions.{count-refusal, count-value, counted, parent-count, version-count};
-ghost use Rattle.version_script.specs.Lookups.{locality-asked, locality-refusal, locality-value, version-asked, version-refusal, version-value, wanted-of};
+ghost use Rattle.lookups.specs.Lookups.{locality-asked, locality-refusal, locality-value, version-asked, version-refusal, version-value, wanted-of};
 ghost use Rattle.export_list.specs.Membership.{contains-asked, membership-refusal, membership-value};
-ghost use Rattle.c_api.specs.Calls.{flag, lent, number-told, value-left};
+ghost use Rattle.c_api.specs.Calls.{Replies, flag, lent};
 use crate::lent::COUNTS;
 use crate::lent::answer;
 use crate::lent::counts_of;
 use export_list::Membership;
 use export_list::lookups::contains;
+use lookups::answers::Locality;
+use lookups::answers::Version;
+use lookups::locality;
+use lookups::version_for_symbol;
 use numbers::NO_BOOK;
 use version_script::Count;
-use version_script::Locality;
-use version_script::Version;
 use version_script::counts::parent_count;
 use version_script::counts::version_count;
-use version_script::lookups::locality;
-use version_script::lookups::version_for_symbol;
 
 #[no_mangle]
 pub extern "C" fn tuno_version_count(
@@ -30,8 +29,8 @@ pub extern "C" fn tuno_version_count(
     journal: &[u32],
     out: &mut [u32],
 ) -> u32
-    ensures { λ r. ⌜ (r ≡ number-told (count-refusal (counted version-count (lent (now (counts .entry)) (five (now (nodes .entry)) (now (names .entry)) (now (lines .entry)) (now (pool .entry)) (now (journal .entry)))))) (now (out .entry)))
-        × (now (out .exit) ≡ value-left (count-refusal (counted version-count (lent (now (counts .entry)) (five (now (nodes .entry)) (now (names .entry)) (now (lines .entry)) (now (pool .entry)) (now (journal .entry)))))) (count-value (counted version-count (lent (now (counts .entry)) (five (now (nodes .entry)) (now (names .entry)) (now (lines .entry)) (now (pool .entry)) (now (journal .entry)))))) (now (out .entry))) ⌝ }
+    ensures { λ r. ⌜ Replies count-refusal count-value (counted version-count (lent (now (counts .entry)) (five (now (nodes .entry)) (now (names .entry)) (now (lines .entry)) (now (pool .entry)) (now (journal .entry)))))
+        (now (out .entry)) r (now (out .exit)) ⌝ }
 {
     if counts.len() != COUNTS {
         return NO_BOOK;
@@ -52,8 +51,8 @@ pub extern "C" fn tuno_parent_count(
     journal: &[u32],
     out: &mut [u32],
 ) -> u32
-    ensures { λ r. ⌜ (r ≡ number-told (count-refusal (counted parent-count (lent (now (counts .entry)) (five (now (nodes .entry)) (now (names .entry)) (now (lines .entry)) (now (pool .entry)) (now (journal .entry)))))) (now (out .entry)))
-        × (now (out .exit) ≡ value-left (count-refusal (counted parent-count (lent (now (counts .entry)) (five (now (nodes .entry)) (now (names .entry)) (now (lines .entry)) (now (pool .entry)) (now (journal .entry)))))) (count-value (counted parent-count (lent (now (counts .entry)) (five (now (nodes .entry)) (now (names .entry)) (now (lines .entry)) (now (pool .entry)) (now (journal .entry)))))) (now (out .entry))) ⌝ }
+    ensures { λ r. ⌜ Replies count-refusal count-value (counted parent-count (lent (now (counts .entry)) (five (now (nodes .entry)) (now (names .entry)) (now (lines .entry)) (now (pool .entry)) (now (journal .entry)))))
+        (now (out .entry)) r (now (out .exit)) ⌝ }
 {
     if counts.len() != COUNTS {
         return NO_BOOK;
@@ -79,8 +78,9 @@ pub extern "C" fn tuno_version_for_symbol(
     wanted: &[u8],
     out: &mut [u32],
 ) -> u32
-    ensures { λ r. ⌜ (r ≡ number-told (version-refusal (version-asked (lent (now (counts .entry)) (five (now (nodes .entry)) (now (names .entry)) (now (lines .entry)) (now (pool .entry)) (now (journal .entry)))) (name-of (now (raw .entry)) (now (demangled .entry))) (wanted-of (flag «has_wanted») (now (wanted .entry))))) (now (out .entry)))
-        × (now (out .exit) ≡ value-left (version-refusal (version-asked (lent (now (counts .entry)) (five (now (nodes .entry)) (now (names .entry)) (now (lines .entry)) (now (pool .entry)) (now (journal .entry)))) (name-of (now (raw .entry)) (now (demangled .entry))) (wanted-of (flag «has_wanted») (now (wanted .entry))))) (version-value (version-asked (lent (now (counts .entry)) (five (now (nodes .entry)) (now (names .entry)) (now (lines .entry)) (now (pool .entry)) (now (journal .entry)))) (name-of (now (raw .entry)) (now (demangled .entry))) (wanted-of (flag «has_wanted») (now (wanted .entry))))) (now (out .entry))) ⌝ }
+    ensures { λ r. ⌜ Replies version-refusal version-value (version-asked (lent (now (counts .entry)) (five (now (nodes .entry)) (now (names .entry)) (now (lines .entry)) (now (pool .entry)) (now (journal .entry))))
+        (name-of (now (raw .entry)) (now (demangled .entry))) (wanted-of (flag «has_wanted») (now (wanted .entry))))
+        (now (out .entry)) r (now (out .exit)) ⌝ }
 {
     if counts.len() != COUNTS {
         return NO_BOOK;
@@ -117,8 +117,8 @@ pub extern "C" fn tuno_locality(
     demangled: &[u8],
     out: &mut [u32],
 ) -> u32
-    ensures { λ r. ⌜ (r ≡ number-told (locality-refusal (locality-asked (lent (now (counts .entry)) (five (now (nodes .entry)) (now (names .entry)) (now (lines .entry)) (now (pool .entry)) (now (journal .entry)))) (name-of (now (raw .entry)) (now (demangled .entry))))) (now (out .entry)))
-        × (now (out .exit) ≡ value-left (locality-refusal (locality-asked (lent (now (counts .entry)) (five (now (nodes .entry)) (now (names .entry)) (now (lines .entry)) (now (pool .entry)) (now (journal .entry)))) (name-of (now (raw .entry)) (now (demangled .entry))))) (locality-value (locality-asked (lent (now (counts .entry)) (five (now (nodes .entry)) (now (names .entry)) (now (lines .entry)) (now (pool .entry)) (now (journal .entry)))) (name-of (now (raw .entry)) (now (demangled .entry))))) (now (out .entry))) ⌝ }
+    ensures { λ r. ⌜ Replies locality-refusal locality-value (locality-asked (lent (now (counts .entry)) (five (now (nodes .entry)) (now (names .entry)) (now (lines .entry)) (now (pool .entry)) (now (journal .entry)))) (name-of (now (raw .entry)) (now (demangled .entry))))
+        (now (out .entry)) r (now (out .exit)) ⌝ }
 {
     if counts.len() != COUNTS {
         return NO_BOOK;
@@ -153,8 +153,8 @@ pub extern "C" fn tuno_contains(
     demangled: &[u8],
     out: &mut [u32],
 ) -> u32
-    ensures { λ r. ⌜ (r ≡ number-told (membership-refusal (contains-asked (lent (now (counts .entry)) (five (now (nodes .entry)) (now (names .entry)) (now (lines .entry)) (now (pool .entry)) (now (journal .entry)))) (name-of (now (raw .entry)) (now (demangled .entry))))) (now (out .entry)))
-        × (now (out .exit) ≡ value-left (membership-refusal (contains-asked (lent (now (counts .entry)) (five (now (nodes .entry)) (now (names .entry)) (now (lines .entry)) (now (pool .entry)) (now (journal .entry)))) (name-of (now (raw .entry)) (now (demangled .entry))))) (membership-value (contains-asked (lent (now (counts .entry)) (five (now (nodes .entry)) (now (names .entry)) (now (lines .entry)) (now (pool .entry)) (now (journal .entry)))) (name-of (now (raw .entry)) (now (demangled .entry))))) (now (out .entry))) ⌝ }
+    ensures { λ r. ⌜ Replies membership-refusal membership-value (contains-asked (lent (now (counts .entry)) (five (now (nodes .entry)) (now (names .entry)) (now (lines .entry)) (now (pool .entry)) (now (journal .entry)))) (name-of (now (raw .entry)) (now (demangled .entry))))
+        (now (out .entry)) r (now (out .exit)) ⌝ }
 {
     if counts.len() != COUNTS {
         return NO_BOOK;

@@ -12,15 +12,15 @@ use Rattle.numbers.specs.Limits.{edit-limit, line-limit, pool-limit}
 use Rattle.lists.proofs.Tests.{both}
 use Rattle.packing.specs.Tables.{every, packed}
 use Rattle.packing.proofs.TableLaws.{every-append, packed-append}
-use Rattle.glob_match.specs.declared.Class.{Class}
-use Rattle.glob_match.specs.Classes.{class-number}
-use Rattle.glob_match.specs.Keeping.{kept, keep}
+use Rattle.classes.specs.declared.Class.{Class}
+use Rattle.classes.specs.Classes.{class-number}
+use Rattle.storing.specs.Keeping.{kept, keep}
 use Rattle.book.specs.Books.{Book, Edit, Line, Node, add, edition-of, export, global, regular, rust}
 use Rattle.book.specs.Layout.{Buffers, edit-width, line-form, line-width}
 use Rattle.book.specs.Sanity.{edit-ok, in-range, kind-allows, line-ok, nodes-good}
 use Rattle.book.specs.View.{Fits}
 use Rattle.rooms.specs.Rooms.{edit-room, line-room}
-use Rattle.opening.proofs.Kept.{kept-line}
+use Rattle.building.proofs.Kept.{kept-line}
 use Rattle.changes.specs.Trial.{with-line}
 
 -- a book has a node 0

@@ -14,9 +14,9 @@ use Rattle.packing.specs.Tables.{Form, packed, rows}
 use Rattle.packing.proofs.PaddingLaws.{pad-unput}
 use Rattle.packing.proofs.TableLaws.{Laws, length-rows, packed-append, rows-append}
 use Rattle.packing.proofs.Packings.{Packs}
-use Rattle.glob_match.specs.Keeping.{Keep, kept, refused, keep}
-use Rattle.reading.specs.declared.Event.{Event}
-use Rattle.reading.specs.declared.Event.the-variants.{Node, Body, Section, Extern, Closed, Line, Parent}
+use Rattle.storing.specs.Keeping.{Keep, kept, refused, keep}
+use Rattle.cursors.specs.declared.Event.{Event}
+use Rattle.cursors.specs.declared.Event.the-variants.{Node, Body, Section, Extern, Closed, Line, Parent}
 use Rattle.book.specs.declared.Counts.{Counts}
 use Rattle.book.specs.Books.{Book, Edit, add, edition-of, global, rust}
 use Rattle.book.specs.Books as book
@@ -25,7 +25,7 @@ use Rattle.book.specs.View.{Fits}
 use Rattle.book.proofs.Forms.{edit-laws, line-laws}
 use Rattle.book.proofs.Views.{Layout, Rooms}
 use Rattle.rooms.specs.Rooms.{edit-room, line-room}
-use Rattle.opening.specs.Building.{part}
+use Rattle.building.specs.Building.{part}
 use Rattle.opening.specs.State.{Lies}
 use Rattle.changes.specs.Changes.{Change, no, to}
 use Rattle.changes.specs.Trial.{append, append-kept, with-line}

@@ -2,15 +2,15 @@
 use Prim.Native.Nat.{ℕ}
 use mathlib.Core.Path.{_≡_, refl}
 use mathlib.Core.List.{List}
-use Rattle.glob_match.specs.Keeping.{Keep, kept, refused, keep}
-use Rattle.reading.specs.declared.Event.{Event}
-use Rattle.reading.specs.declared.Event.the-variants.{Node, Body, Section, Extern, Closed, Line, Parent}
+use Rattle.storing.specs.Keeping.{Keep, kept, refused, keep}
+use Rattle.cursors.specs.declared.Event.{Event}
+use Rattle.cursors.specs.declared.Event.the-variants.{Node, Body, Section, Extern, Closed, Line, Parent}
 use Rattle.book.specs.Books.{Book, Edit, edition-of, global}
 use Rattle.book.specs.Books as book
 use Rattle.book.specs.Layout.{Buffers}
 use Rattle.book.proofs.Views.{Rooms}
 use Rattle.rooms.specs.Rooms.{edit-room, line-room}
-use Rattle.opening.specs.Building.{part}
+use Rattle.building.specs.Building.{part}
 use Rattle.changes.specs.Trial.{append, append-kept}
 use Rattle.changes.specs.Symbols.{add-event}
 

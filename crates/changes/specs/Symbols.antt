@@ -7,13 +7,13 @@ use lib.Dec.{eqb, ltb}
 use lib.ListN.{length}
 use Rattle.numbers.specs.Limits.{token-limit}
 use Rattle.numbers.specs.Refusals.{no-book, too-long, wrong-kind}
-use Rattle.reading.specs.declared.Event.{Event}
-use Rattle.reading.specs.declared.Event.the-variants.{Node, Body, Section, Extern, Closed, Line, Parent}
+use Rattle.cursors.specs.declared.Event.{Event}
+use Rattle.cursors.specs.declared.Event.the-variants.{Node, Body, Section, Extern, Closed, Line, Parent}
 use Rattle.reading.specs.Events.{Outcome, accepted, refused, Reading, reading}
 use Rattle.reading.specs.Places.{at-bare, at-symbol}
 use Rattle.book.specs.Books.{Book, export, global}
 use Rattle.book.specs.Layout.{Buffers}
-use Rattle.opening.specs.Building.{part}
+use Rattle.building.specs.Building.{part}
 use Rattle.changes.specs.Changes.{Change, to, no}
 use Rattle.changes.specs.Trial.{append}
 

@@ -8,8 +8,8 @@ use lib.ListN.{length, getD, set, take}
 use Rattle.numbers.specs.Refusals.{no-book, no-room, no-such, nothing-to-undo, wrong-kind}
 use Rattle.linker_script.specs.Trim.{trim-end}
 use Rattle.packing.specs.Tables.{every}
-use Rattle.glob_match.specs.Classes.{class-number}
-use Rattle.glob_match.specs.Keeping.{Keep, kept, refused, keep}
+use Rattle.classes.specs.Classes.{class-number}
+use Rattle.storing.specs.Keeping.{Keep, kept, refused, keep}
 use Rattle.book.specs.Books.{Book, Edit, Line, add, cxx, edition-of, export, global, local, rust, strike}
 use Rattle.book.specs.Edits.{line-at, marked, stands, take-back}
 use Rattle.book.specs.Layout.{Buffers}

@@ -1,3 +1,1 @@
 pub mod Members
-mod AddedEvents
-mod AddedTexts

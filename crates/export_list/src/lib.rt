@@ -1,6 +1,5 @@
-// export_list.rs, the book's side: an export list opened into lent buffers, whether it contains a name, and the lines of a text added to it. Definitions:
-// specs/Membership.antt, from document 01, 'Ranking'; the opening's is that of the crate `opening`, the added text's that of `changes` (specs/Symbols.antt).
-// The question and the text ask first whether the buffers hold a book (14).
+// export_list.rs, the book's side: an export list opened into lent buffers, and whether it contains a name. Definitions: specs/Membership.antt, from document
+// 01, 'Ranking'; the opening's is that of the crate `opening`. The question asks first whether the buffers hold a book (14).
 ghost use mathlib.Core.Path.{_≡_};
 ghost use Rattle.reading.specs.Places.{at-list};
 ghost use Rattle.book.specs.Layout.{five};
@@ -9,7 +8,6 @@ use opening::Opened;
 use reading::scripts::AT_LIST;
 
 pub mod lookups;
-pub mod symbols;
 
 // In the list or not, or the number that says no.
 pub enum Membership {

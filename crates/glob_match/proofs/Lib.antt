@@ -1,4 +1,1 @@
-mod Scanning
-pub mod Keeping
-mod Answers
 mod Telling

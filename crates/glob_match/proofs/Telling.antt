@@ -15,14 +15,15 @@ use Rattle.pattern.specs.declared.Edition.{Edition}
 use Rattle.pattern.specs.declared.matching.Tried.{Tried}
 use Rattle.pattern.specs.Patterns.{refusal}
 use Rattle.pattern.specs.Tests.{match-of}
-use Rattle.glob_match.specs.declared.Class.{Class}
-use Rattle.glob_match.specs.declared.Class.the-variants.{Exact, Escaped, NonStar, Star, All}
-use Rattle.glob_match.specs.declared.Stored.{Stored}
-use Rattle.glob_match.specs.declared.Stored.the-variants.{As, Refused}
-use Rattle.glob_match.specs.Classes.{class-number, class-of}
-use Rattle.glob_match.specs.Keeping.{over, unescape, Keep, kept, refused, keep}
-use Rattle.glob_match.specs.Answers.{over-name, keep-answer, keep-buffer, answer-told, class-told, length-told, match-told, match-when, store-told, unasked-told, unescape-leaves, unescape-told}
-use Rattle.glob_match.proofs.Keeping.{bytes, keep-few, unescape-few}
+use Rattle.classes.specs.declared.Class.{Class}
+use Rattle.classes.specs.declared.Class.the-variants.{Exact, Escaped, NonStar, Star, All}
+use Rattle.storing.specs.declared.Stored.{Stored}
+use Rattle.storing.specs.declared.Stored.the-variants.{As, Refused}
+use Rattle.classes.specs.Classes.{class-number, class-of}
+use Rattle.storing.specs.Keeping.{over, unescape, Keep, kept, refused, keep}
+use Rattle.storing.specs.Answers.{keep-answer, keep-buffer}
+use Rattle.glob_match.specs.Answers.{over-name, answer-told, class-told, length-told, match-told, match-when, store-told, unasked-told, unescape-leaves, unescape-told}
+use Rattle.storing.proofs.Keeping.{bytes, keep-few, unescape-few}
 
 -- ---- how many bytes are told
 told-long : (x : Keep) (m : ℕ) (k : Class) (n : ℕ) → As k n ≡ keep-answer x m → n ≡ length (bytes x)

@@ -1,33 +1,21 @@
--- What the functions answer, and what they leave in a lent buffer. Assumes nothing.
+-- What a host is told: a refusal's number, or 256 times a value. Assumes nothing.
 use Prim.Native.Nat.{ℕ, _+_, _*_}
 use mathlib.Core.List.{List}
 use mathlib.Core.Bool.{Bool, true, false, cond, _||_}
-use lib.Dec.{eqb, leb, ltb}
+use lib.Dec.{eqb, ltb}
 use lib.ListN.{length}
 use Rattle.numbers.specs.Limits.{name-limit}
-use Rattle.numbers.specs.Refusals.{name-not-utf8, no-room, too-long}
-use Rattle.lists.specs.Front.{front}
+use Rattle.numbers.specs.Refusals.{name-not-utf8, too-long}
 use Rattle.utf8.specs.Utf8.{chars, utf8}
 use Rattle.pattern.specs.declared.Edition.{Edition}
 use Rattle.pattern.specs.Patterns.{elements, matches, refusal}
-use Rattle.glob_match.specs.declared.Class.the-variants as class
-use Rattle.glob_match.specs.declared.Stored.{Stored}
-use Rattle.glob_match.specs.declared.Stored.the-variants.{As, Refused}
-use Rattle.glob_match.specs.Classes.{class-number, class-of}
-use Rattle.glob_match.specs.Keeping.{over, unescape, Keep, kept, refused}
+use Rattle.classes.specs.declared.Class.the-variants as class
+use Rattle.storing.specs.declared.Stored.{Stored}
+use Rattle.storing.specs.declared.Stored.the-variants.{As, Refused}
+use Rattle.classes.specs.Classes.{class-number, class-of}
+use Rattle.storing.specs.Keeping.{over, unescape, kept}
+use Rattle.storing.specs.Answers.{keep-answer, keep-buffer}
 
--- ---- in a lent buffer
--- the bytes that are kept stand at the front of the buffer where there is room for them; "a … byte … room would be passed" is asked last
-unfoldable pub keep-answer : Keep → ℕ → Stored
-keep-answer (kept k b) room = cond (leb (length b) room) (As k (length b)) (Refused no-room)
-keep-answer (refused n) room = Refused n
-
--- what stands behind them stays, and a refusal leaves all as it was
-unfoldable pub keep-buffer : Keep → List ℕ → List ℕ
-keep-buffer (kept k b) d = cond (leb (length b) (length d)) (front b d) d
-keep-buffer (refused n) d = d
-
--- ---- what a host is told: a refusal's number, or 256 times a value
 abbrev pub done : ℕ → ℕ
 done v = 256 * v
 

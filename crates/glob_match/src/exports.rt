@@ -3,18 +3,19 @@
 ghost use mathlib.Core.Path.{_≡_};
 ghost use lib.ListN.{length};
 ghost use Rattle.pattern.specs.declared.Edition.the-variants.{Reld};
-ghost use Rattle.glob_match.specs.Keeping.{keep};
-ghost use Rattle.glob_match.specs.Answers.{class-told, keep-answer, keep-buffer, match-told, store-told, unasked-told, unescape-leaves, unescape-told, answer-told};
-use crate::Stored;
-use crate::classes::class_number;
-use crate::classes::classify;
-use crate::storing::store_token;
-use crate::storing::unescape_pattern;
+ghost use Rattle.storing.specs.Keeping.{keep};
+ghost use Rattle.storing.specs.Answers.{keep-answer, keep-buffer};
+ghost use Rattle.glob_match.specs.Answers.{class-told, match-told, store-told, unasked-told, unescape-leaves, unescape-told, answer-told};
+use classes::class_number;
+use classes::classify;
 use numbers::NAME_LIMIT;
 use numbers::NAME_NOT_UTF8;
 use numbers::TOKEN_LIMIT;
 use numbers::TOO_LONG;
 use pattern::Edition;
+use storing::Stored;
+use storing::store_token;
+use storing::unescape_pattern;
 
 // The class of a token: 1, or 256 times its number.
 #[no_mangle]

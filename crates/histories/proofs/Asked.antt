@@ -11,11 +11,11 @@ use Rattle.book.specs.Edits.{stands}
 use Rattle.ranking.specs.Matching.{Name, line-matches}
 use Rattle.ranking.specs.Walk.{deciding, stages}
 use Rattle.ranking.proofs.Unmatched.{line-found}
-use Rattle.version_script.specs.declared.Version.{Version}
-use Rattle.version_script.specs.declared.Version.the-variants as version
-use Rattle.version_script.specs.declared.Locality.{Locality}
-use Rattle.version_script.specs.declared.Locality.the-variants as locality
-use Rattle.version_script.specs.Lookups.{by-wanted, decided-locality, decided-version, locality-asked, locality-of, node-version, version-asked, version-of}
+use Rattle.lookups.specs.declared.answers.Version.{Version}
+use Rattle.lookups.specs.declared.answers.Version.the-variants as version
+use Rattle.lookups.specs.declared.answers.Locality.{Locality}
+use Rattle.lookups.specs.declared.answers.Locality.the-variants as locality
+use Rattle.lookups.specs.Lookups.{by-wanted, decided-locality, decided-version, locality-asked, locality-of, node-version, version-asked, version-of}
 use Rattle.export_list.specs.Membership.{contains-asked, member-of}
 use Rattle.changes.specs.Trial.{standing}
 use Rattle.histories.specs.Demand.{with-lines}

@@ -13,7 +13,7 @@ use Rattle.numbers.specs.Refusals.{nothing-to-undo}
 use Rattle.lists.proofs.Tests.{both}
 use Rattle.linker_script.specs.Trim.{trim-end}
 use Rattle.packing.specs.Tables.{every}
-use Rattle.glob_match.specs.Keeping.{Keep, kept, refused, keep}
+use Rattle.storing.specs.Keeping.{Keep, kept, refused, keep}
 use Rattle.book.specs.Books.{Book, Edit, Line, add, cxx, edition-of, export, global, local, rust, strike}
 use Rattle.book.specs.Edits.{line-at, marked, stands, take-back}
 use Rattle.book.specs.Layout.{Buffers, counts-of}

@@ -12,16 +12,16 @@ use Rattle.numbers.specs.Limits.{script-limit}
 use Rattle.numbers.specs.Refusals.{no-room, too-long}
 use Rattle.linker_script.specs.Trim.{trim-end}
 use Rattle.packing.specs.Tables.{every}
-use Rattle.glob_match.specs.declared.Class.{Class}
-use Rattle.glob_match.specs.Keeping.{kept, keep}
-use Rattle.reading.specs.declared.Event.{Event}
+use Rattle.classes.specs.declared.Class.{Class}
+use Rattle.storing.specs.Keeping.{kept, keep}
+use Rattle.cursors.specs.declared.Event.{Event}
 use Rattle.reading.specs.Events.{Outcome, accepted, refused, reading}
 use Rattle.book.specs.Books.{Book, Edit, Line, edition-of, rust}
 use Rattle.book.specs.Edits.{line-at, stands, take-back}
 use Rattle.book.specs.Layout.{Buffers, node-width}
 use Rattle.book.proofs.Views.{laid-out-same}
 use Rattle.rooms.specs.Rooms.{edit-room, line-room}
-use Rattle.opening.specs.Building.{Building, Taken, on, no, take-event}
+use Rattle.building.specs.Building.{Building, Taken, on, no, take-event}
 use Rattle.opening.specs.Opening.{Opening, opens, declined, build, build-reading, finished, left, nothing-yet, on-taken, opening, told}
 use Rattle.opened.specs.Opened.{opens-at}
 use Rattle.opened.proofs.Opened.{Viewable, opened-viewable}

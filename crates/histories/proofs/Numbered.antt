@@ -10,10 +10,10 @@ use Rattle.numbers.specs.Refusals.{too-long}
 use Rattle.pattern.specs.declared.Edition.{Edition}
 use Rattle.pattern.specs.Patterns.{refusal}
 use Rattle.pattern.specs.Storing.{stored}
-use Rattle.glob_match.specs.declared.Class.{Class}
-use Rattle.glob_match.specs.declared.Class.the-variants.{Exact, Escaped, NonStar, Star, All}
-use Rattle.glob_match.specs.Classes.{lone-star, quoted, scan, unquoted}
-use Rattle.glob_match.specs.Keeping.{Keep, kept, refused, over, keep, keep-as, keep-class, keep-glob, keep-scanned, keep-when}
+use Rattle.classes.specs.declared.Class.{Class}
+use Rattle.classes.specs.declared.Class.the-variants.{Exact, Escaped, NonStar, Star, All}
+use Rattle.classes.specs.Classes.{lone-star, quoted, scan, unquoted}
+use Rattle.storing.specs.Keeping.{Keep, kept, refused, over, keep, keep-as, keep-class, keep-glob, keep-scanned, keep-when}
 use Rattle.reading.proofs.Refusals.{of-reader}
 
 -- ---- no token is refused with 0

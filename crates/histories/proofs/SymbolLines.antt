@@ -9,13 +9,13 @@ use lib.Dec.{eqb, ltb}
 use lib.ListN.{length}
 use Rattle.numbers.specs.Limits.{token-limit}
 use Rattle.lists.proofs.Tests.{both}
-use Rattle.glob_match.specs.Keeping.{keep}
-use Rattle.reading.specs.declared.Cursor.{Cursor}
-use Rattle.reading.specs.declared.Event.{Event}
-use Rattle.reading.specs.declared.Event.the-variants.{Node, Body, Section, Extern, Closed, Line, Parent}
-use Rattle.reading.specs.declared.Step.{Step}
-use Rattle.reading.specs.declared.Step.the-variants.{Go, End, Refused}
-use Rattle.reading.specs.Places.{start}
+use Rattle.storing.specs.Keeping.{keep}
+use Rattle.cursors.specs.declared.Cursor.{Cursor}
+use Rattle.cursors.specs.declared.Event.{Event}
+use Rattle.cursors.specs.declared.Event.the-variants.{Node, Body, Section, Extern, Closed, Line, Parent}
+use Rattle.cursors.specs.declared.Step.{Step}
+use Rattle.cursors.specs.declared.Step.the-variants.{Go, End, Refused}
+use Rattle.cursors.specs.Moves.{start}
 use Rattle.reading.specs.Scripts.{next}
 use Rattle.reading.specs.Events.{Reading, on-step, reading, reading-from, reading-within}
 use Rattle.reading.proofs.Parts.{Marked, Parts, line, next-parts, start-marked}
@@ -24,7 +24,7 @@ use Rattle.book.specs.Books.{Book, Edit, edition-of, export, global, rust}
 use Rattle.book.specs.Layout.{Buffers}
 use Rattle.book.specs.Sanity.{nodes-good, sane}
 use Rattle.book.proofs.Views.{Rooms}
-use Rattle.opening.specs.Building.{part}
+use Rattle.building.specs.Building.{part}
 use Rattle.changes.specs.Changes.{Change}
 use Rattle.changes.specs.Trial.{append}
 use Rattle.changes.specs.Symbols.{add-event, add-events, add-reading, on-change, symbol-asked, symbol-place}

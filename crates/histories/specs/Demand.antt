@@ -7,8 +7,8 @@ use mathlib.Core.Bool.{true, false}
 use mathlib.Core.Option.{Option, some}
 use lib.Dec.{eqb}
 use lib.ListN.{length}
-use Rattle.glob_match.specs.declared.Class.{Class}
-use Rattle.glob_match.specs.Keeping.{kept, keep}
+use Rattle.classes.specs.declared.Class.{Class}
+use Rattle.storing.specs.Keeping.{kept, keep}
 use Rattle.linker_script.specs.Trim.{trim-end}
 use Rattle.book.specs.Books.{Book, Edit, Line, edition-of, rust}
 use Rattle.packing.specs.Tables.{every}
@@ -19,7 +19,7 @@ use Rattle.rooms.specs.Rooms.{edit-room, line-room}
 use Rattle.opening.specs.Opening.{Opening, opens, left, opening, told}
 use Rattle.opened.specs.Opened.{opens-at}
 use Rattle.ranking.specs.Matching.{Name}
-use Rattle.version_script.specs.Lookups.{locality-asked, version-asked}
+use Rattle.lookups.specs.Lookups.{locality-asked, version-asked}
 use Rattle.export_list.specs.Membership.{contains-asked}
 use Rattle.changes.specs.Trial.{may-stand, standing}
 use Rattle.histories.specs.Histories.{Call, adds, settles, strikes, Lent, Desk, answer, desk-at, history, leads, lent-after, run, undos}

@@ -8,17 +8,17 @@ use lib.ListN.{set}
 use Rattle.linker_script.specs.Trim.{trim-end}
 use Rattle.packing.specs.Tables.{every}
 use Rattle.pattern.specs.declared.Edition.{Edition}
-use Rattle.glob_match.specs.Classes.{class-number}
-use Rattle.glob_match.specs.Keeping.{Keep, kept, refused, keep}
-use Rattle.reading.specs.declared.Event.{Event}
-use Rattle.reading.specs.declared.Event.the-variants as event
+use Rattle.classes.specs.Classes.{class-number}
+use Rattle.storing.specs.Keeping.{Keep, kept, refused, keep}
+use Rattle.cursors.specs.declared.Event.{Event}
+use Rattle.cursors.specs.declared.Event.the-variants as event
 use Rattle.reading.specs.Events.{reading}
 use Rattle.book.specs.declared.Counts.{Counts}
 use Rattle.book.specs.Books.{Line, global}
 use Rattle.book.specs.Edits.{line-at, marked, stands}
 use Rattle.book.specs.Layout.{Buffers}
 use Rattle.book.specs.View.{view}
-use Rattle.opening.specs.Building.{part}
+use Rattle.building.specs.Building.{part}
 use Rattle.changes.specs.Changes.{Change, after, counts-after, edit-refusal, edited}
 use Rattle.changes.specs.Trial.{add-asked, settle-asked, standing, strike-asked, undo-asked}
 use Rattle.changes.specs.Symbols.{symbol-asked, symbol-place}

@@ -1,5 +1,6 @@
 -- Known histories of a trial book: texts that are opened in small buffers, calls, the numbers that they answer, and what names get then. Each of them goes
--- through what users call: the counts and the buffers that a call leaves are what the next one is lent, and each question asks the book that they hold.
+-- through the definitions that the functions equal: the counts and the buffers that a call leaves are what the next one is lent, and each question asks the
+-- book that they hold.
 -- proofs/KnownHistories.antt proves the table.
 -- Assumes nothing.
 use Prim.Native.Nat.{ℕ, _*_}
@@ -16,11 +17,11 @@ use Rattle.book.specs.Layout.{Buffers, edit-width, five, line-width, node-width
 use Rattle.book.specs.View.{view}
 use Rattle.opening.specs.Opening.{opening}
 use Rattle.ranking.specs.Matching.{Name, name-of}
-use Rattle.version_script.specs.declared.Version.{Version}
-use Rattle.version_script.specs.declared.Version.the-variants.{Index, Unversioned}
-use Rattle.version_script.specs.declared.Locality.{Locality}
-use Rattle.version_script.specs.declared.Locality.the-variants.{Global, Local, Nothing}
-use Rattle.version_script.specs.Lookups.{locality-asked, version-asked}
+use Rattle.lookups.specs.declared.answers.Version.{Version}
+use Rattle.lookups.specs.declared.answers.Version.the-variants.{Index, Unversioned}
+use Rattle.lookups.specs.declared.answers.Locality.{Locality}
+use Rattle.lookups.specs.declared.answers.Locality.the-variants.{Global, Local, Nothing}
+use Rattle.lookups.specs.Lookups.{locality-asked, version-asked}
 use Rattle.export_list.specs.declared.Membership.{Membership}
 use Rattle.export_list.specs.declared.Membership.the-variants.{Within, Without}
 use Rattle.export_list.specs.Membership.{contains-asked}

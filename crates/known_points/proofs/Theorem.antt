@@ -5,14 +5,14 @@ use Rattle.lists.specs.Pieces.{pieces, pieces-past, sound, sound-past}
 use Rattle.utf8.specs.Utf8.{scalar, encode, encoding, character, none, when, tail, two, three, four, starts, read, chars, utf8}
 use Rattle.pattern.specs.Patterns.{holds, some-holds, member, inside, between, takes, bracketed, opened, element, elements, ended, first, somewhere, matches, adjacent-from, shaped-from, refusal}
 use Rattle.pattern.specs.Storing.{stored-byte, negated-from, stored}
-use Rattle.glob_match.specs.Classes.{quoted, unquoted, lone-star, nonstar, scanned, scan, class-of}
-use Rattle.glob_match.specs.Keeping.{unescaped, unescape, keep-when, keep-glob, keep-as, keep-scanned, keep-class, keep}
+use Rattle.classes.specs.Classes.{quoted, unquoted, lone-star, nonstar, scanned, scan, class-of}
+use Rattle.storing.specs.Keeping.{unescaped, unescape, keep-when, keep-glob, keep-as, keep-scanned, keep-class, keep}
 use Rattle.linker_script.specs.Finding.{first-in, first-from, last-in, last-close}
 use Rattle.linker_script.specs.Skip.{blank, move, skip-past, skip}
 use Rattle.linker_script.specs.Trim.{white, trim-end}
-use Rattle.reading.specs.Places.{start}
-use Rattle.reading.specs.Tokens.{begins, named, name-in, to-semicolon, to-brace, extern-end, bare-extern-end, bare-end, bare-skip}
-use Rattle.reading.specs.Matchers.{line-to, extern-open, extern-at, extern-inside, in-extern, in-bare, matcher, bare-line, bare-matcher}
+use Rattle.tokens.specs.Tokens.{begins, named, name-in, to-semicolon, to-brace, extern-end, bare-extern-end, bare-end, bare-skip}
+use Rattle.cursors.specs.Moves.{start}
+use Rattle.matchers.specs.Matchers.{line-to, extern-open, extern-at, extern-inside, in-extern, in-bare, matcher, bare-line, bare-matcher}
 use Rattle.reading.specs.Scripts.{name-to, node-at, script-at, parent-to, parent-at, node-end, sole-end, inside-body, body-at, sole-at, list-at, opening-at, start-script, go-node, go-body, go-sole, go-list, next-script, next-list, next-symbol, next}
 use Rattle.reading.specs.Events.{reading-within, reading-from, reading}
 use Rattle.lists.specs.Same.{same}
@@ -25,13 +25,13 @@ use Rattle.book.specs.Sanity.{content-good, glob-stands, in-range, kind-allows,
 use Rattle.book.specs.View.{book-of, laid, view, within-limits}
 use Rattle.book.specs.View as view
 use Rattle.rooms.specs.Rooms.{line-room, node-room}
-use Rattle.opening.specs.Building.{take-event, take-kept, take-node, take-parent}
+use Rattle.building.specs.Building.{take-event, take-kept, take-node, take-parent}
 use Rattle.opening.specs.Opening.{build, build-reading, kind-of, left, nothing-yet, opening, rust-style, told}
 use Rattle.ranking.specs.Matching.{class-matches, line-matches, seen}
 use Rattle.ranking.specs.Names.{bad-name, long-name, name-refusal}
 use Rattle.ranking.specs.Walk.{deciding, exact-of, exact-stages, first-line, glob-of, glob-stages, stages, walk}
 use Rattle.version_script.specs.Questions.{counted, node-of, node-told, version-count}
-use Rattle.version_script.specs.Lookups.{index-of, last-named, locality-asked, locality-of, node-version, version-asked, version-of, wanted-version}
+use Rattle.lookups.specs.Lookups.{index-of, last-named, locality-asked, locality-of, node-version, version-asked, version-of, wanted-version}
 use Rattle.known_points.specs.KnownPoints.{bytes, keeps, kept-matches, fits, held, Points}
 use Rattle.known_points.specs.KnownPoints as points
 

@@ -10,8 +10,8 @@ use Rattle.lists.specs.Texts.{codes}
 use Rattle.utf8.specs.Utf8.{encoding, chars}
 use Rattle.pattern.specs.declared.Edition.the-variants.{Reld}
 use Rattle.pattern.specs.Patterns.{elements, matches}
-use Rattle.glob_match.specs.declared.Class.the-variants.{Exact, Escaped, NonStar, Star, All}
-use Rattle.glob_match.specs.Keeping.{Keep, kept, refused, keep}
+use Rattle.classes.specs.declared.Class.the-variants.{Exact, Escaped, NonStar, Star, All}
+use Rattle.storing.specs.Keeping.{Keep, kept, refused, keep}
 use Rattle.reading.specs.Places.{at-script}
 use Rattle.packing.specs.Padding.{zeros}
 use Rattle.book.specs.Books.{Book}
@@ -19,16 +19,16 @@ use Rattle.book.specs.Layout.{Buffers, five}
 use Rattle.book.specs.View.{view}
 use Rattle.opening.specs.Opening.{Opening, left, opening, told}
 use Rattle.ranking.specs.Matching.{Name, name-of}
-use Rattle.version_script.specs.declared.Version.{Version}
-use Rattle.version_script.specs.declared.Version.the-variants.{Index}
-use Rattle.version_script.specs.declared.Locality.{Locality}
-use Rattle.version_script.specs.declared.Locality.the-variants.{Global, Local}
+use Rattle.lookups.specs.declared.answers.Version.{Version}
+use Rattle.lookups.specs.declared.answers.Version.the-variants.{Index}
+use Rattle.lookups.specs.declared.answers.Locality.{Locality}
+use Rattle.lookups.specs.declared.answers.Locality.the-variants.{Global, Local}
 use Rattle.version_script.specs.declared.Count.{Count}
 use Rattle.version_script.specs.declared.Count.the-variants.{Counted}
 use Rattle.version_script.specs.declared.NodeAnswer.{NodeAnswer}
 use Rattle.version_script.specs.declared.NodeAnswer.the-variants.{Node}
 use Rattle.version_script.specs.Questions.{counted, node-of, version-count}
-use Rattle.version_script.specs.Lookups.{locality-asked, version-asked}
+use Rattle.lookups.specs.Lookups.{locality-asked, version-asked}
 
 -- ---- quoted texts, as bytes in UTF-8
 unfoldable pub bytes : String → List ℕ

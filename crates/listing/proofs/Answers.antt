@@ -18,11 +18,12 @@ use Rattle.linker_script.specs.Finding.{first-from, first-in, found, is}
 use Rattle.linker_script.proofs.Searches.{First, drop-next, first-within}
 use Rattle.book.specs.Books.{Book}
 use Rattle.ranking.specs.Matching.{name-of}
-use Rattle.version_script.specs.Lookups.{locality-asked, version-asked}
-use Rattle.listing.specs.Splitting.{at-sign, name-by, name-part, wanted-part}
-use Rattle.listing.specs.Lines.{asked-line, symbol-answered, symbol-line}
+use Rattle.lookups.specs.Lookups.{locality-asked, version-asked}
+use Rattle.input.specs.Splitting.{at-sign, name-by, name-part, wanted-part}
+use Rattle.rendering.specs.Lines.{asked-line, symbol-answered, symbol-line}
 use Rattle.listing.specs.Listing.{answers, last-answer}
-use Rattle.listing.proofs.Pieces.{Begins, Puts, begins-front, few-fields, puts-both, puts-long}
+use Rattle.printing.proofs.Pieces.{Begins, Puts, begins-front, puts-both, puts-long}
+use Rattle.rendering.proofs.Pieces.{few-fields}
 
 not-here : (q : ℕ) → Here q ≡ Nowhere → ⊥
 not-here q e = let z : _≡_ {A = ℕ} 0 1 = cc in omega arith

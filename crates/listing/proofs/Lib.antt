@@ -1,7 +1,2 @@
 mod Answers
-mod Digits
-mod Marks
-mod Pieces
-mod Positioned
-mod Rendered
 mod Scripts

@@ -32,14 +32,15 @@ use Rattle.version_script.specs.declared.Count.{Count}
 use Rattle.version_script.specs.declared.Count.the-variants as count
 use Rattle.version_script.specs.Questions.{counted, parent-count, version-count}
 use Rattle.listing.specs.declared.listed.Listed.{Listed}
-use Rattle.listing.specs.Splitting.{mark, script-by, symbols-by}
-use Rattle.listing.specs.Lines.{counts-answered, counts-line, refused-line, symbol-answered}
+use Rattle.input.specs.Splitting.{mark, script-by, symbols-by}
+use Rattle.printing.specs.Printing.{refused-line}
+use Rattle.rendering.specs.Lines.{counts-answered, counts-line, symbol-answered}
 use Rattle.listing.specs.Listing.{answers, book-left, has-room, input-opening, listed, listing, nothing-listed, out-left, printed, printed-told, with-refusal}
 use Rattle.listing.proofs.Answers.{answer-few}
-use Rattle.listing.proofs.Digits.{few-digits}
-use Rattle.listing.proofs.Marks.{mark-within}
-use Rattle.listing.proofs.Pieces.{Begins, Puts, begins-front, puts-both}
-use Rattle.listing.proofs.Rendered.{Rendered, rendered-some}
+use Rattle.printing.proofs.Digits.{few-digits}
+use Rattle.input.proofs.Marks.{mark-within}
+use Rattle.printing.proofs.Pieces.{Begins, Puts, begins-front, puts-both}
+use Rattle.rendering.proofs.Rendered.{Rendered, rendered-some}
 
 abbrev told-as : ℕ → ℕ → ℕ → Listed
 told-as n refusal place = record { length = n; refusal = refusal; place = place }

@@ -1,4 +1,1 @@
-pub mod Splitting
-pub mod Lines
-pub mod Positions
 pub mod Listing

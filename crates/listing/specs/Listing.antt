@@ -14,8 +14,9 @@ use Rattle.book.specs.Books.{Book}
 use Rattle.book.specs.Layout.{Buffers, edit-width, five, line-width, node-width}
 use Rattle.opening.specs.Opening.{Opening, opens, declined, left, opening}
 use Rattle.listing.specs.declared.listed.Listed.{Listed}
-use Rattle.listing.specs.Splitting.{mark, script-by, symbols-by}
-use Rattle.listing.specs.Lines.{counts-answered, refused-line, symbol-answered, tail-room}
+use Rattle.input.specs.Splitting.{mark, script-by, symbols-by}
+use Rattle.printing.specs.Printing.{refused-line}
+use Rattle.rendering.specs.Lines.{counts-answered, symbol-answered, tail-room}
 
 -- "(65,536 bytes at most)"
 abbrev pub input-limit : ℕ

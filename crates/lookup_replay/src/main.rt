@@ -12,6 +12,10 @@ ghost use lib.ListN.{length};
 use book::Counts;
 use export_list::Membership;
 use export_list::lookups::contains;
+use lookups::answers::Locality;
+use lookups::answers::Version;
+use lookups::locality;
+use lookups::version_for_symbol;
 use numbers::UNKNOWN_VERSION;
 use opening::Opened;
 use replay::byte_or_zero;
@@ -22,12 +26,8 @@ use replay::print_different;
 use replay::read_cases;
 use replay::read_field;
 use version_script::Count;
-use version_script::Locality;
-use version_script::Version;
 use version_script::counts::parent_count;
 use version_script::counts::version_count;
-use version_script::lookups::locality;
-use version_script::lookups::version_for_symbol;
 
 // An answer that no case has.
 const OTHER: u8 = b'?';

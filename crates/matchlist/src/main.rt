@@ -1,12 +1,12 @@
 // Which names does a token match? Standard input (65,536 bytes at most): the token's line, taken as it stands, then one name a line; a last LF may lack. It
 // prints the token's class and what is stored of it, then for each name whether the token matches: `yes`, `no`, or `!` and 9 where the name is not
 // UTF-8. A token that is refused prints `refused` and the number, and standard error says what the number means.
-use glob_match::Class;
-use glob_match::Stored;
+use classes::Class;
 use libc::STDERR_FILENO;
 use libc::STDIN_FILENO;
 use libc::STDOUT_FILENO;
 use pattern::Edition;
+use storing::Stored;
 
 fn print(bytes: &[u8]) {
     io::write_all(STDOUT_FILENO, bytes);
@@ -120,7 +120,7 @@ fn behind(s: &[u8], at: usize) -> &[u8] {
 
 fn print_all(text: &[u8], room: &mut [u8]) {
     let end = bytes::scan::find(text, 0, text.len(), b'\n');
-    match glob_match::storing::store_token(Edition::Reld, front(text, end), room) {
+    match storing::store_token(Edition::Reld, front(text, end), room) {
         Stored::Refused(no) => refuse(no),
         Stored::As(class, n) => {
             print_class(class);

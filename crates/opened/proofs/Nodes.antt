@@ -16,12 +16,12 @@ use Rattle.packing.specs.Tables.{every}
 use Rattle.packing.proofs.TableLaws.{every-from}
 use Rattle.linker_script.specs.Skip.{blank}
 use Rattle.linker_script.proofs.Skipping.{Stopped}
-use Rattle.reading.specs.Tokens.{named}
+use Rattle.tokens.specs.Tokens.{named}
 use Rattle.reading.proofs.Origins.{Named}
 use Rattle.book.specs.Books.{Node, first-named, no-node}
 use Rattle.book.specs.Sanity.{name-good, named-good, no-semicolon, nodes-good, parent-good, skipped-first}
 use Rattle.book.proofs.FirstNamed.{first-front, first-has, first-set, name-set}
-use Rattle.opening.specs.Building.{part}
+use Rattle.building.specs.Building.{part}
 
 -- ---- a part of the text
 module _ (s : List ℕ) (p n : ℕ) where

@@ -12,10 +12,11 @@ use Rattle.numbers.specs.Limits.{script-limit}
 use Rattle.numbers.specs.Refusals.{no-room, too-long}
 use Rattle.lists.proofs.Tests.{both}
 use Rattle.packing.specs.Tables.{every}
-use Rattle.reading.specs.declared.Cursor.{Cursor}
-use Rattle.reading.specs.declared.Step.{Step}
-use Rattle.reading.specs.declared.Step.the-variants.{Go, End, Refused}
-use Rattle.reading.specs.Places.{at-list, at-script, at-symbol, start}
+use Rattle.cursors.specs.declared.Cursor.{Cursor}
+use Rattle.cursors.specs.declared.Step.{Step}
+use Rattle.cursors.specs.declared.Step.the-variants.{Go, End, Refused}
+use Rattle.cursors.specs.Moves.{start}
+use Rattle.reading.specs.Places.{at-list, at-script, at-symbol}
 use Rattle.reading.specs.Scripts.{next}
 use Rattle.reading.specs.Events.{on-step, reading, reading-from, reading-within}
 use Rattle.reading.proofs.Parts.{next-parts}
@@ -25,7 +26,7 @@ use Rattle.book.specs.Layout.{Buffers, node-width}
 use Rattle.book.specs.Sanity.{kind-allows, kind-good, sane}
 use Rattle.book.specs.View.{Fits}
 use Rattle.book.proofs.Views.{view-of-layout}
-use Rattle.opening.specs.Building.{Building, Taken, on, no, take-event}
+use Rattle.building.specs.Building.{Building, Taken, on, no, take-event}
 use Rattle.opening.specs.Opening.{Opening, opens, declined, build, build-reading, finished, kind-of, nothing-yet, on-taken, opening, rust-style}
 use Rattle.opened.specs.Opened.{Opened-holds, opens-at}
 use Rattle.opened.proofs.KindLines.{kind-fits, kind-sane, regular-allows}

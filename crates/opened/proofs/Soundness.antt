@@ -11,11 +11,12 @@ use lib.ListN.{length, getD, set, length-append, length-set}
 use Rattle.numbers.specs.Signs.{semicolon}
 use Rattle.packing.specs.Tables.{every}
 use Rattle.packing.proofs.TableLaws.{every-append}
-use Rattle.glob_match.specs.Classes.{class-number}
-use Rattle.glob_match.specs.Keeping.{Keep, kept, refused, keep}
-use Rattle.reading.specs.declared.Cursor.{Cursor}
-use Rattle.reading.specs.declared.Event.{Event}
-use Rattle.reading.specs.Places.{at-list, at-symbol, start}
+use Rattle.classes.specs.Classes.{class-number}
+use Rattle.storing.specs.Keeping.{Keep, kept, refused, keep}
+use Rattle.cursors.specs.declared.Cursor.{Cursor}
+use Rattle.cursors.specs.declared.Event.{Event}
+use Rattle.cursors.specs.Moves.{start}
+use Rattle.reading.specs.Places.{at-list, at-symbol}
 use Rattle.reading.proofs.Parts.{Marked, Parts, node, start-marked}
 use Rattle.reading.proofs.Origins.{Near, Origin, block-place}
 use Rattle.reading.proofs.Origins as origin
@@ -24,10 +25,10 @@ use Rattle.book.specs.Edits.{stands}
 use Rattle.book.specs.Layout.{Buffers, node-width}
 use Rattle.book.specs.Sanity.{kind-allows, line-ok, name-good, no-semicolon}
 use Rattle.rooms.specs.Rooms.{line-room, node-room}
-use Rattle.opening.specs.Building.{Building, Taken, on, no, in-block, new-line, out-of-block, part, take-event, take-kept, take-node, take-parent}
+use Rattle.building.specs.Building.{Building, Taken, on, no, in-block, new-line, out-of-block, part, take-event, take-kept, take-node, take-parent}
 use Rattle.opening.specs.Opening.{nothing-yet}
-use Rattle.opening.proofs.Kept.{kept-line}
-use Rattle.opening.proofs.NodeEvents.{every-more}
+use Rattle.building.proofs.Kept.{kept-line}
+use Rattle.building.proofs.NodeEvents.{every-more}
 use Rattle.opened.proofs.Fitting.{Roomy, roomy-line, roomy-node, roomy-parent, roomy-start}
 use Rattle.opened.proofs.KindLines.{Rust-lines, rust-line, rust-mixed, rust-start}
 use Rattle.opened.proofs.Nodes.{Nodes-good, every-part, fresh, name-is-good, node-begins, node-ends, nodes-start}

@@ -8,9 +8,9 @@ use lib.ListN.{length, take, drop, length-take, length-drop}
 use Rattle.numbers.specs.Limits.{node-limit, script-limit}
 use Rattle.packing.specs.Tables.{packs}
 use Rattle.packing.proofs.Packings.{is-packs}
-use Rattle.glob_match.specs.Keeping.{Keep, kept, refused, keep}
-use Rattle.reading.specs.declared.Event.{Event}
-use Rattle.reading.specs.declared.Event.the-variants.{Node, Body, Section, Extern, Closed, Line, Parent}
+use Rattle.storing.specs.Keeping.{Keep, kept, refused, keep}
+use Rattle.cursors.specs.declared.Event.{Event}
+use Rattle.cursors.specs.declared.Event.the-variants.{Node, Body, Section, Extern, Closed, Line, Parent}
 use Rattle.reading.specs.Events.{Outcome}
 use Rattle.reading.proofs.Parts.{Parts, node, body, section as section-word, extern, closed, line, parent}
 use Rattle.book.specs.Books.{edition-of, regular}
@@ -19,13 +19,14 @@ use Rattle.book.specs.View.{any-node, book-of}
 use Rattle.book.proofs.Forms.{node-laws}
 use Rattle.rooms.specs.Rooms.{line-room, node-room, pool-room}
 use Rattle.rooms.proofs.Putting.{room-both}
-use Rattle.opening.specs.declared.Progress.{Progress}
-use Rattle.opening.specs.declared.Taking.{Taking}
-use Rattle.opening.specs.declared.Taking.the-variants.{On}
-use Rattle.opening.specs.Building.{Building, Taken, on, no, part, take-event, take-kept, take-node}
+use Rattle.building.specs.declared.Progress.{Progress}
+use Rattle.building.specs.declared.Taking.{Taking}
+use Rattle.building.specs.declared.Taking.the-variants.{On}
+use Rattle.building.specs.Building.{Building, Taken, on, no, part, take-event, take-kept, take-node}
 use Rattle.opening.specs.Opening.{Opening, build, on-taken}
-use Rattle.opening.specs.State.{Lies, Took, Took-line, Took-node, Took-parent, building, built, inside-block, outside-block}
-use Rattle.opening.proofs.States.{is-state, nodes-of}
+use Rattle.building.specs.State.{Took, Took-line, Took-node, Took-parent, building, built, inside-block, outside-block}
+use Rattle.opening.specs.State.{Lies}
+use Rattle.building.proofs.States.{is-state, nodes-of}
 
 -- an event of a reading lies in its text
 pub parts-lie : (s : List ℕ) (e : Event) → Parts s e → Lies s e

@@ -1,7 +1,4 @@
-pub mod Kept
 pub mod States
-pub mod NodeEvents
-pub mod LineEvents
 pub mod EachEvent
 pub mod Opens
 pub mod Refusing

@@ -12,12 +12,12 @@ use Rattle.numbers.specs.Refusals.{no-room, too-long}
 use Rattle.packing.specs.Padding.{pad, zeros}
 use Rattle.packing.specs.Tables.{rows}
 use Rattle.packing.proofs.PaddingLaws.{pad-fits, pad-nil}
-use Rattle.reading.specs.declared.Cursor.{Cursor}
-use Rattle.reading.specs.declared.Event.{Event}
-use Rattle.reading.specs.declared.Step.{Step}
-use Rattle.reading.specs.declared.Step.the-variants.{Go, End}
-use Rattle.reading.specs.declared.Step.the-variants as step
-use Rattle.reading.specs.Places.{start}
+use Rattle.cursors.specs.declared.Cursor.{Cursor}
+use Rattle.cursors.specs.declared.Event.{Event}
+use Rattle.cursors.specs.declared.Step.{Step}
+use Rattle.cursors.specs.declared.Step.the-variants.{Go, End}
+use Rattle.cursors.specs.declared.Step.the-variants as step
+use Rattle.cursors.specs.Moves.{start}
 use Rattle.reading.specs.Scripts.{next}
 use Rattle.reading.specs.Events.{on-step, reading, reading-from}
 use Rattle.reading.specs.Events as events
@@ -30,13 +30,15 @@ use Rattle.book.proofs.Views.{laid-out-same}
 use Rattle.opening.specs.declared.Built.{Built}
 use Rattle.opening.specs.declared.Built.the-variants.{Done, Refused}
 use Rattle.opening.specs.declared.Opened.{Opened}
-use Rattle.opening.specs.declared.Progress.{Progress}
-use Rattle.opening.specs.declared.Taking.{Taking}
-use Rattle.opening.specs.declared.Taking.the-variants.{On, No}
-use Rattle.opening.specs.Building.{Taken, no, take-event}
+use Rattle.building.specs.declared.Progress.{Progress}
+use Rattle.building.specs.declared.Taking.{Taking}
+use Rattle.building.specs.declared.Taking.the-variants.{On, No}
+use Rattle.building.specs.Building.{Taken, no, take-event}
 use Rattle.opening.specs.Opening.{Opening, opens, declined, build, build-reading, cleared, finished, left, nothing-yet, on-taken, opening, told}
-use Rattle.opening.specs.State.{Clear, Cleared, Ended, Filled, Finished, Lies, Took, building, built}
-use Rattle.opening.proofs.States.{finished-layout, is-state, none-yet, starts-built}
+use Rattle.building.specs.State.{Took, building, built}
+use Rattle.opening.specs.State.{Clear, Cleared, Ended, Filled, Finished, Lies}
+use Rattle.building.proofs.States.{is-state}
+use Rattle.opening.proofs.States.{finished-layout, none-yet, starts-built}
 use Rattle.opening.proofs.EachEvent.{Alike, build-alike, parts-lie}
 
 -- ---- the loop: n m l q are the buffers at entry, and n′ m′ l′ q′ as they are

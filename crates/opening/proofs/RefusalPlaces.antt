@@ -8,22 +8,22 @@ use lib.Dec.{leb, ltb}
 use lib.ListN.{length}
 use Rattle.numbers.specs.Limits.{script-limit}
 use Rattle.numbers.specs.Refusals.{no-room, too-long, unknown-parent}
-use Rattle.glob_match.specs.Keeping.{Keep, kept, refused, keep}
-use Rattle.reading.specs.declared.Cursor.{Cursor}
-use Rattle.reading.specs.declared.Event.{Event}
-use Rattle.reading.specs.declared.Event.the-variants.{Node, Body, Section, Extern, Closed, Line, Parent}
-use Rattle.reading.specs.declared.Step.{Step}
-use Rattle.reading.specs.declared.Step.the-variants.{Go, End, Refused}
-use Rattle.reading.specs.Places.{start}
+use Rattle.storing.specs.Keeping.{Keep, kept, refused, keep}
+use Rattle.cursors.specs.declared.Cursor.{Cursor}
+use Rattle.cursors.specs.declared.Event.{Event}
+use Rattle.cursors.specs.declared.Event.the-variants.{Node, Body, Section, Extern, Closed, Line, Parent}
+use Rattle.cursors.specs.declared.Step.{Step}
+use Rattle.cursors.specs.declared.Step.the-variants.{Go, End, Refused}
+use Rattle.cursors.specs.Moves.{start}
 use Rattle.reading.specs.Scripts.{next}
 use Rattle.reading.specs.Events.{on-step, reading, reading-from, reading-within}
 use Rattle.reading.proofs.Onward.{Standing, next-stands, start-stands}
 use Rattle.reading.proofs.Parts.{Marked, next-parts, start-marked}
-use Rattle.reading.proofs.Tabling.{standing-refuses}
+use Rattle.reading.proofs.Refusals.{standing-refuses}
 use Rattle.book.specs.Books.{edition-of, first-named, regular}
 use Rattle.book.specs.Layout.{Buffers, node-width}
 use Rattle.rooms.specs.Rooms.{line-room, node-room}
-use Rattle.opening.specs.Building.{Building, Taken, no, on, part, take-event, take-kept, take-node, take-parent}
+use Rattle.building.specs.Building.{Building, Taken, no, on, part, take-event, take-kept, take-node, take-parent}
 use Rattle.opening.specs.Opening.{Opening, build, build-reading, declined, nothing-yet, on-taken, opening, opens}
 use Rattle.opening.specs.State.{Lies}
 use Rattle.opening.proofs.EachEvent.{parts-lie}

@@ -13,19 +13,19 @@ use Rattle.utf8.specs.Utf8.{chars, utf8}
 use Rattle.pattern.specs.declared.Edition.{Edition}
 use Rattle.pattern.specs.Patterns.{refusal, shaped-from}
 use Rattle.pattern.specs.Storing.{stored}
-use Rattle.glob_match.specs.declared.Class.{Class}
-use Rattle.glob_match.specs.declared.Class.the-variants.{Exact, Escaped, NonStar, Star, All}
-use Rattle.glob_match.specs.Classes.{lone-star, quoted, scan, unquoted}
-use Rattle.glob_match.specs.Keeping.{Keep, kept, refused, over, keep, keep-as, keep-class, keep-glob, keep-scanned, keep-when}
-use Rattle.reading.specs.declared.Event.{Event}
-use Rattle.reading.specs.declared.Event.the-variants.{Node, Body, Section, Extern, Closed, Line, Parent}
+use Rattle.classes.specs.declared.Class.{Class}
+use Rattle.classes.specs.declared.Class.the-variants.{Exact, Escaped, NonStar, Star, All}
+use Rattle.classes.specs.Classes.{lone-star, quoted, scan, unquoted}
+use Rattle.storing.specs.Keeping.{Keep, kept, refused, over, keep, keep-as, keep-class, keep-glob, keep-scanned, keep-when}
+use Rattle.cursors.specs.declared.Event.{Event}
+use Rattle.cursors.specs.declared.Event.the-variants.{Node, Body, Section, Extern, Closed, Line, Parent}
 use Rattle.reading.specs.Events.{Outcome, accepted, reading}
 use Rattle.reading.specs.Events as events
 use Rattle.reading.proofs.Refusals.{of-reader, reading-refuses}
 use Rattle.book.specs.Books.{edition-of, first-named, regular}
 use Rattle.book.specs.Layout.{Buffers, node-width}
 use Rattle.rooms.specs.Rooms.{line-room, node-room}
-use Rattle.opening.specs.Building.{Building, Taken, no, on, part, take-event, take-kept, take-node, take-parent}
+use Rattle.building.specs.Building.{Building, Taken, no, on, part, take-event, take-kept, take-node, take-parent}
 use Rattle.opening.specs.Opening.{Opening, build, build-reading, declined, ended, nothing-yet, on-taken, opening, opens}
 
 -- a number of a refused opening

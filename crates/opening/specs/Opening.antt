@@ -8,14 +8,14 @@ use lib.ListN.{length}
 use Rattle.numbers.specs.Limits.{script-limit}
 use Rattle.numbers.specs.Refusals.{no-room, too-long}
 use Rattle.packing.specs.Padding.{zeros}
-use Rattle.reading.specs.declared.Event.{Event}
+use Rattle.cursors.specs.declared.Event.{Event}
 use Rattle.reading.specs.Places.{at-list}
 use Rattle.reading.specs.Events.{Outcome, accepted, refused, Reading, reading}
 use Rattle.book.specs.declared.Counts.{Counts}
 use Rattle.book.specs.Books.{Book, export, no-node, regular, rust}
 use Rattle.book.specs.Layout.{Buffers, counts-of, laid-out, node-width}
 use Rattle.opening.specs.declared.Opened.{Opened}
-use Rattle.opening.specs.Building.{Building, Taken, on, no, take-event}
+use Rattle.building.specs.Building.{Building, Taken, on, no, take-event}
 
 -- a text opens as a book, or is refused with a number at a place
 pub data Opening : Type 0 where

@@ -1,5 +1,5 @@
-// Opening a text into lent buffers: the events of its reading, taken one by one. Definitions: specs/Building.antt and specs/Opening.antt, from document
-// 01, 'Reading', 'Ranking' (the Rust kind), 'The book' and 'Numbers that say no'.
+// Opening a text into lent buffers: the events of its reading, taken one by one (the crate `building`). Definitions: specs/Opening.antt, from document 01,
+// 'Reading', 'Ranking' (the Rust kind), 'The book' and 'Numbers that say no'.
 ghost use mathlib.Core.Path.{_≡_};
 ghost use Rattle.book.specs.Layout.{five};
 ghost use Rattle.opening.specs.Opening.{left, opening, told};
@@ -14,31 +14,12 @@ use numbers::TOO_LONG;
 use packing::clear_numbers;
 
 mod events;
-mod taken;
 
 // What an opening answers: 0 and the counts, or the number that says no, its place in the text, and zero counts.
 pub struct Opened {
     pub refusal: u32,
     pub place: usize,
     pub counts: Counts,
-}
-
-// How far a book is while its text is read: how many nodes, name bytes, lines and pool bytes it has; whether the reading is in an extern block; whether the
-// globals have what the Rust kind's have not; and whether a bare `*;` stands among the locals.
-pub struct Progress {
-    pub nodes: usize,
-    pub names: usize,
-    pub lines: usize,
-    pub pool: usize,
-    pub inside: bool,
-    pub mixed: bool,
-    pub starred: bool,
-}
-
-// What an event makes of it, or the number that says no and the place.
-pub enum Taking {
-    On(Progress),
-    No(u32, usize),
 }
 
 // The counts of the book that a text gives, or the number that says no and the place.

@@ -16,8 +16,8 @@ use Rattle.linker_script.specs.Finding.{Test, are, first-from, is}
 use Rattle.linker_script.specs.Skip.{blank, skip}
 use Rattle.linker_script.proofs.Searches.{byte-within, first-here, first-on, first-within, passes}
 use Rattle.linker_script.proofs.Skipping.{skip-ends, past-blank, past-line, line-opens, stops, past-comment, comment-opens}
+use Rattle.tokens.proofs.Ends.{and-both}
 use Rattle.reading.specs.Rules.{Byte, None, No-pair, skips}
-use Rattle.reading.proofs.Ends.{and-both}
 
 -- a test of two parts that fails
 or-neither : (a b : Bool) → a || b ≡ false → (a ≡ false) × (b ≡ false)

@@ -19,21 +19,22 @@ use Rattle.linker_script.specs.declared.Skipped.the-variants.{At, Open}
 use Rattle.linker_script.specs.Finding.{closes, first-from}
 use Rattle.linker_script.specs.Skip.{skip}
 use Rattle.linker_script.proofs.Searches.{drop-next}
-use Rattle.reading.specs.declared.Cursor.{Cursor}
-use Rattle.reading.specs.declared.Event.{Event}
-use Rattle.reading.specs.declared.Event.the-variants.{Body, Extern, Closed}
-use Rattle.reading.specs.declared.Step.{Step}
-use Rattle.reading.specs.declared.Step.the-variants.{Go, Refused}
-use Rattle.reading.specs.declared.TokenEnd.{TokenEnd}
-use Rattle.reading.specs.declared.TokenEnd.the-variants as no
-use Rattle.reading.specs.Places.{in-body, in-body-extern, in-sole, in-sole-extern, in-list, in-list-extern, in-symbol-extern, in-bare-extern, behind-symbol, moved, in-section, in-language, skipping, expecting, ending}
-use Rattle.reading.specs.Tokens.{begins, stands, named, longer, name-in, name-end, to-semicolon, to-brace, to-either, extern-end, bare-extern-end, bare-end, bare-skip}
-use Rattle.reading.specs.Matchers.{extern-word, cxx-word, c-word, close-word, line-to, extern-open, extern-at, extern-inside, in-extern, in-bare, matcher as matcher-at, line as line-of, bare-line, bare-matcher}
+use Rattle.tokens.specs.declared.TokenEnd.{TokenEnd}
+use Rattle.tokens.specs.declared.TokenEnd.the-variants as no
+use Rattle.tokens.specs.Tokens.{begins, stands, named, longer, name-in, name-end, to-semicolon, to-brace, to-either, extern-end, bare-extern-end, bare-end, bare-skip}
+use Rattle.tokens.proofs.Ends.{and-both, bare-either, bare-extern-01}
+use Rattle.cursors.specs.declared.Cursor.{Cursor}
+use Rattle.cursors.specs.declared.Event.{Event}
+use Rattle.cursors.specs.declared.Event.the-variants.{Body, Extern, Closed}
+use Rattle.cursors.specs.declared.Step.{Step}
+use Rattle.cursors.specs.declared.Step.the-variants.{Go, Refused}
+use Rattle.cursors.specs.Moves.{moved, in-section, in-language, skipping, expecting, ending}
+use Rattle.matchers.specs.Matchers.{extern-word, cxx-word, c-word, close-word, line-to, extern-open, extern-at, extern-inside, in-extern, in-bare, matcher as matcher-at, line as line-of, bare-line, bare-matcher}
+use Rattle.reading.specs.Places.{in-body, in-body-extern, in-sole, in-sole-extern, in-list, in-list-extern, in-symbol-extern, in-bare-extern, behind-symbol}
 use Rattle.reading.specs.Scripts.{global-word, local-word, name-to, node-at, script-at, parent-to, parent-at, node-end, sole-end, inside-body, body-at, sole-at, list-at, opening-at, start-script, go-node, go-body, go-sole, go-list, next-script, next-list, next-symbol, next}
 use Rattle.reading.specs.Rules.{Byte, None, Word, No-word, Name-byte, Token, plain-token, extern-token, bare-token, bare-extern-token, to-closing, Rule, skip-to, script-start, node, opening, body, parent, last-semicolon, end, matchers, matcher, block, token, no-more, Due, due-script, due-node, due-opening, due-body, due-body-block, due-sole, due-sole-block, due-list, due-matchers, due-list-block, due-symbol, due-symbol-block, due-bare, due-bare-block, Over, script, list, symbol, bare, Comes, starts, past-blank, past-line, past-comment, skipped, to-nodes, behind-body, of-body, behind-semicolon, behind-list, of-list, behind-cxx, behind-c, behind-block, of-matcher, of-block, all-text}
 use Rattle.reading.specs.Refusing.{Unreadable, no-name, no-opening, no-parent-end, no-semicolon, bytes-remain, no-token-end, empty-to-semicolon, empty-to-closing, Unclosed, line, comment, no-brace-left, Bad-extern, language, within-extern}
 use Rattle.reading.proofs.Absence.{none-nowhere, stands-first, pair-nowhere, skip-blank, skip-line, skip-line-opens, skip-comment, skip-comment-opens, skip-stays}
-use Rattle.reading.proofs.Ends.{and-both, bare-either, bare-extern-01}
 use Rattle.reading.proofs.Onward.{Standing, standing-ends}
 
 -- ---- words

@@ -15,15 +15,16 @@ use Rattle.linker_script.specs.declared.Found.{Found}
 use Rattle.linker_script.specs.declared.Found.the-variants.{Here, Nowhere}
 use Rattle.linker_script.specs.Finding.{first-from, is}
 use Rattle.linker_script.proofs.Searches.{First, first-within}
-use Rattle.reading.specs.declared.Cursor.{Cursor}
-use Rattle.reading.specs.declared.Event.{Event}
-use Rattle.reading.specs.declared.Event.the-variants.{Parent, Section}
-use Rattle.reading.specs.declared.Step.{Step}
-use Rattle.reading.specs.declared.Step.the-variants.{Go, Refused}
-use Rattle.reading.specs.Places.{at-node, moved, in-section}
-use Rattle.reading.specs.Tokens.{name-end}
+use Rattle.tokens.specs.Tokens.{name-end}
+use Rattle.cursors.specs.declared.Cursor.{Cursor}
+use Rattle.cursors.specs.declared.Event.{Event}
+use Rattle.cursors.specs.declared.Event.the-variants.{Parent, Section}
+use Rattle.cursors.specs.declared.Step.{Step}
+use Rattle.cursors.specs.declared.Step.the-variants.{Go, Refused}
+use Rattle.cursors.specs.Moves.{moved, in-section}
+use Rattle.matchers.proofs.Stepping.{steps}
+use Rattle.reading.specs.Places.{at-node}
 use Rattle.reading.specs.Scripts.{name-to, parent-to, parent-at}
-use Rattle.reading.proofs.Stepping.{steps}
 
 -- ---- a test decides
 module _ (t : Bool) (x y r : Step) where

@@ -1,9 +1,4 @@
-pub mod Words
-pub mod Enders
-pub mod Stepping
-pub mod Exits
 pub mod Deciding
-pub mod Ends
 pub mod Bounds
 pub mod Steps
 pub mod Onward
@@ -13,6 +8,5 @@ pub mod Coming
 pub mod Exactly
 pub mod Looking
 pub mod Points
-pub mod Tabling
 pub mod Parts
 pub mod Origins

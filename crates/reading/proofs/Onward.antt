@@ -9,15 +9,16 @@ use native.Mathlib.Omega.{arith}
 use lib.Dec.{eqb}
 use lib.ListN.{length}
 use Rattle.linker_script.specs.Finding.{last-close}
-use Rattle.reading.specs.declared.Cursor.{Cursor}
-use Rattle.reading.specs.declared.Event.{Event}
-use Rattle.reading.specs.declared.Step.{Step}
-use Rattle.reading.specs.declared.Step.the-variants.{Go, End, Refused}
-use Rattle.reading.specs.Places.{behind-symbol, start}
-use Rattle.reading.specs.Tokens.{to-either, extern-end}
+use Rattle.tokens.specs.Tokens.{to-either, extern-end}
+use Rattle.tokens.proofs.Ends.{extern-end-01}
+use Rattle.cursors.specs.declared.Cursor.{Cursor}
+use Rattle.cursors.specs.declared.Event.{Event}
+use Rattle.cursors.specs.declared.Step.{Step}
+use Rattle.cursors.specs.declared.Step.the-variants.{Go, End, Refused}
+use Rattle.cursors.specs.Moves.{start}
+use Rattle.reading.specs.Places.{behind-symbol}
 use Rattle.reading.specs.Scripts.{next}
 use Rattle.reading.specs.Events.{Reading, on-step, reading-within, reading-from, reading}
-use Rattle.reading.proofs.Ends.{extern-end-01}
 use Rattle.reading.proofs.Steps.{Fresh, Onward, Fits, goes, next-fits}
 
 pub next-onward : (s : List ℕ) (c d : Cursor) (e : Event) → Fresh c → next s c ≡ Go e d → Onward s c d

@@ -1,25 +1,27 @@
--- The reader refuses with 1, 2, 3 or 4 only (`next-refuses`, `reading-refuses`), at a place of the text, and with 1 exactly where the text is over its limit
--- at the place at which its reading starts (`too-long-exactly`).
+-- The reader refuses with 1, 2, 3 or 4 only (`next-refuses`, `reading-refuses`), at a place of the text (`standing-refuses`), and with 1 exactly where the text
+-- is over its limit at the place at which its reading starts (`too-long-exactly`).
 -- Assumes nothing.
 use Prim.Native.Nat.{ℕ, zero, suc, _+_, _-_, _≤_}
 use mathlib.Core.Path.{_≡_, refl, sym}
 use mathlib.Core.List.{List}
-use mathlib.Core.Bool.{Bool, true, _||_, or-true, true≢false}
+use mathlib.Core.Bool.{Bool, true, false, _||_, or-true, true≢false}
 use native.Mathlib.Omega.{arith}
-use borrow.Author.Tests.{lt-ltb}
+use borrow.Author.Tests.{eqb-true, lt-ltb}
 use lib.Dec.{eqb}
 use lib.ListN.{length}
 use Rattle.numbers.specs.Limits.{script-limit, token-limit}
 use Rattle.numbers.specs.Refusals.{too-long}
-use Rattle.reading.specs.declared.Cursor.{Cursor}
-use Rattle.reading.specs.declared.Step.{Step}
-use Rattle.reading.specs.declared.Step.the-variants.{Go, End, Refused}
-use Rattle.reading.specs.Places.{start}
+use Rattle.cursors.specs.declared.Cursor.{Cursor}
+use Rattle.cursors.specs.declared.Step.{Step}
+use Rattle.cursors.specs.declared.Step.the-variants.{Go, End, Refused}
+use Rattle.cursors.specs.Moves.{start}
+use Rattle.reading.specs.Places.{behind-symbol}
 use Rattle.reading.specs.Scripts.{start-script, next-script, next-list, next-symbol, next}
 use Rattle.reading.specs.Events.{refused, on-step, reading-within, reading-from, reading}
 use Rattle.reading.specs.Rules.{Over, script, list, symbol, bare}
 use Rattle.reading.proofs.Bounds.{of-grammar}
 use Rattle.reading.proofs.Steps.{Refusal, long, grammar, Fits, refused as refuses, next-fits}
+use Rattle.reading.proofs.Onward.{Standing}
 
 -- 1, 2, 3 or 4
 abbrev pub of-reader : ℕ → Bool
@@ -77,3 +79,29 @@ module _ (s : List ℕ) (n p : ℕ) where
   pub reading-refuses : (place : ℕ) → reading place s .outcome ≡ refused n p → of-reader n ≡ true
   unfolding reading reading-from
   reading-refuses place h = within-refuses (length s + 2 - start place s .at) (start place s) h
+
+-- ---- a refusal, at a cursor of a reading
+small : (n : ℕ) → of-reader n ≡ true → n ≤ 4
+small n h = go (eqb n 1) (eqb n 2) (eqb n 3) (eqb n 4) refl refl refl refl h
+  where
+    go : (a b c d : Bool) → eqb n 1 ≡ a → eqb n 2 ≡ b → eqb n 3 ≡ c → eqb n 4 ≡ d → of-reader n ≡ true → n ≤ 4
+    go true b c d x y z w h = omega (arith, eqb-true n 1 x)
+    go false true c d x y z w h = omega (arith, eqb-true n 2 y)
+    go false false true d x y z w h = omega (arith, eqb-true n 3 z)
+    go false false false true x y z w h = omega (arith, eqb-true n 4 w)
+    go false false false false x y z w h = absurd (true≢false (sym (rw (x, y, z, w) at h)))
+
+behind-ends : (s : List ℕ) (c : Cursor) → c .place ≡ behind-symbol → next s c ≡ End
+unfolding next next-symbol
+behind-ends s c e = rw e
+
+-- its number is small, and its place one of the text
+pub standing-refuses : (s : List ℕ) (c : Cursor) → Standing s c → (n p : ℕ) → next s c ≡ Refused n p → (n ≤ 4) × (p ≤ length s)
+standing-refuses s c k n p h = (small n (next-refuses s c n p h .0), next-refuses s c n p h .1 (go (eqb (c .place) behind-symbol) refl))
+  where
+    go : (t : Bool) → eqb (c .place) behind-symbol ≡ t → c .at ≤ length s
+    go true e =
+        let q = behind-ends s c (eqb-true (c .place) behind-symbol e) in
+        let z : _≡_ {A = ℕ} 0 1 = cc in
+        absurd (omega arith)
+    go false e = k .inside e

@@ -9,11 +9,11 @@ use mathlib.Core.Bool.{true, false}
 use lib.ListN.{length}
 use Rattle.numbers.specs.Refusals.{too-long, unreadable, unclosed, bad-extern}
 use Rattle.numbers.specs.Signs.{asterisk, closing-brace, hash, line-feed, opening-brace, semicolon, slash}
-use Rattle.reading.specs.declared.Cursor.{Cursor}
-use Rattle.reading.specs.declared.Event.{Event}
-use Rattle.reading.specs.declared.Step.the-variants.{Go}
-use Rattle.reading.specs.Places.{start}
-use Rattle.reading.specs.Matchers.{extern-word, cxx-word, c-word}
+use Rattle.cursors.specs.declared.Cursor.{Cursor}
+use Rattle.cursors.specs.declared.Event.{Event}
+use Rattle.cursors.specs.declared.Step.the-variants.{Go}
+use Rattle.cursors.specs.Moves.{start}
+use Rattle.matchers.specs.Matchers.{extern-word, cxx-word, c-word}
 use Rattle.reading.specs.Scripts.{next}
 use Rattle.reading.specs.Rules.{Byte, None, No-pair, Word, No-word, Name-byte, Token, extern-token, to-closing, Rule, skip-to, node, opening, parent, last-semicolon, end, matcher, block, token, Over, Comes}
 

@@ -12,10 +12,10 @@ use Rattle.linker_script.specs.declared.Found.{Found}
 use Rattle.linker_script.specs.declared.Found.the-variants.{Here, Nowhere}
 use Rattle.linker_script.specs.Finding.{are, closes, first-from, is}
 use Rattle.linker_script.specs.Skip.{blank}
-use Rattle.reading.specs.declared.Cursor.{Cursor}
+use Rattle.tokens.specs.Tokens.{stands, named, no-semicolon-before}
+use Rattle.cursors.specs.declared.Cursor.{Cursor}
+use Rattle.matchers.specs.Matchers.{extern-word, cxx-word, c-word, close-word}
 use Rattle.reading.specs.Places.{at-script, at-node, at-body, in-body, in-body-extern, in-sole, in-sole-extern, at-list, in-list, in-list-extern, at-symbol, in-symbol-extern, at-bare, in-bare-extern}
-use Rattle.reading.specs.Tokens.{stands, named, no-semicolon-before}
-use Rattle.reading.specs.Matchers.{extern-word, cxx-word, c-word, close-word}
 use Rattle.reading.specs.Scripts.{global-word, local-word}
 
 -- ---- the text at a place

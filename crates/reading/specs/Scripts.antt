@@ -11,13 +11,14 @@ use Rattle.numbers.specs.Signs.{closing-brace, opening-brace, semicolon}
 use Rattle.linker_script.specs.declared.Found.{Found}
 use Rattle.linker_script.specs.declared.Found.the-variants.{Here, Nowhere}
 use Rattle.linker_script.specs.Finding.{first-from, is}
-use Rattle.reading.specs.declared.Cursor.{Cursor}
-use Rattle.reading.specs.declared.Event.the-variants.{Node, Body, Section, Parent}
-use Rattle.reading.specs.declared.Step.{Step}
-use Rattle.reading.specs.declared.Step.the-variants.{Go, End, Refused}
-use Rattle.reading.specs.Places.{at-script, at-node, at-body, in-body, in-body-extern, in-sole, in-sole-extern, at-list, in-list, in-list-extern, at-symbol, in-symbol-extern, at-bare, in-bare-extern, behind-symbol, moved, in-section, skipping, expecting, ending}
-use Rattle.reading.specs.Tokens.{stands, name-end}
-use Rattle.reading.specs.Matchers.{close-word, matcher, bare-matcher, in-extern, in-bare}
+use Rattle.tokens.specs.Tokens.{stands, name-end}
+use Rattle.cursors.specs.declared.Cursor.{Cursor}
+use Rattle.cursors.specs.declared.Event.the-variants.{Node, Body, Section, Parent}
+use Rattle.cursors.specs.declared.Step.{Step}
+use Rattle.cursors.specs.declared.Step.the-variants.{Go, End, Refused}
+use Rattle.cursors.specs.Moves.{moved, in-section, skipping, expecting, ending}
+use Rattle.matchers.specs.Matchers.{close-word, matcher, bare-matcher, in-extern, in-bare}
+use Rattle.reading.specs.Places.{at-script, at-node, at-body, in-body, in-body-extern, in-sole, in-sole-extern, at-list, in-list, in-list-extern, at-symbol, in-symbol-extern, at-bare, in-bare-extern, behind-symbol}
 
 -- `global:`, `local:`
 abbrev pub global-word : List ℕ

@@ -15,7 +15,7 @@ ghost use lib.ListN.{length};
 use glob_match::exports::glob_match_store;
 use numbers::BAD_EXTERN;
 use numbers::UNREADABLE;
-use reading::rows::reading_events;
+use reading_rows::reading_events;
 use replay::Counts;
 use replay::byte_or_zero;
 use replay::digit;

@@ -13,12 +13,12 @@ use lib.Seq.{paste, drop-append-le, drop-drop, take-length}
 use Rattle.numbers.specs.Limits.{pool-limit}
 use Rattle.numbers.specs.Refusals.{no-room}
 use Rattle.lists.specs.Front.{front}
-use Rattle.glob_match.specs.declared.Class.{Class}
-use Rattle.glob_match.specs.declared.Stored.{Stored}
-use Rattle.glob_match.specs.declared.Stored.the-variants.{As}
-use Rattle.glob_match.specs.declared.Stored.the-variants as stored
-use Rattle.glob_match.specs.Keeping.{Keep, kept, refused}
-use Rattle.glob_match.specs.Answers.{keep-answer, keep-buffer}
+use Rattle.classes.specs.declared.Class.{Class}
+use Rattle.storing.specs.declared.Stored.{Stored}
+use Rattle.storing.specs.declared.Stored.the-variants.{As}
+use Rattle.storing.specs.declared.Stored.the-variants as stored
+use Rattle.storing.specs.Keeping.{Keep, kept, refused}
+use Rattle.storing.specs.Answers.{keep-answer, keep-buffer}
 use Rattle.rooms.specs.Rooms.{Put, pool-room}
 
 -- ---- how far the pool q can be filled

@@ -10,9 +10,9 @@ use lib.Seq.{paste}
 use Rattle.numbers.specs.Limits.{edit-limit, line-limit, node-limit, pool-limit}
 use Rattle.numbers.specs.Refusals.{no-room}
 use Rattle.packing.specs.Tables.{packed}
-use Rattle.glob_match.specs.declared.Stored.{Stored}
-use Rattle.glob_match.specs.declared.Stored.the-variants as stored
-use Rattle.glob_match.specs.Keeping.{Keep, kept, refused}
+use Rattle.storing.specs.declared.Stored.{Stored}
+use Rattle.storing.specs.declared.Stored.the-variants as stored
+use Rattle.storing.specs.Keeping.{Keep, kept, refused}
 use Rattle.book.specs.Books.{Edit, Line, Node}
 use Rattle.book.specs.Layout.{Buffers, edit-width, line-form, line-width, node-form, node-width}
 

@@ -1,16 +1,16 @@
 // Room for a row or for bytes more in lent buffers. Definitions: specs/Rooms.antt, from document 01, 'Numbers that say no' (8).
 ghost use mathlib.Core.Path.{_≡_};
 ghost use Prim.Native.Nat.{_≤_};
-ghost use Rattle.glob_match.specs.Keeping.{keep};
+ghost use Rattle.storing.specs.Keeping.{keep};
 ghost use Rattle.rooms.specs.Rooms.{Put, edit-row, fits-row, pool-room};
 use book::EDIT_WIDTH;
 use book::LINE_WIDTH;
-use glob_match::Stored;
-use glob_match::storing::store_token;
 use numbers::EDIT_LIMIT;
 use numbers::LINE_LIMIT;
 use numbers::POOL_LIMIT;
 use pattern::Edition;
+use storing::Stored;
+use storing::store_token;
 
 // Whether there is a row for line n.
 pub fn has_row(lines: &[u32], n: usize) -> bool

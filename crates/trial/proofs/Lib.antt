@@ -1,5 +1,3 @@
-mod Marks
 mod Settling
 mod Strikes
-mod TakenBack
 pub mod Adds

@@ -27,7 +27,7 @@ use Rattle.changes.specs.declared.Edited.the-variants as answer
 use Rattle.changes.specs.Changes.{no, to}
 use Rattle.changes.specs.Trial.{strike-asked, strike-line, with-strike}
 use Rattle.changes.proofs.Marking.{marked-ok}
-use Rattle.trial.proofs.Marks.{code-stands, code-struck, line-code, line-right, line-room, line-within}
+use Rattle.undoing.proofs.Marks.{code-stands, code-struck, line-code, line-right, line-room, line-within}
 use Rattle.changes.proofs.Answers.{Answers, Shown, layout-answers, refusal-answers, shown}
 
 -- ---- what a strike makes of the book

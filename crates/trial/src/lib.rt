@@ -1,5 +1,5 @@
-// The trial book: add, strike, undo and settle. A refusal changes nothing. Definitions: changes/specs/Trial.antt, from document 01, 'The book'. Every call
-// asks first whether the buffers hold a book (14).
+// The trial book: add, strike and settle; undo is the crate `undoing`. A refusal changes nothing. Definitions: changes/specs/Trial.antt, from document 01,
+// 'The book'. Every call asks first whether the buffers hold a book (14).
 ghost use mathlib.Core.Bool.{_&&_, _||_, not};
 ghost use mathlib.Core.Path.{_≡_};
 ghost use lib.Dec.{eqb, leb, ltb};
@@ -26,8 +26,6 @@ use numbers::WRONG_KIND;
 use packing::put_two;
 use rooms::has_edit;
 use settling::settle_lines;
-
-pub mod undoing;
 
 // Whether a line may stand in that node, section and language of a book of that kind.
 fn may_stand(kind: u32, nodes: u32, node: u32, section: u32, language: u32) -> bool

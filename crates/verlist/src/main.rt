@@ -1,12 +1,12 @@
 // The version and locality of symbols under a version script, as document 01 describes it. Standard input (65,536 bytes at most): the script, a line `%%`, then
 // one symbol a line, `@` before a wanted version. What is printed is rendered whole by `listing::listed::render_listing`. Where the script is refused, standard
 // error says where, and what the number means.
+use input::positions::position_of;
 use libc::STDERR_FILENO;
 use libc::STDIN_FILENO;
 use libc::STDOUT_FILENO;
 use listing::listed::Listed;
 use listing::listed::render_listing;
-use listing::positions::position_of;
 
 // The first n bytes of s, or all of it.
 fn front(s: &[u8], n: usize) -> &[u8] {

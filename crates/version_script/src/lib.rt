@@ -1,17 +1,13 @@
-// version_script.rs, the book's side: a version script opened into lent buffers, its counts and its nodes, and the version and locality of a name. Definitions:
-// specs/Questions.antt and specs/Lookups.antt, from document 01, 'Ranking'; the opening's are those of the crate `opening`. Every question asks first whether
-// the buffers hold a book (14); `version_in_book` and `locality_in_book` are for callers who know it.
+// version_script.rs, the book's side: a version script opened into lent buffers, its counts and its nodes. Definitions: specs/Questions.antt, from document 01,
+// 'Ranking'; the opening's are those of the crate `opening`. Every question asks first whether the buffers hold a book (14).
 ghost use mathlib.Core.Path.{_≡_};
 ghost use Rattle.reading.specs.Places.{at-script};
 ghost use Rattle.book.specs.Layout.{five};
 ghost use Rattle.opening.specs.Opening.{left, opening, told};
-use crate::index::VersionIndex;
 use opening::Opened;
 use reading::scripts::AT_SCRIPT;
 
 pub mod counts;
-pub mod index;
-pub mod lookups;
 
 // A count, or the number that says no.
 pub enum Count {
@@ -22,20 +18,6 @@ pub enum Count {
 // A node: where its name starts among the names, how long it is, and its parent's number or 0; or the number that says no.
 pub enum NodeAnswer {
     Node { start: u32, len: u32, parent: u32 },
-    Refused(u32),
-}
-
-// A version's index, none, or the number that says no.
-pub enum Version {
-    Index(VersionIndex),
-    Unversioned,
-    Refused(u32),
-}
-
-pub enum Locality {
-    Nothing,
-    Global,
-    Local,
     Refused(u32),
 }
 

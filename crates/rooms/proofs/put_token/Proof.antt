@@ -1,7 +1,7 @@
 -- `put_token` meets its contract: the part of the pool behind what is there is lent to `store_token`. Assumes nothing.
 use borrow.Author.Needs.{needs}
 use native.Mathlib.Omega.{arith}
-use Rattle.glob_match.specs.Keeping.{keep}
+use Rattle.storing.specs.Keeping.{keep}
 use Rattle.rooms.proofs.Putting.{put-part, room-length}
 use Rattle.rooms.proofs.put_token.Statement.{statement}
 use Rattle.rooms.proofs.put_token.Tie as tie

@@ -2,7 +2,7 @@
 use borrow.Author.Needs.{needs}
 use Rattle.book.specs.Layout.{five}
 use Rattle.ranking.specs.Matching.{name-of}
-use Rattle.version_script.specs.Lookups.{wanted-of}
+use Rattle.lookups.specs.Lookups.{wanted-of}
 use Rattle.c_api.specs.Calls.{flag}
 use Rattle.c_api.proofs.Told.{version-unlent, version-told}
 use Rattle.c_api.proofs.questions.tuno_version_for_symbol.Statement.{statement}

@@ -2,8 +2,8 @@
 use borrow.Author.Needs.{needs}
 use Rattle.book.specs.Layout.{five}
 use Rattle.book.specs.View.{view}
-use Rattle.version_script.specs.Lookups.{wanted-of}
-use Rattle.listing.proofs.Rendered.{asked-put}
+use Rattle.lookups.specs.Lookups.{wanted-of}
+use Rattle.rendering.proofs.Rendered.{asked-put}
 use Rattle.listing.proofs.listed.render_asked_in_book.Statement.{statement}
 use Rattle.listing.proofs.listed.render_asked_in_book.Tie as tie
 

@@ -2,7 +2,7 @@
 use borrow.Author.Needs.{needs}
 use Rattle.book.specs.Layout.{five}
 use Rattle.book.specs.View.{view}
-use Rattle.listing.proofs.Rendered.{name-count, part-room, plain-put, split-put, version-fits, version-starts}
+use Rattle.rendering.proofs.Rendered.{name-count, part-room, plain-put, split-put, version-fits, version-starts}
 use Rattle.listing.proofs.listed.render_symbol_in_book.Statement.{statement}
 use Rattle.listing.proofs.listed.render_symbol_in_book.Tie as tie
 

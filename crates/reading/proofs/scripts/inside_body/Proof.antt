@@ -1,8 +1,8 @@
 -- `inside_body` meets its contract. A word that stands in the text ends within it, so the place behind it fits. Assumes nothing.
 use borrow.Author.Needs.{needs}
+use Rattle.matchers.proofs.Stepping.{word-fits}
 use Rattle.reading.specs.Scripts.{inside-body}
 use Rattle.reading.proofs.Deciding.{goes-section, ways}
-use Rattle.reading.proofs.Stepping.{word-fits}
 use Rattle.reading.proofs.scripts.inside_body.Statement.{statement}
 use Rattle.reading.proofs.scripts.inside_body.Tie as tie
 

@@ -1,8 +1,8 @@
 -- `list_at` meets its contract. A word that stands in the text ends within it, so the place behind it fits. Assumes nothing.
 use borrow.Author.Needs.{needs}
+use Rattle.matchers.proofs.Stepping.{word-fits}
 use Rattle.reading.specs.Scripts.{list-at}
 use Rattle.reading.proofs.Deciding.{ways}
-use Rattle.reading.proofs.Stepping.{word-fits}
 use Rattle.reading.proofs.scripts.list_at.Statement.{statement}
 use Rattle.reading.proofs.scripts.list_at.Tie as tie
 

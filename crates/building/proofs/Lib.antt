@@ -1,0 +1,4 @@
+pub mod Kept
+pub mod States
+pub mod NodeEvents
+pub mod LineEvents

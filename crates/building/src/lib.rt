@@ -1,0 +1,211 @@
+// What each event of a reading makes of a book in lent buffers. Definitions: specs/Building.antt and specs/State.antt, from document 01, 'Reading', 'The book' and
+// 'Numbers that say no'. `take_node`, `take_line` and `take_parent` are for a caller who knows how far the book is.
+ghost use mathlib.Core.Path.{_≡_};
+ghost use mathlib.Core.Bool.{true, not, _&&_, _||_};
+ghost use mathlib.Core.List.{List, []};
+ghost use Prim.Native.Nat.{ℕ, _*_, _≤_, _<_};
+ghost use lib.Dec.{eqb, ltb};
+ghost use lib.ListN.{length};
+ghost use Rattle.numbers.specs.Limits.{node-limit, script-limit};
+ghost use Rattle.packing.specs.Tables.{packs};
+ghost use Rattle.book.specs.Books.{all-class, exact-class, global, local};
+ghost use Rattle.book.specs.Layout.{five, node-form};
+ghost use Rattle.book.specs.View.{any-node};
+ghost use Rattle.rooms.specs.Rooms.{pool-room};
+ghost use Rattle.building.specs.State.{Took-line, Took-node, Took-parent, inside-block, outside-block};
+use book::LINE_WIDTH;
+use book::NODE_WIDTH;
+use book::REGULAR;
+use book::editions::edition_of;
+use book::nodes::first_named;
+use classes::class_number;
+use numbers::NO_ROOM;
+use numbers::NODE_LIMIT;
+use numbers::UNKNOWN_PARENT;
+use packing::put_bytes;
+use packing::put_four;
+use packing::put_three;
+use rooms::has_row;
+use rooms::put_token;
+use storing::Stored;
+
+// How far a book is while its text is read: how many nodes, name bytes, lines and pool bytes it has; whether the reading is in an extern block; whether the
+// globals have what the Rust kind's have not; and whether a bare `*;` stands among the locals.
+pub struct Progress {
+    pub nodes: usize,
+    pub names: usize,
+    pub lines: usize,
+    pub pool: usize,
+    pub inside: bool,
+    pub mixed: bool,
+    pub starred: bool,
+}
+
+// What an event makes of it, or the number that says no and the place.
+pub enum Taking {
+    On(Progress),
+    No(u32, usize),
+}
+
+// A named node begins.
+pub fn take_node(g: Progress, p: usize, name: &[u8], nodes: &mut [u32], names: &mut [u8]) -> Taking
+    requires { ⌜ (g .names ≤ length (now names)) × (g .names ≤ script-limit * node-limit) × (length (now name) ≤ script-limit) ⌝ }
+    ensures { λ r. ⌜ Took-node g p (now (name .entry)) (now (nodes .entry)) (now (names .entry)) r (now (nodes .exit)) (now (names .exit)) ⌝ }
+{
+    let n = g.nodes;
+    let m = g.names;
+    if NODE_LIMIT <= n {
+        return Taking::No(NO_ROOM, p);
+    }
+    if nodes.len() / NODE_WIDTH <= n {
+        return Taking::No(NO_ROOM, p);
+    }
+    if names.len() - m < name.len() {
+        return Taking::No(NO_ROOM, p);
+    }
+    put_three(nodes, NODE_WIDTH * n, m as u32, name.len() as u32, 0);
+    put_bytes(names, m, name);
+    Taking::On(Progress {
+        nodes: n + 1,
+        names: m + name.len(),
+        lines: g.lines,
+        pool: g.pool,
+        inside: g.inside,
+        mixed: g.mixed,
+        starred: g.starred,
+    })
+}
+
+// Whether the globals have what the Rust kind's have not, behind an extern block in that section.
+fn mixed_in_block(g: Progress, section: u32) -> bool
+    ensures { λ r. ⌜ r ≡ g .mixed || eqb section global ⌝ }
+{
+    if g.mixed {
+        return true;
+    }
+    section == 0
+}
+
+// An extern block opens.
+pub fn take_extern(g: Progress, section: u32) -> Progress
+    ensures { λ r. ⌜ r ≡ inside-block g section ⌝ }
+{
+    let mixed = mixed_in_block(g, section);
+    Progress {
+        nodes: g.nodes,
+        names: g.names,
+        lines: g.lines,
+        pool: g.pool,
+        inside: true,
+        mixed,
+        starred: g.starred,
+    }
+}
+
+// And closes.
+pub fn take_closed(g: Progress) -> Progress
+    ensures { λ r. ⌜ r ≡ outside-block g ⌝ }
+{
+    Progress {
+        nodes: g.nodes,
+        names: g.names,
+        lines: g.lines,
+        pool: g.pool,
+        inside: false,
+        mixed: g.mixed,
+        starred: g.starred,
+    }
+}
+
+// Whether the globals have what the Rust kind's have not, behind a line of that section and class.
+fn mixed_behind(g: Progress, section: u32, class: u32) -> bool
+    ensures { λ r. ⌜ r ≡ g .mixed || (eqb section global && not (eqb class exact-class)) ⌝ }
+{
+    if g.mixed {
+        return true;
+    }
+    if section != 0 {
+        return false;
+    }
+    class != 0
+}
+
+// Whether a bare `*;` stands among the locals, behind a line of that section and class.
+fn starred_behind(g: Progress, section: u32, class: u32) -> bool
+    ensures { λ r. ⌜ r ≡ g .starred || (eqb section local && (eqb class all-class && not (g .inside))) ⌝ }
+{
+    if g.starred {
+        return true;
+    }
+    if section != 1 {
+        return false;
+    }
+    if class != 4 {
+        return false;
+    }
+    !g.inside
+}
+
+// A line of the node that began last.
+pub fn take_line(
+    g: Progress,
+    p: usize,
+    section: u32,
+    language: u32,
+    token: &[u8],
+    lines: &mut [u32],
+    pool: &mut [u8],
+) -> Taking
+    requires { ⌜ (g .pool ≤ pool-room (now pool)) × (0 < g .nodes) × (g .nodes ≤ node-limit) × (section ≤ 1) × (language ≤ 1) ⌝ }
+    ensures { λ r. ⌜ Took-line g p section language (now (token .entry)) (now (lines .entry)) (now (pool .entry)) r (now (lines .exit)) (now (pool .exit)) ⌝ }
+{
+    let n = g.lines;
+    let at = g.pool;
+    match put_token(edition_of(REGULAR), token, at, pool) {
+        Stored::Refused(no) => Taking::No(no, p),
+        Stored::As(class, size) => {
+            if !has_row(lines, n) {
+                return Taking::No(NO_ROOM, p);
+            }
+            let k = class_number(class);
+            let node = (g.nodes - 1) as u32;
+            put_four(
+                lines,
+                LINE_WIDTH * n,
+                node,
+                k * 4 + section * 2 + language,
+                at as u32,
+                size as u32,
+            );
+            let mixed = mixed_behind(g, section, k);
+            let starred = starred_behind(g, section, k);
+            Taking::On(Progress {
+                nodes: g.nodes,
+                names: g.names,
+                lines: n + 1,
+                pool: at + size,
+                inside: g.inside,
+                mixed,
+                starred,
+            })
+        }
+    }
+}
+
+// A named node ends.
+pub fn take_parent(g: Progress, p: usize, parent: &[u8], nodes: &mut [u32], names: &[u8]) -> Taking
+    requires { ⌜ (packs node-form any-node (g .nodes) (g .names) (now nodes) (now names) ≡ true) × (0 < g .nodes) × (g .nodes ≤ node-limit) ⌝ }
+    ensures { λ r. ⌜ Took-parent g p (now (parent .entry)) (now (nodes .entry)) (now (names .entry)) r (now (nodes .exit)) ⌝ }
+{
+    if parent.len() == 0 {
+        return Taking::On(g);
+    }
+    let n = g.nodes;
+    let i = n - 1;
+    let q = first_named(nodes, names, n, g.names, parent);
+    if i <= q {
+        return Taking::No(UNKNOWN_PARENT, p);
+    }
+    nodes[NODE_WIDTH * i + 2] = q as u32;
+    Taking::On(g)
+}

@@ -1,0 +1,56 @@
+-- The parts of verlist's input, as 01 has them: "script, a line `%%`, then one symbol a line (a last LF may lack), `@` before a wanted version." trial_desk's input
+-- has the same mark. Assumes nothing.
+use Prim.Native.Nat.{ℕ, _+_}
+use mathlib.Core.List.{List, [], _∷_}
+use mathlib.Core.Bool.{Bool, true, _&&_, _||_}
+use mathlib.Core.Option.{Option, some, none}
+use lib.Dec.{eqb}
+use lib.ListN.{length, getD, take, drop}
+use Rattle.numbers.specs.Signs.{line-feed}
+use Rattle.linker_script.specs.declared.Found.{Found}
+use Rattle.linker_script.specs.declared.Found.the-variants.{Here, Nowhere}
+use Rattle.linker_script.specs.Finding.{first-from, found, is}
+
+-- `%` and `@`
+abbrev pub percent : ℕ
+percent = 37
+
+abbrev pub at-sign : ℕ
+at-sign = 64
+
+-- "a line `%%`": a text that begins with a line of these two bytes alone
+unfoldable pub marks : List ℕ → Bool
+marks l = eqb (getD l 0 0) percent && (eqb (getD l 1 0) percent && (eqb (length l) 2 || eqb (getD l 2 0) line-feed))
+
+-- the place of the first such line, of the text l, which begins at the place p; `fresh` says that a line begins there
+unfoldable pub mark-in : Bool → ℕ → List ℕ → Found
+mark-in fresh p [] = Nowhere
+mark-in fresh p (b ∷ l) = found (fresh && marks (b ∷ l)) p (mark-in (eqb b line-feed) (p + 1) l)
+
+unfoldable pub mark : List ℕ → Found
+mark s = mark-in true 0 s
+
+-- "without a `%%` line all is script"
+abbrev pub script-by : List ℕ → Found → List ℕ
+script-by s (Here p) = take p s
+script-by s Nowhere = s
+
+-- the symbols' lines, behind the three bytes of that line
+abbrev pub symbols-by : List ℕ → Found → List ℕ
+symbols-by s (Here p) = drop (p + 3) s
+symbols-by s Nowhere = []
+
+-- ---- "The first `@` splits a line"
+abbrev pub name-by : List ℕ → Found → List ℕ
+name-by t (Here p) = take p t
+name-by t Nowhere = t
+
+abbrev pub wanted-by : List ℕ → Found → Option (List ℕ)
+wanted-by t (Here p) = some (drop (p + 1) t)
+wanted-by t Nowhere = none
+
+unfoldable pub name-part : List ℕ → List ℕ
+name-part t = name-by t (first-from (is at-sign) t 0)
+
+unfoldable pub wanted-part : List ℕ → Option (List ℕ)
+wanted-part t = wanted-by t (first-from (is at-sign) t 0)

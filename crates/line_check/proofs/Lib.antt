@@ -1,0 +1,2 @@
+mod LineChecks
+pub mod LineRows

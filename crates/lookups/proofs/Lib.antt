@@ -1,0 +1,3 @@
+pub mod Asked
+mod Wanted
+mod Decided

@@ -1,0 +1,127 @@
+-- Version and locality of a name, as 01 has them under 'Ranking'. Assumes nothing.
+use Prim.Native.Nat.{ℕ, _+_}
+use mathlib.Core.List.{List, [], _∷_}
+use mathlib.Core.Bool.{Bool, false, cond, _&&_, _||_}
+use mathlib.Core.Option.{Option, some, none}
+use lib.Dec.{eqb, ltb}
+use lib.ListN.{length, getD}
+use Rattle.numbers.specs.Limits.{version-limit}
+use Rattle.numbers.specs.Refusals.{no-book, unknown-version, wrong-kind}
+use Rattle.lists.specs.Same.{same}
+use Rattle.book.specs.Books.{Node, Line, Book, export, global, no-line, rust}
+use Rattle.ranking.specs.Matching.{Name}
+use Rattle.ranking.specs.Names.{name-refusal}
+use Rattle.ranking.specs.Walk.{deciding}
+use Rattle.lookups.specs.declared.index.NodeNumber.{NodeNumber}
+use Rattle.lookups.specs.declared.index.VersionIndex.{VersionIndex}
+use Rattle.lookups.specs.declared.answers.Version.{Version}
+use Rattle.lookups.specs.declared.answers.Version.the-variants as version
+use Rattle.lookups.specs.declared.answers.Locality.{Locality}
+use Rattle.lookups.specs.declared.answers.Locality.the-variants as locality
+
+-- ---- "index is 1 plus number, with 1 the named value for global"
+unfoldable pub index-of : NodeNumber → VersionIndex
+index-of i = record { 0 = 1 + i .0 }
+
+abbrev pub global-index : VersionIndex
+global-index = record { 0 = 1 }
+
+abbrev pub node-number : ℕ → NodeNumber
+node-number i = record { 0 = i }
+
+-- "node 0 answers none"
+unfoldable pub node-version : ℕ → Version
+node-version i = cond (eqb i 0) version.Unversioned (version.Index (index-of (node-number i)))
+
+-- ---- "A wanted version takes the last node of that name."
+abbrev pub or-here : Option ℕ → Bool → ℕ → Option ℕ
+or-here (some j) here i = some j
+or-here none here i = cond here (some i) none
+
+-- among nodes that are numbered from i on
+unfoldable pub last-named : List Node → ℕ → List ℕ → Option ℕ
+last-named [] i t = none
+last-named (x ∷ xs) i t = or-here (last-named xs (i + 1) t) (same (x .name) t) i
+
+-- "A wanted version that is empty gives 1, a known one its index, an unknown one refusal 10."
+abbrev pub known : Option ℕ → Version
+known (some i) = version.Index (index-of (node-number i))
+known none = version.Refused unknown-version
+
+unfoldable pub wanted-version : List Node → List ℕ → Version
+wanted-version xs [] = version.Index global-index
+wanted-version xs (c ∷ v) = known (last-named xs 0 (c ∷ v))
+
+-- ---- the deciding line's node
+abbrev pub decided-version : List Line → Option ℕ → Version
+decided-version ls (some i) = node-version (getD ls i no-line .node)
+decided-version ls none = version.Unversioned
+
+abbrev pub by-wanted : Book → Name → Option (List ℕ) → Version
+by-wanted w n (some v) = wanted-version (w .nodes) v
+by-wanted w n none = decided-version (w .lines) (deciding n w)
+
+-- "Rust kind: … Version is always none, a wanted one too, so 10 isn't given"
+unfoldable pub version-of : Book → Name → Option (List ℕ) → Version
+version-of w n v = cond (eqb (w .kind) rust) version.Unversioned (by-wanted w n v)
+
+-- ---- "Locality is the deciding section"
+abbrev pub decided-locality : List Line → Option ℕ → Locality
+decided-locality ls (some i) = cond (eqb (getD ls i no-line .section) global) locality.Global locality.Local
+decided-locality ls none = locality.Nothing
+
+-- "global for listed names, else local"; the global lines of a book of the Rust kind are Exact and general, and none is struck (14)
+unfoldable pub listed : List Line → List ℕ → Bool
+listed [] t = false
+listed (x ∷ xs) t = (eqb (x .section) global && same (x .bytes) t) || listed xs t
+
+unfoldable pub locality-of : Book → Name → Locality
+locality-of w n = cond (eqb (w .kind) rust) (cond (listed (w .lines) (n .raw)) locality.Global locality.Local) (decided-locality (w .lines) (deciding n w))
+
+-- ---- "Order: 14, 13, … 1, 9, 10"
+-- a wanted version, where there is one
+abbrev pub wanted-of : Bool → List ℕ → Option (List ℕ)
+wanted-of has v = cond has (some v) none
+
+-- "wanted version 4,096"
+abbrev pub long-wanted : Option (List ℕ) → Bool
+long-wanted (some v) = ltb version-limit (length v)
+long-wanted none = false
+
+unfoldable pub version-asked : Option Book → Name → Option (List ℕ) → Version
+version-asked none n v = version.Refused no-book
+version-asked (some w) n v =
+    cond (eqb (w .kind) export) (version.Refused wrong-kind)
+    (cond (eqb (name-refusal n (long-wanted v)) 0) (version-of w n v)
+    (version.Refused (name-refusal n (long-wanted v))))
+
+-- "with or without a wanted version": locality is asked without one, so none refuses it
+unfoldable pub locality-asked : Option Book → Name → Locality
+locality-asked none n = locality.Refused no-book
+locality-asked (some w) n =
+    cond (eqb (w .kind) export) (locality.Refused wrong-kind)
+    (cond (eqb (name-refusal n false) 0) (locality-of w n)
+    (locality.Refused (name-refusal n false)))
+
+-- ---- the paper's number of these answers, 0 where they are done, and their value: an index, 0 for none; 0 nothing, 1 global, 2 local
+abbrev pub version-refusal : Version → ℕ
+version-refusal (version.Index i) = 0
+version-refusal version.Unversioned = 0
+version-refusal (version.Refused n) = n
+
+abbrev pub version-value : Version → ℕ
+version-value (version.Index i) = i .0
+version-value version.Unversioned = 0
+version-value (version.Refused n) = 0
+
+abbrev pub locality-refusal : Locality → ℕ
+locality-refusal locality.Nothing = 0
+locality-refusal locality.Global = 0
+locality-refusal locality.Local = 0
+locality-refusal (locality.Refused n) = n
+
+abbrev pub locality-value : Locality → ℕ
+locality-value locality.Nothing = 0
+locality-value locality.Global = 1
+locality-value locality.Local = 2
+locality-value (locality.Refused n) = 0

@@ -1,0 +1,44 @@
+-- `put_spaced` meets its contract. Assumes nothing.
+use borrow.Author.Needs.{needs}
+use Rattle.printing.proofs.Pieces.{spaced-put}
+use Rattle.printing.proofs.put_spaced.Statement.{statement}
+use Rattle.printing.proofs.put_spaced.Tie as tie
+
+put-text-requires : tie.Need-put-text-requires
+put-text-requires c κs = search needs
+
+slice-aggregate-put-text : tie.Need-slice-aggregate-put-text
+slice-aggregate-put-text c = search needs
+
+put-text-requires-2 : tie.Need-put-text-requires-2
+put-text-requires-2 c κs = search needs
+
+put-number-requires : tie.Need-put-number-requires
+put-number-requires c κs = search needs
+
+same-length : tie.Need-same-length
+same-length c = search needs
+
+returns : tie.Need-returns
+returns c =
+    let at-put-number = c .before .before in
+    let at-put-text2 = at-put-number .before .before .before .before in
+    let at-put-text = at-put-text2 .before .before .before .before .before in
+    let at-args = at-put-text .before .before .before .before in
+    let a = at-args .args in
+    let p = at-put-text .put-text in
+    let q = at-put-text2 .put-text2 in
+    let s = at-put-number .put-number in
+    spaced-put (a .out .now) (a .n) (p .last .0) (q .last .0) (s .last .0) (p .result) (q .result) (s .result) (a .at) (a .word .now) (at-args .pre)
+    (p .ensures) (q .ensures) (s .ensures)
+
+pub put-spaced-spec : {M : Type 1} → statement M
+put-spaced-spec =
+    tie.close
+    (tie.spec
+    put-text-requires
+    slice-aggregate-put-text
+    put-text-requires-2
+    put-number-requires
+    same-length
+    returns)

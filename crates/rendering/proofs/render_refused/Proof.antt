@@ -1,0 +1,25 @@
+-- `render_refused` meets its contract. Assumes nothing.
+use borrow.Author.Needs.{needs}
+use Rattle.rendering.proofs.Rendered.{no-room, refused-rendered}
+use Rattle.rendering.proofs.render_refused.Statement.{statement}
+use Rattle.rendering.proofs.render_refused.Tie as tie
+
+returns : tie.Need-returns
+returns c = no-room 0 _ (c .before .before .args .out .now) (c .if1 .taken)
+
+put-refused-line-requires : tie.Need-put-refused-line-requires
+put-refused-line-requires c κs = search needs
+
+same-length : tie.Need-same-length
+same-length c = search needs
+
+returns-2 : tie.Need-returns-2
+returns-2 c =
+    let at-put-refused-line = c .before .before in
+    let at-if1 = at-put-refused-line .before .before in
+    let at-args = at-if1 .before .before in
+    refused-rendered (at-args .args .out .now) (at-put-refused-line .put-refused-line .last .0) (at-put-refused-line .put-refused-line .result)
+    (at-if1 .if1 .left) (at-args .args .no) (at-put-refused-line .put-refused-line .ensures)
+
+pub render-refused-spec : {M : Type 1} → statement M
+render-refused-spec = tie.close (tie.spec returns put-refused-line-requires same-length returns-2)

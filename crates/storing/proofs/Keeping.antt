@@ -1,0 +1,249 @@
+-- What is kept of a token: its bytes without their escapes, or with each `[^` as `[!`, byte by byte; by its class, and where it is refused; and that it is
+-- no longer than the token and has its class. Assumes nothing.
+use Prim.Native.Nat.{ℕ, suc, _+_, _-_, _<_, _≤_}
+use mathlib.Core.Path.{_≡_, refl, sym, ap, _∙_}
+use mathlib.Core.List.{List, [], _∷_}
+use mathlib.Core.Bool.{Bool, true, false, cond}
+use native.Mathlib.Nat.{add-assoc}
+use native.Mathlib.Numerals.{add-one}
+use native.Mathlib.Omega.{arith}
+use borrow.Author.Tests.{eq-eqb, ne-eqb, lt-ltb, le-ltb, ltb-true, ltb-false}
+use lib.Dec.{eqb, ltb}
+use lib.ListN.{length, getD, take, drop, length-take, length-drop, drop-of-length-le}
+use lib.Seq.{drop-cons, drop-drop}
+use Rattle.numbers.specs.Limits.{token-limit}
+use Rattle.lists.specs.Pieces.{piece}
+use Rattle.lists.proofs.PiecesLaws.{pieces-cons, pieces-end, pieces-few}
+use Rattle.pattern.specs.Storing.{stored, stored-byte, negated-from}
+use Rattle.pattern.specs.declared.Edition.{Edition}
+use Rattle.pattern.specs.Patterns.{refusal}
+use Rattle.classes.specs.declared.Class.{Class}
+use Rattle.classes.specs.declared.Class.the-variants.{Exact, Escaped, NonStar, Star, All}
+use Rattle.classes.specs.Classes.{class-of, lone-star, quoted, scan, unquoted}
+use Rattle.storing.specs.Keeping.{over, unescaped, unescape, Keep, kept, refused, keep, keep-as, keep-class, keep-glob, keep-scanned, keep-when}
+
+pub byte-here : (s : List ℕ) (i : ℕ) → i < length s → drop i s ≡ getD s i 0 ∷ drop (i + 1) s
+byte-here s i h = rw (add-one i) (drop-cons s i 0 h)
+
+-- ---- without the escapes: a `\` goes where a byte stands behind it
+stays : (c : ℕ) (s : List ℕ) → (c ≡ 92 → ⊥) → unescaped c s ≡ piece c 0
+unfolding unescaped
+stays c [] n = refl
+stays c (d ∷ s) n = rw (ne-eqb c 92 n)
+
+goes : (c d : ℕ) (s : List ℕ) → c ≡ 92 → unescaped c (d ∷ s) ≡ piece d 1
+unfolding unescaped
+goes c d s e = rw (eq-eqb c 92 e)
+
+past : (c : ℕ) (s : List ℕ) → c ≡ 92 → drop (unescaped c s .more) s ≡ drop 1 s
+unfolding unescaped
+past c [] e = refl
+past c (d ∷ s) e = rw (goes c d s e)
+
+pub unescape-few : (t : List ℕ) → length (unescape t) ≤ length t
+unfolding unescape
+unescape-few t = pieces-few unescaped t
+
+pub unescape-end : (t : List ℕ) (i : ℕ) → length t ≤ i → unescape (drop i t) ≡ []
+unfolding unescape
+unescape-end t i h = pieces-end unescaped t i h
+
+module _ (t : List ℕ) (i : ℕ) (h : i < length t) where
+  here : unescape (drop i t) ≡ unescaped (getD t i 0) (drop (i + 1) t) .what ∷ unescape (drop (unescaped (getD t i 0) (drop (i + 1) t) .more) (drop (i + 1) t))
+  unfolding unescape
+  here = rw (byte-here t i h) (pieces-cons unescaped _ _)
+
+  pub unescape-some : 0 < length (unescape (drop i t))
+  unescape-some = rw here (omega arith)
+
+  pub unescape-stays : (getD t i 0 ≡ 92 → ⊥) → unescape (drop i t) ≡ getD t i 0 ∷ unescape (drop (i + 1) t)
+  unescape-stays n = here ∙ rw (stays _ _ n)
+
+  pub unescape-stays-last : length t ≤ i + 1 → unescape (drop i t) ≡ getD t i 0 ∷ unescape (drop (i + 1) t)
+  unfolding unescaped
+  unescape-stays-last l = here ∙ rw (drop-of-length-le t l)
+
+  module _ (e : getD t i 0 ≡ 92) where
+    pub unescape-goes : i + 1 < length t → unescape (drop i t) ≡ getD t (i + 1) 0 ∷ unescape (drop (i + 1 + 1) t)
+    unescape-goes l = here ∙ rw (byte-here t (i + 1) l, goes _ _ _ e)
+
+    goes-one : length (unescape (drop i t)) ≡ suc (length (unescape (drop (i + 2) t)))
+    goes-one = ap length here ∙ rw (past _ _ e, drop-drop, add-assoc)
+
+-- ---- how many they are: n of the first i bytes are left
+pub record Counted (t : List ℕ) (i n : ℕ) : Type 0 where
+  pub few : n ≤ i
+  pub rest : length (unescape t) ≡ n + length (unescape (drop i t))
+
+pub counted-start : (t : List ℕ) → Counted t 0 0
+counted-start t = record { few = omega arith; rest = omega arith }
+
+module _ (t : List ℕ) (i n : ℕ) (z : Counted t i n) where
+  pub counted-end : length t ≤ i → n ≡ length (unescape t)
+  counted-end h = omega (arith, z .rest, ap length (unescape-end t i h))
+
+  module _ (h : i < length t) where
+    pub counted-stays : (getD t i 0 ≡ 92 → ⊥) → Counted t (i + 1) (n + 1)
+    counted-stays q = record { few = omega (arith, z .few); rest = omega (arith, z .rest, ap length (unescape-stays t i h q)) }
+
+    pub counted-goes : getD t i 0 ≡ 92 → Counted t (i + 2) (n + 1)
+    counted-goes e = record { few = omega (arith, z .few); rest = omega (arith, z .rest, goes-one t i h e) }
+
+-- ---- each `[^` as `[!`
+pub negated-here : (b : Bool) (s : List ℕ) (i : ℕ) → i < length s → (x : ℕ) → x ≡ stored-byte b (getD s i 0)
+    → negated-from b (drop i s) ≡ x ∷ negated-from (eqb (getD s i 0) 91) (drop (i + 1) s)
+unfolding negated-from
+negated-here b s i h x e = rw (byte-here s i h, e)
+
+pub negated-end : (b : Bool) (s : List ℕ) (i : ℕ) → length s ≤ i → negated-from b (drop i s) ≡ []
+unfolding negated-from
+negated-end b s i h = rw (drop-of-length-le s h)
+
+length-negated : (b : Bool) (s : List ℕ) → length (negated-from b s) ≡ length s
+unfolding negated-from
+length-negated b [] = refl
+length-negated b (c ∷ s) = ap suc (length-negated (eqb c 91) s)
+
+pub negated-fits : (s d : List ℕ) → length s ≤ length d → length (negated-from false s) ≤ length d
+negated-fits s d h = rw length-negated h
+
+pub length-stored : (e : Edition) (s : List ℕ) → length s ≡ length (stored e s)
+unfolding stored
+length-stored e s = sym (length-negated false s)
+
+-- ---- a glob; n is what `pattern_refusal` answers
+module _ (e : Edition) (k : Class) (t : List ℕ) (n : ℕ) (q : n ≡ refusal e (stored e t)) where
+  pub glob-refused : (n ≡ 0 → ⊥) → keep-glob e k t ≡ refused n
+  unfolding keep-glob keep-when
+  glob-refused h = rw (← q, ne-eqb n 0 h)
+
+  pub glob-kept : n ≡ 0 → keep-glob e k t ≡ kept k (stored e t)
+  unfolding keep-glob keep-when
+  glob-kept h = rw (← q, eq-eqb n 0 h)
+
+-- ---- without a look at quotes; b is what `is_lone_star` answers, and k what `analyze_glob_pattern` does
+module _ (e : Edition) (t : List ℕ) (b : Bool) (l : b ≡ lone-star t) where
+  pub keep-lone : b ≡ true → keep-scanned e t ≡ kept All []
+  unfolding keep-scanned
+  keep-lone h = rw (← l, h)
+
+  module _ (h : b ≡ false) (k : Class) (q : k ≡ scan Exact false t) where
+    by-class : keep-scanned e t ≡ keep-as e k t
+    unfolding keep-scanned
+    by-class = rw (← l, h, ← q)
+
+    pub keep-exact : k ≡ Exact → keep-scanned e t ≡ kept Exact t
+    unfolding keep-as
+    keep-exact c = by-class ∙ rw c
+
+    pub keep-escaped : k ≡ Escaped → keep-scanned e t ≡ kept Escaped (unescape t)
+    unfolding keep-as
+    keep-escaped c = by-class ∙ rw c
+
+    pub keep-non-star : k ≡ NonStar → keep-scanned e t ≡ keep-glob e NonStar t
+    unfolding keep-as
+    keep-non-star c = by-class ∙ rw c
+
+    pub keep-star : k ≡ Star → keep-scanned e t ≡ keep-glob e Star t
+    unfolding keep-as
+    keep-star c = by-class ∙ rw c
+
+    pub keep-all : k ≡ All → keep-scanned e t ≡ kept All []
+    unfolding keep-as
+    keep-all c = by-class ∙ rw c
+
+-- ---- the whole token; b is what `is_quoted` answers
+module _ (e : Edition) (t : List ℕ) where
+  pub keep-over : token-limit < length t → keep e t ≡ refused 1
+  unfolding keep
+  keep-over h = rw (lt-ltb token-limit (length t) h)
+
+  module _ (h : length t ≤ token-limit) where
+    within : keep e t ≡ keep-class e t
+    unfolding keep
+    within = rw (le-ltb token-limit (length t) h)
+
+    module _ (b : Bool) (q : b ≡ quoted t) where
+      pub keep-quoted : b ≡ true → (s : List ℕ) → s ≡ take (length t - 1 - 1) (drop 1 t) → keep e t ≡ kept Exact s
+      unfolding keep-class unquoted
+      keep-quoted c s d =
+          let n : length t - 1 - 1 ≡ length t - 2 = omega arith in
+          within ∙ rw (← q, c, d, n)
+
+      pub keep-unquoted : b ≡ false → keep e t ≡ keep-scanned e t
+      unfolding keep-class
+      keep-unquoted c = within ∙ rw (← q, c)
+
+-- ---- no longer than the token
+abbrev pub bytes : Keep → List ℕ
+bytes (kept k b) = b
+bytes (refused n) = []
+
+unquoted-few : (t : List ℕ) → length (unquoted t) ≤ length t
+unfolding unquoted
+unquoted-few t = simp (length-take, length-drop) (omega arith)
+
+glob-few : (e : Edition) (k : Class) (t : List ℕ) → length (bytes (keep-glob e k t)) ≤ length t
+unfolding keep-glob keep-when
+glob-few e k t = few (eqb (refusal e (stored e t)) 0)
+  where
+    few : (x : Bool) → length (bytes (cond x (kept k (stored e t)) (refused (refusal e (stored e t))))) ≤ length t
+    few true = omega (arith, length-stored e t)
+    few false = omega arith
+
+as-few : (e : Edition) (k : Class) (t : List ℕ) → length (bytes (keep-as e k t)) ≤ length t
+unfolding keep-as
+as-few e Exact t = omega arith
+as-few e Escaped t = unescape-few t
+as-few e NonStar t = glob-few e NonStar t
+as-few e Star t = glob-few e Star t
+as-few e All t = omega arith
+
+scanned-few : (e : Edition) (t : List ℕ) → length (bytes (keep-scanned e t)) ≤ length t
+unfolding keep-scanned
+scanned-few e t = few (lone-star t)
+  where
+    few : (x : Bool) → length (bytes (cond x (kept All []) (keep-as e (scan Exact false t) t))) ≤ length t
+    few true = omega arith
+    few false = as-few e (scan Exact false t) t
+
+class-few : (e : Edition) (t : List ℕ) → length (bytes (keep-class e t)) ≤ length t
+unfolding keep-class
+class-few e t = few (quoted t)
+  where
+    few : (x : Bool) → length (bytes (cond x (kept Exact (unquoted t)) (keep-scanned e t))) ≤ length t
+    few true = unquoted-few t
+    few false = scanned-few e t
+
+pub keep-few : (e : Edition) (t : List ℕ) → length (bytes (keep e t)) ≤ token-limit
+keep-few e t = few (ltb token-limit (length t)) refl
+  where
+    few : (x : Bool) → ltb token-limit (length t) ≡ x → length (bytes (keep e t)) ≤ token-limit
+    few true h = rw (keep-over e t (ltb-true token-limit (length t) h)) (omega arith)
+    few false h =
+        let l : length t ≤ token-limit = ltb-false token-limit (length t) h in
+        rw (within e t l) (omega (arith, class-few e t))
+
+-- ---- what is kept has the token's class
+when-class : (x : Bool) (n : ℕ) (j k : Class) (s b : List ℕ) → cond x (kept j s) (refused n) ≡ kept k b → k ≡ j
+when-class true n j k s b h = cc
+when-class false n j k s b h = let z : _≡_ {A = ℕ} 0 1 = cc in absurd (omega arith)
+
+as-class : (e : Edition) (j k : Class) (t b : List ℕ) → keep-as e j t ≡ kept k b → k ≡ j
+unfolding keep-as keep-glob keep-when
+as-class e Exact k t b h = cc
+as-class e Escaped k t b h = cc
+as-class e NonStar k t b h = when-class (eqb (refusal e (stored e t)) 0) (refusal e (stored e t)) NonStar k (stored e t) b h
+as-class e Star k t b h = when-class (eqb (refusal e (stored e t)) 0) (refusal e (stored e t)) Star k (stored e t) b h
+as-class e All k t b h = cc
+
+pub kept-class : (e : Edition) (k : Class) (t b : List ℕ) → keep e t ≡ kept k b → k ≡ class-of t
+unfolding keep keep-class keep-scanned class-of
+kept-class e k t b = go (over t) (quoted t) (lone-star t)
+  where
+    go : (x y z : Bool) → cond x (refused 1) (cond y (kept Exact (unquoted t)) (cond z (kept All []) (keep-as e (scan Exact false t) t))) ≡ kept k b
+        → k ≡ cond y Exact (cond z All (scan Exact false t))
+    go true y z h = let w : _≡_ {A = ℕ} 0 1 = cc in absurd (omega arith)
+    go false true z h = cc
+    go false false true h = cc
+    go false false false h = as-class e (scan Exact false t) k t b h

@@ -1,0 +1,60 @@
+-- What is kept of a token, or the number that refuses it. Assumes nothing.
+use Prim.Native.Nat.{ℕ}
+use mathlib.Core.List.{List, [], _∷_}
+use mathlib.Core.Bool.{Bool, false, cond}
+use lib.Dec.{eqb, ltb}
+use lib.ListN.{length}
+use Rattle.numbers.specs.Limits.{token-limit}
+use Rattle.numbers.specs.Refusals.{too-long}
+use Rattle.numbers.specs.Signs.{backslash}
+use Rattle.lists.specs.Pieces.{piece, Reader, pieces}
+use Rattle.pattern.specs.declared.Edition.{Edition}
+use Rattle.pattern.specs.Patterns.{refusal}
+use Rattle.pattern.specs.Storing.{stored}
+use Rattle.classes.specs.declared.Class.{Class}
+use Rattle.classes.specs.declared.Class.the-variants.{Exact, Escaped, NonStar, Star, All}
+use Rattle.classes.specs.Classes.{lone-star, quoted, scan, unquoted}
+
+-- "Escaped is stored unescaped; a final `\` stays"
+unfoldable pub unescaped : Reader ℕ ℕ
+unescaped c [] = piece c 0
+unescaped c (d ∷ s) = cond (eqb c backslash) (piece d 1) (piece c 0)
+
+unfoldable pub unescape : List ℕ → List ℕ
+unescape t = pieces unescaped t
+
+-- a class and the bytes that are stored, or a refusal's number
+pub data Keep : Type 0 where
+  kept : Class → List ℕ → Keep
+  refused : ℕ → Keep
+
+unfoldable pub keep-when : ℕ → Class → List ℕ → Keep
+keep-when n k b = cond (eqb n 0) (kept k b) (refused n)
+
+-- "A glob must be UTF-8; each `[^` is stored as `[!`." "No closing `]`: refused", and so are stars side by side: asked of what would be stored
+unfoldable pub keep-glob : Edition → Class → List ℕ → Keep
+keep-glob e k t = keep-when (refusal e (stored e t)) k (stored e t)
+
+-- by the class; "All (length 0)"
+unfoldable pub keep-as : Edition → Class → List ℕ → Keep
+keep-as e Exact t = kept Exact t
+keep-as e Escaped t = kept Escaped (unescape t)
+keep-as e NonStar t = keep-glob e NonStar t
+keep-as e Star t = keep-glob e Star t
+keep-as e All t = kept All []
+
+-- without a look at quotes
+unfoldable pub keep-scanned : Edition → List ℕ → Keep
+keep-scanned e t = cond (lone-star t) (kept All []) (keep-as e (scan Exact false t) t)
+
+-- "In order: starts and ends with `"` …: Exact, inside kept"
+unfoldable pub keep-class : Edition → List ℕ → Keep
+keep-class e t = cond (quoted t) (kept Exact (unquoted t)) (keep-scanned e t)
+
+-- over the limit, quotes counted
+abbrev pub over : List ℕ → Bool
+over t = ltb token-limit (length t)
+
+-- "trimmed token … over its limit", then by its class
+unfoldable pub keep : Edition → List ℕ → Keep
+keep e t = cond (over t) (refused too-long) (keep-class e t)

@@ -1,0 +1,2 @@
+mod AddedEvents
+mod AddedTexts

@@ -1,0 +1,3 @@
+pub mod Words
+pub mod Enders
+pub mod Ends
