@@ -1,0 +1,94 @@
+-- What the release desk prints for an edit of a trial book and for a question, and what a command leaves. Assumes nothing.
+use Prim.Native.Nat.{ℕ, _-_}
+use mathlib.Core.Path.{_≡_}
+use mathlib.Core.List.{List, [], _∷_, _++_}
+use mathlib.Core.Bool.{Bool, true, cond}
+use mathlib.Core.Option.{Option}
+use lib.Dec.{eqb}
+use lib.ListN.{length}
+use Rattle.numbers.specs.Signs.{line-feed, space}
+use Rattle.lists.specs.Front.{front}
+use Rattle.lists.specs.Texts.{codes}
+use Rattle.book.specs.declared.Counts.{Counts}
+use Rattle.book.specs.Books.{Book, export}
+use Rattle.book.specs.Layout.{Buffers}
+use Rattle.ranking.specs.Matching.{name-of}
+use Rattle.export_list.specs.declared.Membership.{Membership}
+use Rattle.export_list.specs.declared.Membership.the-variants as membership
+use Rattle.export_list.specs.Membership.{contains-asked}
+use Rattle.changes.specs.declared.Edited.{Edited}
+use Rattle.changes.specs.declared.Edited.the-variants as answer
+use Rattle.changes.specs.Changes.{Change, after, counts-after, edited}
+use Rattle.input.specs.Splitting.{name-part}
+use Rattle.printing.specs.Printing.{numbered, refused-answer, refused-fields}
+use Rattle.rendering.specs.Lines.{symbol-answered}
+use Rattle.answering.specs.declared.Ran.{Ran}
+
+-- ---- what is printed for an edit: of the counts c before it, and what it answers. "`! N` for a refusal"
+-- "`added LINE`"
+unfoldable pub added : Counts → Edited → List ℕ
+added c (answer.Done d) = numbered (codes "added") (c .lines)
+added c (answer.Refused n) = refused-answer n
+
+-- "`struck LINE`"
+unfoldable pub struck : ℕ → Edited → List ℕ
+struck i (answer.Done d) = numbered (codes "struck") i
+struck i (answer.Refused n) = refused-answer n
+
+-- "`undone`"
+unfoldable pub undone : Edited → List ℕ
+undone (answer.Done d) = codes "undone" ++ line-feed ∷ []
+undone (answer.Refused n) = refused-answer n
+
+-- "`settled LINES` (how many are left)"
+unfoldable pub settled : Edited → List ℕ
+settled (answer.Done d) = numbered (codes "settled") (d .lines)
+settled (answer.Refused n) = refused-answer n
+
+-- "`added COUNT`": how many lines were added
+unfoldable pub symbols-added : Counts → Edited → List ℕ
+symbols-added c (answer.Done d) = numbered (codes "added") (d .lines - c .lines)
+symbols-added c (answer.Refused n) = refused-answer n
+
+-- ---- `ask`: "as verlist prints it; for an export list `NAME in` or `NAME out`"
+abbrev pub member-fields : Membership → List ℕ
+member-fields membership.Within = codes "in"
+member-fields membership.Without = codes "out"
+member-fields (membership.Refused n) = refused-fields n
+
+unfoldable pub member-line : List ℕ → Membership → List ℕ
+member-line name m = name ++ space ∷ (member-fields m ++ line-feed ∷ [])
+
+unfoldable pub member-answered : Option Book → List ℕ → List ℕ
+member-answered w t = member-line (name-part t) (contains-asked w (name-of (name-part t) (name-part t)))
+
+unfoldable pub asked : ℕ → Option Book → List ℕ → List ℕ
+asked kind w t = cond (eqb kind export) (member-answered w t) (symbol-answered w t)
+
+-- ---- a command: what is printed, the counts and the buffers behind it, and whether it is a command at all
+pub record Step : Type 0 where
+  pub printed : List ℕ
+  pub counts : Counts
+  pub left : Buffers
+  pub known : Bool
+
+-- an edit x, and what is said of its answer
+abbrev pub editing : Counts → Buffers → (Edited → List ℕ) → Change → Step
+editing c b say x = record { printed = say (edited x); counts = counts-after c x; left = after b x; known = true }
+
+-- nothing is changed
+abbrev pub telling : Counts → Buffers → List ℕ → Step
+telling c b t = record { printed = t; counts = c; left = b; known = true }
+
+-- ---- what is answered when a command has run: it stands at the front of a lent buffer
+abbrev pub ran : Step → Ran
+ran s = record { counts = s .counts; length = length (s .printed); known = s .known; refusal = 0 }
+
+-- the same of an edit's answer, with the counts c before it
+abbrev pub edit-ran : Counts → (Edited → List ℕ) → Edited → Ran
+edit-ran c say (answer.Done d) = record { counts = d; length = length (say (answer.Done d)); known = true; refusal = 0 }
+edit-ran c say (answer.Refused n) = record { counts = c; length = length (say (answer.Refused n)); known = true; refusal = 0 }
+
+-- s has run: r is answered, it stands at the front of `out`, and the buffers are as it leaves them
+unfoldable pub Runs : Step → List ℕ → Ran → List ℕ → Buffers → Type 0
+Runs s out r out′ b′ = (r ≡ ran s) × (out′ ≡ front (s .printed) out) × (b′ ≡ s .left)

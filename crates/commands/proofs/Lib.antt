@@ -1,0 +1,5 @@
+mod Beginnings
+pub mod Ends
+mod Exits
+mod Numbers
+mod Points

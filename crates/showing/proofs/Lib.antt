@@ -1,0 +1,4 @@
+pub mod Pieces
+pub mod Numbers
+pub mod Lines
+pub mod Dump

@@ -1,0 +1,23 @@
+-- The text before the mark, and a line of commands, lie within the input. Assumes nothing.
+use Prim.Native.Nat.{ℕ, _<_, _≤_}
+use mathlib.Core.Path.{_≡_, sym, _∙_}
+use mathlib.Core.List.{List}
+use native.Mathlib.Omega.{arith}
+use lib.ListN.{length, take}
+use lib.Seq.{length-take-le}
+use Rattle.linker_script.specs.declared.Found.{Found}
+use Rattle.linker_script.specs.declared.Found.the-variants.{Here}
+use Rattle.input.specs.Splitting.{mark}
+use Rattle.input.proofs.Marks.{mark-within}
+use Rattle.commands.specs.Commands.{line-end}
+use Rattle.commands.proofs.Ends.{end-within}
+
+module _ (s : List ℕ) (x : Found) (e : x ≡ mark s) (p : ℕ) (f : x ≡ Here p) where
+  pub text-within : p < length s
+  text-within = mark-within s p (sym e ∙ f)
+
+  pub text-count : p ≡ length (take p s)
+  text-count = sym (length-take-le p s (omega (arith, text-within)))
+
+pub line-within : (s : List ℕ) (at end : ℕ) → at < length s → end ≡ line-end s at → (at ≤ end) × (end ≤ length s)
+line-within s at end h e = rw e (end-within s at (omega arith))

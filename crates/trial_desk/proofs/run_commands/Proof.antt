@@ -1,0 +1,101 @@
+-- `run_commands` is safe and ends: each turn goes behind a line. Assumes nothing.
+use Prim.Native.Nat.{_-_}
+use mathlib.Core.Path.{_≡_}
+use borrow.Author.Needs.{needs}
+use native.Mathlib.Omega.{arith}
+use lib.ListN.{length}
+use Rattle.trial_desk.proofs.Parts.{line-within}
+use Rattle.trial_desk.proofs.run_commands.Statement.{statement}
+use Rattle.trial_desk.proofs.run_commands.Tie as tie
+
+abbrev Inv-loop : tie.InvT-loop
+Inv-loop nodes names lines₀ pool₀ journal₀ commands out₀ c₀ at₀ lines pool journal out c at =
+    (length lines ≡ length lines₀) × (length pool ≡ length pool₀) × (length journal ≡ length journal₀)
+
+abbrev μ-loop : tie.MeasureT-loop
+μ-loop nodes names lines₀ pool₀ journal₀ commands out₀ c₀ at₀ lines pool journal out c at = length commands - at
+
+loop-holds : tie.Need-loop-holds Inv-loop μ-loop
+loop-holds c = search needs
+
+line-end-requires : tie.Need-line-end-requires Inv-loop μ-loop
+line-end-requires c κs = search needs
+
+sub-run-command : tie.Need-sub-run-command Inv-loop μ-loop
+sub-run-command c =
+    let f = c .before .before .before in
+    let o = f .before .before in
+    let s = o .before .before .before .before .before .before .before in
+    let w = line-within (s .args .commands .now) (o .loop .at) (f .line-end .result) (f .before .loop-test .taken) (f .line-end .ensures) in
+    w .0
+
+part-run-command-start : tie.Need-part-run-command-start Inv-loop μ-loop
+part-run-command-start c =
+    let f = c .before .before .before in
+    let o = f .before .before in
+    let s = o .before .before .before .before .before .before .before in
+    let w = line-within (s .args .commands .now) (o .loop .at) (f .line-end .result) (f .before .loop-test .taken) (f .line-end .ensures) in
+    w .0
+
+part-run-command-end : tie.Need-part-run-command-end Inv-loop μ-loop
+part-run-command-end c =
+    let f = c .before .before .before in
+    let o = f .before .before in
+    let s = o .before .before .before .before .before .before .before in
+    let w = line-within (s .args .commands .now) (o .loop .at) (f .line-end .result) (f .before .loop-test .taken) (f .line-end .ensures) in
+    w .1
+
+run-command-requires : tie.Need-run-command-requires Inv-loop μ-loop
+run-command-requires c κs = search needs
+
+add-at : tie.Need-add-at Inv-loop μ-loop
+add-at c =
+    let f = c .before .before .before .before .before .before .before .before .before .before .before .before in
+    let o = f .before .before in
+    let s = o .before .before .before .before .before .before .before in
+    let w = line-within (s .args .commands .now) (o .loop .at) (f .line-end .result) (f .before .loop-test .taken) (f .line-end .ensures) in
+    let g = s .good in
+    omega (arith, w .1)
+
+loop-less : tie.Need-loop-less Inv-loop μ-loop
+loop-less c =
+    let f = c .before .before .before .before .before .before .before .before .before .before .before .before in
+    let o = f .before .before in
+    let s = o .before .before .before .before .before .before .before in
+    let w = line-within (s .args .commands .now) (o .loop .at) (f .line-end .result) (f .before .loop-test .taken) (f .line-end .ensures) in
+    omega (arith, w .0, w .1)
+
+loop-again : tie.Need-loop-again Inv-loop μ-loop
+loop-again c = search needs
+
+same-length : tie.Need-same-length Inv-loop μ-loop
+same-length c = search needs
+
+same-length-2 : tie.Need-same-length-2 Inv-loop μ-loop
+same-length-2 c = search needs
+
+same-length-3 : tie.Need-same-length-3 Inv-loop μ-loop
+same-length-3 c = search needs
+
+returns : tie.Need-returns Inv-loop μ-loop
+returns c = search needs
+
+pub run-commands-spec : {M : Type 1} → statement M
+run-commands-spec =
+    tie.close
+    (tie.spec
+    Inv-loop
+    μ-loop
+    loop-holds
+    line-end-requires
+    sub-run-command
+    part-run-command-start
+    part-run-command-end
+    run-command-requires
+    add-at
+    loop-less
+    loop-again
+    same-length
+    same-length-2
+    same-length-3
+    returns)

@@ -1,0 +1,219 @@
+// The release desk: edits of a trial book and questions to it. Standard input (65,536 bytes at most): a version script, or with the argument `export` an export
+// list, a line `%%`, then one command a line. What is printed for a command is rendered by `desk::run_line`; a text that is refused prints `refused` and the number
+// alone. Standard error says what `! N` means, and of a text that is refused where and why.
+use book::Counts;
+use commands::Numeral;
+use commands::line_end;
+use commands::number_at;
+use desk::run_line;
+use input::positions::position_of;
+use input::splitting::find_mark;
+use libc::STDERR_FILENO;
+use libc::STDIN_FILENO;
+use libc::STDOUT_FILENO;
+use linker_script::Found;
+use linker_script::byte_at;
+use numbers::TOO_LONG;
+use opening::Opened;
+use packing::same_bytes;
+use rendering::render_refused;
+
+// The longest input.
+const INPUT_LIMIT: usize = 65536;
+
+// The first n bytes of s, or all of it.
+fn front(s: &[u8], n: usize) -> &[u8] {
+    if n < s.len() {
+        return &s[0..n];
+    }
+    s
+}
+
+fn say(text: &[u8]) {
+    io::write_all(STDERR_FILENO, text);
+}
+
+// A text that is refused: the number, and for a person where and why.
+fn refuse(text: &[u8], no: u32, place: usize, out: &mut [u8; 1048576]) {
+    let length = render_refused(no, out);
+    io::write_all(STDOUT_FILENO, front(out, length));
+    let position = position_of(text, place);
+    say(b"trial_desk: ");
+    meanings::say_place(position.line, position.column);
+    meanings::say_meaning(no);
+}
+
+// What a line `! N` means.
+fn explain(printed: &[u8]) {
+    if byte_at(printed, 0) != b'!' {
+        return;
+    }
+    match number_at(printed, 2) {
+        Numeral::Nothing => {}
+        Numeral::Number { value, end } => {
+            if byte_at(printed, end) == b'\n' {
+                say(b"trial_desk: ");
+                meanings::say_meaning(value);
+            }
+        }
+    }
+}
+
+// What is known, where a line is no command.
+fn say_known() {
+    say(
+        b"trial_desk: known are add NODE SECTION LANGUAGE TOKEN, strike LINE, undo, settle, symbol TEXT, symbol! TEXT, ",
+    );
+    say(b"ask NAME[@VERSION], counts, lines and dump\n");
+}
+
+// A command's line: what it prints, and the counts behind it.
+fn run_command(
+    c: Counts,
+    nodes: &[u32],
+    names: &[u8],
+    lines: &mut [u32],
+    pool: &mut [u8],
+    journal: &mut [u32],
+    line: &[u8],
+    out: &mut [u8; 1048576],
+) -> Counts {
+    let ran = run_line(c, nodes, names, lines, pool, journal, line, out);
+    let printed = front(out, ran.length);
+    io::write_all(STDOUT_FILENO, printed);
+    if ran.refusal != 0 {
+        say(b"trial_desk: ");
+        meanings::say_meaning(ran.refusal);
+    }
+    if !ran.known {
+        say_known();
+    }
+    explain(printed);
+    ran.counts
+}
+
+// The commands, one a line; a last line feed may lack.
+fn run_commands(
+    opened: Counts,
+    nodes: &[u32],
+    names: &[u8],
+    lines: &mut [u32],
+    pool: &mut [u8],
+    journal: &mut [u32],
+    commands: &[u8],
+    out: &mut [u8; 1048576],
+) {
+    let mut c = opened;
+    let mut at = 0;
+    while at < commands.len() {
+        let end = line_end(commands, at);
+        c = run_command(
+            c,
+            nodes,
+            names,
+            lines,
+            pool,
+            journal,
+            &commands[at..end],
+            out,
+        );
+        at = end + 1;
+    }
+}
+
+fn open(
+    export: bool,
+    text: &[u8],
+    nodes: &mut [u32],
+    names: &mut [u8],
+    lines: &mut [u32],
+    pool: &mut [u8],
+    journal: &mut [u32],
+) -> Opened {
+    if export {
+        return export_list::open(text, nodes, names, lines, pool, journal);
+    }
+    version_script::open(text, nodes, names, lines, pool, journal)
+}
+
+fn work(
+    export: bool,
+    text: &[u8],
+    commands: &[u8],
+    nodes: &mut [u32],
+    names: &mut [u8],
+    lines: &mut [u32],
+    pool: &mut [u8],
+    journal: &mut [u32],
+    out: &mut [u8; 1048576],
+) {
+    let opened = open(export, text, nodes, names, lines, pool, journal);
+    if opened.refusal != 0 {
+        return refuse(text, opened.refusal, opened.place, out);
+    }
+    run_commands(
+        opened.counts,
+        nodes,
+        names,
+        lines,
+        pool,
+        journal,
+        commands,
+        out,
+    );
+}
+
+// "Room: 1,024 nodes, 4,096 lines, 65,536 bytes each of names and pool, 1,024 edits". `out` has the room that `run_line` asks for with these and the longest line.
+fn sit(export: bool, text: &[u8], commands: &[u8], out: &mut [u8; 1048576]) {
+    let mut nodes = [0u32; 3072];
+    let mut names = [0u8; 65536];
+    let mut lines = [0u32; 16384];
+    let mut pool = [0u8; 65536];
+    let mut journal = [0u32; 2048];
+    work(
+        export,
+        text,
+        commands,
+        &mut nodes,
+        &mut names,
+        &mut lines,
+        &mut pool,
+        &mut journal,
+        out,
+    );
+}
+
+fn divide(export: bool, input: &[u8], out: &mut [u8; 1048576]) {
+    if INPUT_LIMIT < input.len() {
+        return refuse(input, TOO_LONG, 0, out);
+    }
+    match find_mark(input) {
+        Found::Nowhere => sit(export, input, &input[..0], out),
+        Found::Here(p) => {
+            let from = p + 3;
+            if input.len() <= from {
+                return sit(export, &input[..p], &input[..0], out);
+            }
+            sit(export, &input[..p], &input[from..], out)
+        }
+    }
+}
+
+fn read(export: bool) {
+    let mut input = [0u8; 65537];
+    let mut out = [0u8; 1048576];
+    let n = io::read_full(STDIN_FILENO, &mut input);
+    divide(export, front(&input, n), &mut out);
+}
+
+fn main() {
+    if os::arg_count() < 2 {
+        return read(false);
+    }
+    let mut word = [0u8; 8];
+    let n = os::arg(1, &mut word);
+    if same_bytes(front(&word, n), b"export") {
+        return read(true);
+    }
+    say(b"trial_desk: the one argument that is known is export, for an export list\n");
+}
