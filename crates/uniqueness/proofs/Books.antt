@@ -1,0 +1,125 @@
+-- What checks a book, opens a text into one and asks it leaves one answer and one end state: book, node_check, line_check, journal_check, book_check, building, opening, ranking, lookups, version_script, export_list. Assumes nothing.
+use mathlib.Core.Path.{refl}
+use Rattle.uniqueness.specs.Unique.{Unique}
+use Rattle.uniqueness.proofs.Same.{_▹_, same}
+use Rattle.book.proofs.editions.edition_of
+use Rattle.book.proofs.nodes.first_named
+use Rattle.node_check.proofs.nodes_packed
+use Rattle.node_check.proofs.nodes_good
+use Rattle.line_check.proofs.lines_packed
+use Rattle.line_check.proofs.has_star
+use Rattle.journal_check.proofs.edits_packed
+use Rattle.journal_check.proofs.journal_fits
+use Rattle.book_check.proofs.is_book
+use Rattle.building.proofs.take_extern
+use Rattle.building.proofs.take_closed
+use Rattle.opening.proofs.open as opening-open
+use Rattle.ranking.proofs.rank_of
+use Rattle.ranking.proofs.find_match
+use Rattle.ranking.proofs.names.name_refusal
+use Rattle.lookups.proofs.version_in_book
+use Rattle.lookups.proofs.version_for_symbol
+use Rattle.lookups.proofs.locality_in_book
+use Rattle.lookups.proofs.locality
+use Rattle.lookups.proofs.index.VersionIndex.from_node
+use Rattle.version_script.proofs.open as version-script-open
+use Rattle.version_script.proofs.counts.version_count
+use Rattle.version_script.proofs.counts.parent_count
+use Rattle.version_script.proofs.counts.version_node
+use Rattle.export_list.proofs.open as export-list-open
+use Rattle.export_list.proofs.lookups.contains
+
+-- ---- book
+pub edition-of-unique : Unique edition_of.ended edition_of.Reads.Post
+edition-of-unique κs a x y v w p q = (same p q, refl)
+
+pub first-named-unique : Unique first_named.ended first_named.Reads.Post
+first-named-unique κs a x y v w p q = (same p q, refl)
+
+-- ---- node_check
+pub nodes-packed-unique : Unique nodes_packed.ended nodes_packed.Reads.Post
+nodes-packed-unique κs a x y v w p q = (same p q, refl)
+
+pub nodes-good-unique : Unique nodes_good.ended nodes_good.Reads.Post
+nodes-good-unique κs a x y v w p q = (same p q, refl)
+
+-- ---- line_check
+pub lines-packed-unique : Unique lines_packed.ended lines_packed.Reads.Post
+lines-packed-unique κs a x y v w p q = (same p q, refl)
+
+pub has-star-unique : Unique has_star.ended has_star.Reads.Post
+has-star-unique κs a x y v w p q = (same p q, refl)
+
+-- ---- journal_check
+pub edits-packed-unique : Unique edits_packed.ended edits_packed.Reads.Post
+edits-packed-unique κs a x y v w p q = (same p q, refl)
+
+pub journal-fits-unique : Unique journal_fits.ended journal_fits.Reads.Post
+journal-fits-unique κs a x y v w p q = (same p q, refl)
+
+-- ---- book_check
+pub is-book-unique : Unique is_book.ended is_book.Reads.Post
+is-book-unique κs a x y v w p q = (same p q, refl)
+
+-- ---- building
+pub take-extern-unique : Unique take_extern.ended take_extern.Reads.Post
+take-extern-unique κs a x y v w p q = (same p q, refl)
+
+pub take-closed-unique : Unique take_closed.ended take_closed.Reads.Post
+take-closed-unique κs a x y v w p q = (same p q, refl)
+
+-- ---- opening
+pub opening-open-unique : Unique opening-open.ended opening-open.Reads.Post
+opening-open-unique κs a x y v w p q =
+    let b = same (p .1) (q .1) in
+    (same (p .0) (q .0), λ i. tt ▹ tt ▹ b i .nodes ▹ b i .names ▹ b i .lines ▹ b i .pool ▹ b i .journal ▹ tt)
+
+-- ---- ranking
+pub rank-of-unique : Unique rank_of.ended rank_of.Reads.Post
+rank-of-unique κs a x y v w p q = (same p q, refl)
+
+pub find-match-unique : Unique find_match.ended find_match.Reads.Post
+find-match-unique κs a x y v w p q = (same p q, refl)
+
+pub name-refusal-unique : Unique name_refusal.ended name_refusal.Reads.Post
+name-refusal-unique κs a x y v w p q = (same p q, refl)
+
+-- ---- lookups
+pub version-in-book-unique : Unique version_in_book.ended version_in_book.Reads.Post
+version-in-book-unique κs a x y v w p q = (same p q, refl)
+
+pub version-for-symbol-unique : Unique version_for_symbol.ended version_for_symbol.Reads.Post
+version-for-symbol-unique κs a x y v w p q = (same p q, refl)
+
+pub locality-in-book-unique : Unique locality_in_book.ended locality_in_book.Reads.Post
+locality-in-book-unique κs a x y v w p q = (same p q, refl)
+
+pub locality-unique : Unique locality.ended locality.Reads.Post
+locality-unique κs a x y v w p q = (same p q, refl)
+
+pub from-node-unique : Unique from_node.ended from_node.Reads.Post
+from-node-unique κs a x y v w p q = (same p q, refl)
+
+-- ---- version_script
+pub version-script-open-unique : Unique version-script-open.ended version-script-open.Reads.Post
+version-script-open-unique κs a x y v w p q =
+    let b = same (p .1) (q .1) in
+    (same (p .0) (q .0), λ i. tt ▹ b i .nodes ▹ b i .names ▹ b i .lines ▹ b i .pool ▹ b i .journal ▹ tt)
+
+pub version-count-unique : Unique version_count.ended version_count.Reads.Post
+version-count-unique κs a x y v w p q = (same p q, refl)
+
+pub parent-count-unique : Unique parent_count.ended parent_count.Reads.Post
+parent-count-unique κs a x y v w p q = (same p q, refl)
+
+pub version-node-unique : Unique version_node.ended version_node.Reads.Post
+version-node-unique κs a x y v w p q = (same p q, refl)
+
+-- ---- export_list
+pub export-list-open-unique : Unique export-list-open.ended export-list-open.Reads.Post
+export-list-open-unique κs a x y v w p q =
+    let b = same (p .1) (q .1) in
+    (same (p .0) (q .0), λ i. tt ▹ b i .nodes ▹ b i .names ▹ b i .lines ▹ b i .pool ▹ b i .journal ▹ tt)
+
+pub contains-unique : Unique contains.ended contains.Reads.Post
+contains-unique κs a x y v w p q = (same p q, refl)

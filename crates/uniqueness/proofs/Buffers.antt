@@ -1,0 +1,113 @@
+-- What writes into lent buffers leaves one answer and one end state: packing, rooms, printing. Assumes nothing.
+use Prim.Native.Nat.{ℕ, _+_, _≤_, _<_}
+use mathlib.Core.Path.{_≡_, refl}
+use mathlib.Core.List.{List}
+use native.Mathlib.Decide.{decLe}
+use native.Mathlib.Omega.{arith}
+use lib.ListN.{length}
+use denote.Ref.{now}
+use Rattle.storing.specs.declared.Stored.{Stored}
+use Rattle.storing.specs.Keeping.{Keep, kept, refused, keep}
+use Rattle.rooms.specs.Rooms.{Put, pool-room}
+use Rattle.uniqueness.specs.Unique.{Unique}
+use Rattle.uniqueness.proofs.Same.{_▹_, same}
+use Rattle.packing.proofs.clear_bytes
+use Rattle.packing.proofs.clear_numbers
+use Rattle.packing.proofs.zero_bytes
+use Rattle.packing.proofs.zero_numbers
+use Rattle.packing.proofs.same_bytes
+use Rattle.packing.proofs.put_bytes
+use Rattle.packing.proofs.move_down
+use Rattle.packing.proofs.put_two
+use Rattle.packing.proofs.put_three
+use Rattle.packing.proofs.put_four
+use Rattle.rooms.proofs.has_row
+use Rattle.rooms.proofs.has_edit
+use Rattle.rooms.proofs.pool_end
+use Rattle.rooms.proofs.put_token
+use Rattle.printing.proofs.put_number
+use Rattle.printing.proofs.put_text
+use Rattle.printing.proofs.put_refused_fields
+use Rattle.printing.proofs.put_refused_line
+use Rattle.printing.proofs.put_spaced
+use Rattle.printing.proofs.put_numbered
+use Rattle.printing.proofs.put_refused_answer
+
+-- ---- packing
+pub clear-bytes-unique : Unique clear_bytes.ended clear_bytes.Reads.Post
+clear-bytes-unique κs a x y v w p q = (refl, λ i. same p q i ▹ tt)
+
+pub clear-numbers-unique : Unique clear_numbers.ended clear_numbers.Reads.Post
+clear-numbers-unique κs a x y v w p q = (refl, λ i. same p q i ▹ tt)
+
+pub zero-bytes-unique : Unique zero_bytes.ended zero_bytes.Reads.Post
+zero-bytes-unique κs a x y v w p q = (same p q, refl)
+
+pub zero-numbers-unique : Unique zero_numbers.ended zero_numbers.Reads.Post
+zero-numbers-unique κs a x y v w p q = (same p q, refl)
+
+pub same-bytes-unique : Unique same_bytes.ended same_bytes.Reads.Post
+same-bytes-unique κs a x y v w p q = (same p q, refl)
+
+pub put-bytes-unique : Unique put_bytes.ended put_bytes.Reads.Post
+put-bytes-unique κs a x y v w p q = (refl, λ i. same p q i ▹ tt ▹ tt ▹ tt)
+
+pub move-down-unique : Unique move_down.ended move_down.Reads.Post
+move-down-unique κs a x y v w p q = (refl, λ i. same p q i ▹ tt ▹ tt ▹ tt ▹ tt)
+
+pub put-two-unique : Unique put_two.ended put_two.Reads.Post
+put-two-unique κs a x y v w p q = (refl, λ i. same p q i ▹ tt ▹ tt ▹ tt ▹ tt)
+
+pub put-three-unique : Unique put_three.ended put_three.Reads.Post
+put-three-unique κs a x y v w p q = (refl, λ i. same p q i ▹ tt ▹ tt ▹ tt ▹ tt ▹ tt)
+
+pub put-four-unique : Unique put_four.ended put_four.Reads.Post
+put-four-unique κs a x y v w p q = (refl, λ i. same p q i ▹ tt ▹ tt ▹ tt ▹ tt ▹ tt ▹ tt)
+
+-- ---- rooms
+pub has-row-unique : Unique has_row.ended has_row.Reads.Post
+has-row-unique κs a x y v w p q = (same p q, refl)
+
+pub has-edit-unique : Unique has_edit.ended has_edit.Reads.Post
+has-edit-unique κs a x y v w p q = (same p q, refl)
+
+pub pool-end-unique : Unique pool_end.ended pool_end.Reads.Post
+pool-end-unique κs a x y v w p q = (same p q, refl)
+
+-- what is kept is put where there is room for it and else refused, and a refusal leaves the pool as it was
+put-once : (k : Keep) (s : List ℕ) (at : ℕ) {r t : Stored} {u z : List ℕ} → Put k s at r u → Put k s at t z → (r ≡ t) × (u ≡ z)
+put-once (kept k bs) s at {r} {t} {u} {z} p q = go (decLe (at + length bs) (pool-room s))
+  where
+    go : Dec (at + length bs ≤ pool-room s) → (r ≡ t) × (u ≡ z)
+    go (yes h) = (same (p .0 h .0) (q .0 h .0), same (p .0 h .1) (q .0 h .1))
+    go (no h) =
+        let m : pool-room s < at + length bs = omega arith in
+        (same (p .1 m .0) (q .1 m .0), same (p .1 m .1) (q .1 m .1))
+put-once (refused n) s at p q = (same (p .0) (q .0), same (p .1) (q .1))
+
+pub put-token-unique : Unique put_token.ended put_token.Reads.Post
+put-token-unique κs a x y v w p q =
+    let e = put-once (keep (a .0) (now (a .1 .0))) (now (a .1 .1 .1 .0)) (a .1 .1 .0) p q in
+    (e .0, λ i. tt ▹ tt ▹ tt ▹ e .1 i ▹ tt)
+
+-- ---- printing
+pub put-number-unique : Unique put_number.ended put_number.Reads.Post
+put-number-unique κs a x y v w p q = (same (p .0) (q .0), λ i. same (p .1) (q .1) i ▹ tt ▹ tt ▹ tt)
+
+pub put-text-unique : Unique put_text.ended put_text.Reads.Post
+put-text-unique κs a x y v w p q = (same (p .0) (q .0), λ i. same (p .1) (q .1) i ▹ tt ▹ tt ▹ tt)
+
+pub put-refused-fields-unique : Unique put_refused_fields.ended put_refused_fields.Reads.Post
+put-refused-fields-unique κs a x y v w p q = (same (p .0) (q .0), λ i. same (p .1) (q .1) i ▹ tt ▹ tt ▹ tt)
+
+pub put-refused-line-unique : Unique put_refused_line.ended put_refused_line.Reads.Post
+put-refused-line-unique κs a x y v w p q = (same (p .0) (q .0), λ i. same (p .1) (q .1) i ▹ tt ▹ tt)
+
+pub put-spaced-unique : Unique put_spaced.ended put_spaced.Reads.Post
+put-spaced-unique κs a x y v w p q = (same (p .0) (q .0), λ i. same (p .1) (q .1) i ▹ tt ▹ tt ▹ tt ▹ tt)
+
+pub put-numbered-unique : Unique put_numbered.ended put_numbered.Reads.Post
+put-numbered-unique κs a x y v w p q = (same (p .0) (q .0), λ i. same (p .1) (q .1) i ▹ tt ▹ tt ▹ tt)
+
+pub put-refused-answer-unique : Unique put_refused_answer.ended put_refused_answer.Reads.Post
+put-refused-answer-unique κs a x y v w p q = (same (p .0) (q .0), λ i. same (p .1) (q .1) i ▹ tt ▹ tt)

@@ -1,0 +1,9 @@
+pub mod Same
+pub mod Reading
+pub mod Matching
+pub mod Buffers
+pub mod Books
+pub mod Edits
+pub mod Calls
+pub mod Lines
+pub mod Walked

@@ -1,0 +1,98 @@
+-- What prints leaves one answer and one end state: rendering, listing, showing, answering, desk. Assumes nothing.
+use mathlib.Core.Path.{refl}
+use Rattle.answering.specs.Answers.{Runs}
+use Rattle.uniqueness.specs.Unique.{Unique}
+use Rattle.uniqueness.proofs.Same.{_▹_, same}
+use Rattle.rendering.proofs.render_refused
+use Rattle.rendering.proofs.render_counts
+use Rattle.rendering.proofs.put_symbol_line
+use Rattle.rendering.proofs.render_symbol
+use Rattle.listing.proofs.listed.render_listing
+use Rattle.showing.proofs.shown_room
+use Rattle.showing.proofs.show_counts
+use Rattle.showing.proofs.show_lines
+use Rattle.showing.proofs.show_dump
+use Rattle.answering.proofs.printed
+use Rattle.answering.proofs.run_add
+use Rattle.answering.proofs.run_strike
+use Rattle.answering.proofs.run_undo
+use Rattle.answering.proofs.run_settle
+use Rattle.answering.proofs.run_symbol
+use Rattle.answering.proofs.run_ask
+use Rattle.desk.proofs.run_line
+
+-- ---- rendering
+pub render-refused-unique : Unique render_refused.ended render_refused.Reads.Post
+render-refused-unique κs a x y v w p q = (same (p .0) (q .0), λ i. tt ▹ same (p .1) (q .1) i ▹ tt)
+
+pub render-counts-unique : Unique render_counts.ended render_counts.Reads.Post
+render-counts-unique κs a x y v w p q = (same (p .0) (q .0), λ i. tt ▹ tt ▹ tt ▹ tt ▹ tt ▹ tt ▹ same (p .1) (q .1) i ▹ tt)
+
+pub put-symbol-line-unique : Unique put_symbol_line.ended put_symbol_line.Reads.Post
+put-symbol-line-unique κs a x y v w p q = (same (p .0) (q .0), λ i. same (p .1) (q .1) i ▹ tt ▹ tt ▹ tt ▹ tt)
+
+pub render-symbol-unique : Unique render_symbol.ended render_symbol.Reads.Post
+render-symbol-unique κs a x y v w p q = (same (p .0) (q .0), λ i. tt ▹ tt ▹ tt ▹ tt ▹ tt ▹ tt ▹ tt ▹ same (p .1) (q .1) i ▹ tt)
+
+-- ---- listing
+pub render-listing-unique : Unique render_listing.ended render_listing.Reads.Post
+render-listing-unique κs a x y v w p q =
+    let b = same (p .2) (q .2) in
+    (same (p .0) (q .0), λ i. tt ▹ b i .nodes ▹ b i .names ▹ b i .lines ▹ b i .pool ▹ b i .journal ▹ same (p .1) (q .1) i ▹ tt)
+
+-- ---- showing
+pub shown-room-unique : Unique shown_room.ended shown_room.Reads.Post
+shown-room-unique κs a x y v w p q = (same p q, refl)
+
+pub show-counts-unique : Unique show_counts.ended show_counts.Reads.Post
+show-counts-unique κs a x y v w p q = (same (p .0) (q .0), λ i. tt ▹ same (p .1) (q .1) i ▹ tt)
+
+pub show-lines-unique : Unique show_lines.ended show_lines.Reads.Post
+show-lines-unique κs a x y v w p q = (same (p .0) (q .0), λ i. tt ▹ tt ▹ tt ▹ tt ▹ tt ▹ tt ▹ same (p .1) (q .1) i ▹ tt)
+
+pub show-dump-unique : Unique show_dump.ended show_dump.Reads.Post
+show-dump-unique κs a x y v w p q = (same (p .0) (q .0), λ i. tt ▹ tt ▹ tt ▹ tt ▹ tt ▹ tt ▹ same (p .1) (q .1) i ▹ tt)
+
+-- ---- answering
+pub printed-unique : Unique printed.ended printed.Reads.Post
+printed-unique κs a x y v w p q = (same p q, refl)
+
+pub run-add-unique : Unique run_add.ended run_add.Reads.Post
+unfolding Runs
+run-add-unique κs a x y v w p q =
+    let b = same (p .2) (q .2) in
+    (same (p .0) (q .0), λ i. tt ▹ tt ▹ tt ▹ b i .lines ▹ b i .pool ▹ b i .journal ▹ tt ▹ tt ▹ tt ▹ tt ▹ same (p .1) (q .1) i ▹ tt)
+
+pub run-strike-unique : Unique run_strike.ended run_strike.Reads.Post
+unfolding Runs
+run-strike-unique κs a x y v w p q =
+    let b = same (p .2) (q .2) in
+    (same (p .0) (q .0), λ i. tt ▹ tt ▹ tt ▹ b i .lines ▹ tt ▹ b i .journal ▹ tt ▹ same (p .1) (q .1) i ▹ tt)
+
+pub run-undo-unique : Unique run_undo.ended run_undo.Reads.Post
+unfolding Runs
+run-undo-unique κs a x y v w p q =
+    let b = same (p .2) (q .2) in
+    (same (p .0) (q .0), λ i. tt ▹ tt ▹ tt ▹ b i .lines ▹ b i .pool ▹ b i .journal ▹ same (p .1) (q .1) i ▹ tt)
+
+pub run-settle-unique : Unique run_settle.ended run_settle.Reads.Post
+unfolding Runs
+run-settle-unique κs a x y v w p q =
+    let b = same (p .2) (q .2) in
+    (same (p .0) (q .0), λ i. tt ▹ tt ▹ tt ▹ b i .lines ▹ b i .pool ▹ b i .journal ▹ same (p .1) (q .1) i ▹ tt)
+
+pub run-symbol-unique : Unique run_symbol.ended run_symbol.Reads.Post
+unfolding Runs
+run-symbol-unique κs a x y v w p q =
+    let b = same (p .2) (q .2) in
+    (same (p .0) (q .0), λ i. tt ▹ tt ▹ tt ▹ b i .lines ▹ b i .pool ▹ b i .journal ▹ tt ▹ tt ▹ same (p .1) (q .1) i ▹ tt)
+
+pub run-ask-unique : Unique run_ask.ended run_ask.Reads.Post
+unfolding Runs
+run-ask-unique κs a x y v w p q = (same (p .0) (q .0), λ i. tt ▹ tt ▹ tt ▹ tt ▹ tt ▹ tt ▹ tt ▹ same (p .1) (q .1) i ▹ tt)
+
+-- ---- desk
+pub run-line-unique : Unique run_line.ended run_line.Reads.Post
+run-line-unique κs a x y v w p q =
+    let b = same (p .2) (q .2) in
+    (same (p .0) (q .0), λ i. tt ▹ tt ▹ tt ▹ b i .lines ▹ b i .pool ▹ b i .journal ▹ tt ▹ same (p .1) (q .1) i ▹ tt)
