@@ -1,0 +1,852 @@
+/* Calls every function of include/tunoyaket.h; compiled as C99 and as C++17. Its argument is the repository's examples/haze.txt. What each function is refused
+ * with is tried number by number, and the last checks ask that none was left out. Ends with `N passed, 0 failed`. */
+#include "tunoyaket.h"
+
+#include <stdio.h>
+#include <stdlib.h>
+#include <string.h>
+
+/* ---- counting */
+
+static unsigned passed, failed;
+
+static int check(int holds, const char *what, int line) {
+    if (holds) {
+        passed++;
+    } else {
+        failed++;
+        printf("line %d: not so: %s\n", line, what);
+    }
+    return holds;
+}
+
+#define CHECK(holds) check((holds) != 0, #holds, __LINE__)
+
+enum { SCRIPT, LIST, VERSIONS, PARENTS, VERSION, LOCALITY, CONTAINS, ADD, STRIKE, UNDO, SETTLE, SYMBOL, FUNCTIONS };
+
+/* What each function can be refused with, in the header's words, and what it was: bit n for number n, 0 for done. */
+static const char *const refusals[FUNCTIONS] = {
+    "1 2 3 4 5 6 7 8", "1 2 3 4 5 6 8",                                            /* openings */
+    "14 13 8", "14 13 8", "14 13 1 9 10 8", "14 13 1 9 8", "14 13 1 9 8",          /* questions */
+    "14 13 11 1 5 6 8", "14 13 11 8", "14 12", "14", "14 13 1 2 3 4 5 6 8"};       /* edits */
+static unsigned met[FUNCTIONS];
+
+static unsigned declared(int function) {
+    const char *rest = refusals[function];
+    char *end;
+    unsigned numbers = 1;
+    for (; *rest != 0; rest = end) numbers |= 1u << strtoul(rest, &end, 10);
+    return numbers;
+}
+
+static uint32_t noted(int function, uint32_t number) {
+    met[function] |= 1u << number;
+    return number;
+}
+
+/* ---- lent memory, with an element on either side of each buffer that no call may touch */
+
+struct rooms {
+    size_t counts, nodes, names, lines, pool, journal;
+};
+
+struct book {
+    struct rooms rooms;
+    uint32_t counts[TUNO_COUNTS + 3];
+    uint32_t nodes[TUNO_NODES_ROOM + 5];
+    uint32_t lines[TUNO_LINES_ROOM + 6];
+    uint32_t journal[TUNO_JOURNAL_ROOM + 4];
+    uint8_t names[TUNO_NAMES_ROOM + 2];
+    uint8_t pool[TUNO_POOL_ROOM + 3];
+};
+
+#define NUMBER_NOISE 0xa5a5a5a5u
+#define BYTE_NOISE 0xa5u
+
+/* Static, for their size. `b` is the book of most tests, `before` what it was. */
+static struct book b, before;
+static uint8_t text[TUNO_SCRIPT_LIMIT + 1];
+
+static const struct rooms all_rooms = {
+    TUNO_COUNTS, TUNO_NODES_ROOM, TUNO_NAMES_ROOM, TUNO_LINES_ROOM, TUNO_POOL_ROOM, TUNO_JOURNAL_ROOM};
+static const struct rooms some_rooms = {TUNO_COUNTS, 31, 64, 42, 70, 17};
+
+static void lend(struct rooms rooms) {
+    memset(&b, BYTE_NOISE, sizeof b);
+    b.rooms = rooms;
+}
+
+static int untouched_beside(void) {
+    return b.counts[0] == NUMBER_NOISE && b.counts[b.rooms.counts + 1] == NUMBER_NOISE &&
+        b.nodes[0] == NUMBER_NOISE && b.nodes[b.rooms.nodes + 1] == NUMBER_NOISE &&
+        b.lines[0] == NUMBER_NOISE && b.lines[b.rooms.lines + 1] == NUMBER_NOISE &&
+        b.journal[0] == NUMBER_NOISE && b.journal[b.rooms.journal + 1] == NUMBER_NOISE &&
+        b.names[0] == BYTE_NOISE && b.names[b.rooms.names + 1] == BYTE_NOISE &&
+        b.pool[0] == BYTE_NOISE && b.pool[b.rooms.pool + 1] == BYTE_NOISE;
+}
+
+static int zero(const void *memory, size_t length) {
+    const unsigned char *bytes = (const unsigned char *)memory;
+    size_t i;
+    for (i = 0; i < length; i++) {
+        if (bytes[i] != 0) return 0;
+    }
+    return 1;
+}
+
+static int all_zero(void) {
+    return zero(b.counts + 1, 4 * b.rooms.counts) && zero(b.nodes + 1, 4 * b.rooms.nodes) &&
+        zero(b.names + 1, b.rooms.names) && zero(b.lines + 1, 4 * b.rooms.lines) &&
+        zero(b.pool + 1, b.rooms.pool) && zero(b.journal + 1, 4 * b.rooms.journal);
+}
+
+static void keep(void) { memcpy(&before, &b, sizeof b); }
+static int as_before(void) { return memcmp(&before, &b, sizeof b) == 0; }
+
+static uint32_t count(unsigned which) { return b.counts[1 + which]; }
+
+static const uint8_t *bytes(const char *string) { return (const uint8_t *)string; }
+
+/* ---- the twelve calls, on `b` */
+
+#define BOOK                                                                                                   \
+    b.counts + 1, b.rooms.counts, b.nodes + 1, b.rooms.nodes, b.names + 1, b.rooms.names, b.lines + 1,         \
+        b.rooms.lines, b.pool + 1, b.rooms.pool, b.journal + 1, b.rooms.journal
+
+static uint64_t open_bytes(int function, const uint8_t *script, size_t length) {
+    uint64_t answer = function == SCRIPT ? tuno_open_version_script(script, length, BOOK) : tuno_open_export_list(script, length, BOOK);
+    noted(function, TUNO_REFUSAL(answer));
+    return answer;
+}
+
+static uint64_t opened(int function, const char *script) { return open_bytes(function, bytes(script), strlen(script)); }
+
+static uint32_t opened_fresh(int function, const char *script) {
+    lend(all_rooms);
+    return TUNO_REFUSAL(opened(function, script));
+}
+
+/* A question's number, with its value in `value`. An answer is written alone, and a refused one is not. */
+static uint32_t value;
+
+static uint32_t answered(int function, uint32_t number, const uint32_t *out) {
+    noted(function, number);
+    CHECK(out[1] == NUMBER_NOISE);
+    CHECK(number == 0 || out[0] == NUMBER_NOISE);
+    value = out[0];
+    return number;
+}
+
+static uint32_t versions(size_t room) {
+    uint32_t out[2] = {NUMBER_NOISE, NUMBER_NOISE};
+    uint32_t number = tuno_version_count(BOOK, out, room);
+    return answered(VERSIONS, number, out);
+}
+
+static uint32_t parents(size_t room) {
+    uint32_t out[2] = {NUMBER_NOISE, NUMBER_NOISE};
+    uint32_t number = tuno_parent_count(BOOK, out, room);
+    return answered(PARENTS, number, out);
+}
+
+struct name {
+    const uint8_t *raw;
+    size_t raw_length;
+    const uint8_t *demangled;
+    size_t demangled_length;
+};
+
+static struct name both(const char *raw, const char *demangled) {
+    struct name name;
+    name.raw = bytes(raw);
+    name.raw_length = strlen(raw);
+    name.demangled = bytes(demangled);
+    name.demangled_length = strlen(demangled);
+    return name;
+}
+
+/* Where there is no demangled name, the raw one's memory is lent twice. */
+static struct name plain(const char *raw) { return both(raw, raw); }
+
+static uint32_t version_bytes(struct name n, uint32_t has_wanted, const uint8_t *wanted, size_t wanted_length, size_t room) {
+    uint32_t out[2] = {NUMBER_NOISE, NUMBER_NOISE};
+    uint32_t number = tuno_version_for_symbol(
+        BOOK, n.raw, n.raw_length, n.demangled, n.demangled_length, has_wanted, wanted, wanted_length, out, room);
+    return answered(VERSION, number, out);
+}
+
+static uint32_t version(const char *raw) { return version_bytes(plain(raw), 0, bytes(""), 0, 1); }
+
+static uint32_t version_wanted(const char *raw, const char *wanted) {
+    return version_bytes(plain(raw), 1, bytes(wanted), strlen(wanted), 1);
+}
+
+static uint32_t locality_of(struct name n, size_t room) {
+    uint32_t out[2] = {NUMBER_NOISE, NUMBER_NOISE};
+    uint32_t number = tuno_locality(BOOK, n.raw, n.raw_length, n.demangled, n.demangled_length, out, room);
+    return answered(LOCALITY, number, out);
+}
+
+static uint32_t locality(const char *raw) { return locality_of(plain(raw), 1); }
+
+static uint32_t contains_of(struct name n, size_t room) {
+    uint32_t out[2] = {NUMBER_NOISE, NUMBER_NOISE};
+    uint32_t number = tuno_contains(BOOK, n.raw, n.raw_length, n.demangled, n.demangled_length, out, room);
+    return answered(CONTAINS, number, out);
+}
+
+static uint32_t contains(const char *raw) { return contains_of(plain(raw), 1); }
+
+static uint32_t add_bytes(uint32_t node, uint32_t section, uint32_t language, const uint8_t *token, size_t length) {
+    return noted(ADD, tuno_add(BOOK, node, section, language, token, length));
+}
+
+static uint32_t add(uint32_t node, uint32_t section, uint32_t language, const char *token) {
+    return add_bytes(node, section, language, bytes(token), strlen(token));
+}
+
+static uint32_t strike(uint32_t line) { return noted(STRIKE, tuno_strike(BOOK, line)); }
+static uint32_t undo(void) { return noted(UNDO, tuno_undo(BOOK)); }
+static uint32_t settle(void) { return noted(SETTLE, tuno_settle(BOOK)); }
+
+static uint32_t symbol_bytes(const uint8_t *script, size_t length, uint32_t without_semicolon) {
+    return noted(SYMBOL, tuno_add_symbol(BOOK, script, length, without_semicolon));
+}
+
+static uint32_t symbol(const char *script, uint32_t without_semicolon) {
+    return symbol_bytes(bytes(script), strlen(script), without_semicolon);
+}
+
+/* ---- rows */
+
+static int node_is(uint32_t node, uint32_t start, const char *name, uint32_t parent) {
+    const uint32_t *row = b.nodes + 1 + TUNO_NODE_WIDTH * node;
+    return row[TUNO_NODE_START] == start && row[TUNO_NODE_LENGTH] == strlen(name) && row[TUNO_NODE_PARENT] == parent &&
+        memcmp(b.names + 1 + start, name, strlen(name)) == 0;
+}
+
+static int line_is(
+    uint32_t line, uint32_t node, uint32_t class_number, uint32_t section, uint32_t language, uint32_t struck, uint32_t start, const char *stored) {
+    const uint32_t *row = b.lines + 1 + TUNO_LINE_WIDTH * line;
+    uint32_t code = row[TUNO_LINE_CODE];
+    return row[TUNO_LINE_NODE] == node && TUNO_CODE_CLASS(code) == class_number && TUNO_CODE_SECTION(code) == section &&
+        TUNO_CODE_LANGUAGE(code) == language && TUNO_CODE_STRUCK(code) == struck && row[TUNO_LINE_START] == start &&
+        row[TUNO_LINE_LENGTH] == strlen(stored) && memcmp(b.pool + 1 + start, stored, strlen(stored)) == 0;
+}
+
+static int edit_is(uint32_t edit, uint32_t what, uint32_t line) {
+    const uint32_t *row = b.journal + 1 + TUNO_EDIT_WIDTH * edit;
+    return row[TUNO_EDIT_WHAT] == what && row[TUNO_EDIT_LINE] == line;
+}
+
+/* ---- the story: document 01's example, from the file */
+
+static const char haze[] =
+    "HAZE_1 { global: haze_*; local: *; };\n"
+    "HAZE_2 { global: haze_month; } HAZE_1;\n";
+
+static const char haze_output[] =
+    "nodes 3 parents 1\n"
+    "haze_month 3 G\n"
+    "haze_day 2 G\n"
+    "main 2 L\n";
+
+/* Prints what verlist prints of an input without wanted versions. */
+static void list_symbols(char *input, char *output, size_t room) {
+    char *symbols = strstr(input, "%%\n");
+    char *name;
+    size_t n = 0;
+    if (!CHECK(symbols != NULL)) return;
+    lend(all_rooms);
+    CHECK(open_bytes(SCRIPT, bytes(input), (size_t)(symbols - input)) == 0);
+    CHECK(untouched_beside());
+    CHECK(versions(1) == 0);
+    n += (size_t)snprintf(output + n, room - n, "nodes %u", (unsigned)value);
+    CHECK(parents(1) == 0);
+    n += (size_t)snprintf(output + n, room - n, " parents %u\n", (unsigned)value);
+    for (name = strtok(symbols + 3, "\n"); name != NULL; name = strtok(NULL, "\n")) {
+        unsigned index;
+        CHECK(version(name) == 0);
+        index = (unsigned)value;
+        CHECK(locality(name) == 0);
+        n += (size_t)snprintf(output + n, room - n, "%s %u %c\n", name, index, "-GL"[value]);
+    }
+}
+
+static void test_story(const char *path) {
+    static char input[4096], output[4096];
+    FILE *file = fopen(path, "rb");
+    if (!CHECK(file != NULL)) return;
+    input[fread(input, 1, sizeof input - 1, file)] = 0;
+    fclose(file);
+    CHECK(strncmp(input, haze, strlen(haze)) == 0);
+    list_symbols(input, output, sizeof output);
+    CHECK(strcmp(output, haze_output) == 0);
+
+    CHECK(count(TUNO_COUNT_KIND) == TUNO_KIND_REGULAR);
+    CHECK(count(TUNO_COUNT_NODES) == 3);
+    CHECK(count(TUNO_COUNT_NAME_BYTES) == 12);
+    CHECK(count(TUNO_COUNT_LINES) == 3);
+    CHECK(count(TUNO_COUNT_POOL_BYTES) == 16);
+    CHECK(count(TUNO_COUNT_EDITS) == 0);
+    CHECK(node_is(0, 0, "", 0));
+    CHECK(node_is(1, 0, "HAZE_1", 0));
+    CHECK(node_is(2, 6, "HAZE_2", 1));
+    CHECK(line_is(0, 1, TUNO_CLASS_STAR, TUNO_SECTION_GLOBAL, TUNO_LANGUAGE_GENERAL, 0, 0, "haze_*"));
+    CHECK(line_is(1, 1, TUNO_CLASS_ALL, TUNO_SECTION_LOCAL, TUNO_LANGUAGE_GENERAL, 0, 6, ""));
+    CHECK(line_is(2, 2, TUNO_CLASS_EXACT, TUNO_SECTION_GLOBAL, TUNO_LANGUAGE_GENERAL, 0, 6, "haze_month"));
+
+    /* "With line 0 struck, haze_day is 2 L; after undo 2 G." */
+    keep();
+    CHECK(strike(0) == 0);
+    CHECK(line_is(0, 1, TUNO_CLASS_STAR, TUNO_SECTION_GLOBAL, TUNO_LANGUAGE_GENERAL, 1, 0, "haze_*"));
+    CHECK(edit_is(0, TUNO_EDIT_STRIKE, 0));
+    CHECK(version("haze_day") == 0 && value == 2);
+    CHECK(locality("haze_day") == 0 && value == TUNO_LOCALITY_LOCAL);
+    CHECK(undo() == 0);
+    CHECK(as_before());
+    CHECK(version("haze_day") == 0 && value == 2);
+    CHECK(locality("haze_day") == 0 && value == TUNO_LOCALITY_GLOBAL);
+}
+
+/* ---- document 01's known points, as far as a book shows them */
+
+static int stored(const char *script, uint32_t class_number, const char *expected) {
+    return opened_fresh(SCRIPT, script) == 0 && line_is(0, 0, class_number, TUNO_SECTION_GLOBAL, TUNO_LANGUAGE_GENERAL, 0, 0, expected);
+}
+
+static void test_points(void) {
+    CHECK(stored("{ \"*\"; };", TUNO_CLASS_EXACT, "*"));
+    CHECK(stored("{ *; };", TUNO_CLASS_ALL, ""));
+    CHECK(stored("{ \\*; };", TUNO_CLASS_ESCAPED, "*"));
+    CHECK(stored("{ ?*; };", TUNO_CLASS_STAR, "?*"));
+    CHECK(stored("{ ?\\*; };", TUNO_CLASS_NON_STAR, "?\\*"));
+    CHECK(locality("x\\yz") == 0 && value == TUNO_LOCALITY_GLOBAL);
+    CHECK(stored("{ a\\; };", TUNO_CLASS_ESCAPED, "a\\"));
+    CHECK(stored("{ []]; };", TUNO_CLASS_NON_STAR, "[]]"));
+    CHECK(locality("]") == 0 && value == TUNO_LOCALITY_GLOBAL);
+    CHECK(stored("{ [^a]b; };", TUNO_CLASS_NON_STAR, "[!a]b"));
+    CHECK(locality("xb") == 0 && value == TUNO_LOCALITY_GLOBAL);
+    CHECK(locality("ab") == 0 && value == TUNO_LOCALITY_NOTHING);
+    CHECK(stored("{ h?; };", TUNO_CLASS_NON_STAR, "h?"));
+    CHECK(locality("h\xc3\xa9") == 0 && value == TUNO_LOCALITY_GLOBAL);
+    CHECK(opened_fresh(SCRIPT, "/*/{};") == 0);
+    CHECK(versions(1) == 0 && value == 0);
+
+    CHECK(opened_fresh(SCRIPT, "A {}; B {}; A {}; C {} A;") == 0);
+    CHECK(node_is(4, 3, "C", 1));
+    CHECK(parents(1) == 0 && value == 1);
+    CHECK(version_wanted("f", "A") == 0 && value == TUNO_VERSION_OF_NODE(3u));
+    CHECK(version_wanted("f", "") == 0 && value == TUNO_VERSION_GLOBAL);
+    CHECK(version_wanted("f", "D") == TUNO_UNKNOWN_VERSION);
+    CHECK(version("f") == 0 && value == TUNO_VERSION_NONE);
+    /* a flag that is not 0 means yes, and 0 leaves `wanted` unread */
+    CHECK(version_bytes(plain("f"), 2, bytes("B"), 1, 1) == 0 && value == 3);
+    CHECK(version_bytes(plain("f"), 0, bytes("D"), 1, 1) == 0 && value == TUNO_VERSION_NONE);
+
+    CHECK(opened_fresh(SCRIPT, "V { extern \"C++\" { f; }; local: f; };") == 0);
+    CHECK(version("f") == 0 && value == 2);
+    CHECK(locality("f") == 0 && value == TUNO_LOCALITY_LOCAL);
+    CHECK(locality_of(both("_Zf", "f"), 1) == 0 && value == TUNO_LOCALITY_GLOBAL);
+    CHECK(locality_of(both("f", "g"), 1) == 0 && value == TUNO_LOCALITY_LOCAL);
+
+    CHECK(opened_fresh(SCRIPT, "A { f*; }; B { local: f?; }; C { f*; };") == 0);
+    CHECK(version("fx") == 0 && value == 3);
+    CHECK(locality("fx") == 0 && value == TUNO_LOCALITY_LOCAL);
+    CHECK(version("fxy") == 0 && value == 4);
+    CHECK(locality("fxy") == 0 && value == TUNO_LOCALITY_GLOBAL);
+
+    CHECK(opened_fresh(SCRIPT, "{ global: f; local: *; };") == 0);
+    CHECK(count(TUNO_COUNT_KIND) == TUNO_KIND_RUST);
+    CHECK(versions(1) == 0 && value == 0);
+    CHECK(parents(1) == 0 && value == 0);
+    CHECK(version_wanted("f", "A") == 0 && value == TUNO_VERSION_NONE);
+    CHECK(locality("f") == 0 && value == TUNO_LOCALITY_GLOBAL);
+    CHECK(locality("g") == 0 && value == TUNO_LOCALITY_LOCAL);
+
+    CHECK(opened_fresh(LIST, "{ f; g*; };") == 0);
+    CHECK(count(TUNO_COUNT_KIND) == TUNO_KIND_EXPORT_LIST);
+    CHECK(contains("f") == 0 && value == 1);
+    CHECK(contains("gg") == 0 && value == 1);
+    CHECK(contains("ff") == 0 && value == 0);
+    CHECK(contains_of(both("f", "gg"), 1) == 0 && value == 1);
+}
+
+/* ---- openings that are refused, each with its place */
+
+static int refuses_bytes(int function, const uint8_t *script, size_t length, uint32_t number, size_t place) {
+    uint64_t answer = open_bytes(function, script, length);
+    return TUNO_REFUSAL(answer) == number && TUNO_PLACE(answer) == place && answer == number + 256 * (uint64_t)place && all_zero() &&
+        untouched_beside();
+}
+
+static int refuses(int function, const char *script, uint32_t number, size_t place) {
+    lend(some_rooms);
+    return refuses_bytes(function, bytes(script), strlen(script), number, place);
+}
+
+static int without_room(int function, const char *script, struct rooms rooms, size_t place) {
+    lend(rooms);
+    return refuses_bytes(function, bytes(script), strlen(script), TUNO_NO_ROOM, place);
+}
+
+static struct rooms rooms_of(size_t nodes, size_t names, size_t lines, size_t pool) {
+    struct rooms rooms = some_rooms;
+    rooms.nodes = nodes;
+    rooms.names = names;
+    rooms.lines = lines;
+    rooms.pool = pool;
+    return rooms;
+}
+
+static void repeat(const char *piece, size_t times, const char *front, const char *back, size_t *length) {
+    size_t n = strlen(front), i;
+    memcpy(text, front, n);
+    for (i = 0; i < times; i++, n += strlen(piece)) memcpy(text + n, piece, strlen(piece));
+    memcpy(text + n, back, strlen(back));
+    *length = n + strlen(back);
+}
+
+static void test_refused_openings(void) {
+    static const int functions[2] = {SCRIPT, LIST};
+    size_t i, length;
+
+    CHECK(refuses(SCRIPT, "{ f; }", TUNO_UNREADABLE, 6));
+    CHECK(refuses(SCRIPT, "{ f; }; x", TUNO_UNREADABLE, 8));
+    CHECK(refuses(SCRIPT, "A { f }", TUNO_UNREADABLE, 4));
+    CHECK(refuses(SCRIPT, "A {} #x", TUNO_UNCLOSED, 5));
+    CHECK(refuses(SCRIPT, "A {}; B {} A ;", TUNO_UNKNOWN_PARENT, 11));
+    CHECK(refuses(SCRIPT, "A {} A;", TUNO_UNKNOWN_PARENT, 5));
+    CHECK(refuses(LIST, "", TUNO_UNREADABLE, 0));
+    CHECK(refuses(LIST, "{ f; } ;", TUNO_UNREADABLE, 8));
+    for (i = 0; i < 2; i++) {
+        int function = functions[i];
+        CHECK(opened_fresh(function, "{ f; }; /*/") == 0);
+        CHECK(refuses(function, "#x", TUNO_UNCLOSED, 0));
+        CHECK(refuses(function, "{ f; /* };", TUNO_UNCLOSED, 5));
+        CHECK(refuses(function, "{ extern \"C\" { f", TUNO_UNCLOSED, 15));
+        CHECK(refuses(function, "{ extern \"D\" { f; }; };", TUNO_BAD_EXTERN, 2));
+        CHECK(refuses(function, "{ extern \"C\" { extern \"C\" { f; }; }; };", TUNO_BAD_EXTERN, 15));
+        CHECK(refuses(function, "{ \xff?; };", TUNO_GLOB_NOT_UTF8, 2));
+        CHECK(refuses(function, "{ f; []; };", TUNO_BAD_PATTERN, 5));
+        CHECK(refuses(function, "{ a**; };", TUNO_BAD_PATTERN, 2));
+
+        /* a text over its limit, also where nothing else is right */
+        memset(text, ' ', sizeof text);
+        lend(some_rooms);
+        CHECK(refuses_bytes(function, text, sizeof text, TUNO_TOO_LONG, 0));
+        b.rooms.counts = 5;
+        b.counts[6] = NUMBER_NOISE;
+        CHECK(refuses_bytes(function, text, sizeof text, TUNO_TOO_LONG, 0));
+
+        /* a trimmed token over its limit; quotes count, blanks behind it do not */
+        lend(all_rooms);
+        repeat("a", TUNO_TOKEN_LIMIT, "{ ", " \t\n\f\r; };", &length);
+        CHECK(open_bytes(function, text, length) == 0);
+        CHECK(untouched_beside());
+        repeat("a", TUNO_TOKEN_LIMIT + 1, "{ ", "; };", &length);
+        CHECK(refuses_bytes(function, text, length, TUNO_TOO_LONG, 2));
+        repeat("a", TUNO_TOKEN_LIMIT, "{ \"", "\"; };", &length);
+        CHECK(refuses_bytes(function, text, length, TUNO_TOO_LONG, 2));
+
+        /* the counts are six numbers */
+        lend(some_rooms);
+        b.rooms.counts = 5;
+        CHECK(refuses_bytes(function, bytes("{ f; };"), 7, TUNO_NO_ROOM, 0));
+        lend(some_rooms);
+        b.rooms.counts = 7;
+        CHECK(refuses_bytes(function, bytes("{ f; };"), 7, TUNO_NO_ROOM, 0));
+        lend(some_rooms);
+        b.rooms.counts = 0;
+        CHECK(refuses_bytes(function, bytes("{ f; };"), 7, TUNO_NO_ROOM, 0));
+
+        /* rooms; a row that is not whole is none */
+        CHECK(without_room(function, "#", rooms_of(2, 0, 0, 0), 0));
+        CHECK(without_room(function, "{ f; };", rooms_of(3, 0, 3, 1), 2));
+        CHECK(without_room(function, "{ f; ab; };", rooms_of(3, 0, 8, 2), 5));
+        lend(rooms_of(3, 0, 8, 3));
+        CHECK(opened(function, "{ f; ab; };") == 0);
+        CHECK(untouched_beside());
+        lend(rooms_of(3, 0, 0, 0));
+        CHECK(opened(function, "{};") == 0);
+        CHECK(untouched_beside());
+
+        lend(all_rooms);
+        repeat("a;", TUNO_LINE_LIMIT, "{", "};", &length);
+        CHECK(open_bytes(function, text, length) == 0);
+        CHECK(count(TUNO_COUNT_LINES) == TUNO_LINE_LIMIT);
+        b.rooms.lines += TUNO_LINE_WIDTH;
+        repeat("a;", TUNO_LINE_LIMIT + 1, "{", "};", &length);
+        CHECK(refuses_bytes(function, text, length, TUNO_NO_ROOM, 1 + 2 * TUNO_LINE_LIMIT));
+    }
+
+    CHECK(without_room(SCRIPT, "A #", rooms_of(5, 1, 0, 0), 0));
+    CHECK(without_room(SCRIPT, "AB #", rooms_of(6, 1, 0, 0), 0));
+    CHECK(refuses(SCRIPT, "A #", TUNO_UNCLOSED, 2));
+    lend(all_rooms);
+    repeat("A{};", TUNO_NODE_LIMIT - 1, "", "", &length);
+    CHECK(open_bytes(SCRIPT, text, length) == 0);
+    CHECK(versions(1) == 0 && value == TUNO_NODE_LIMIT);
+    b.rooms.nodes += TUNO_NODE_WIDTH;
+    repeat("A{};", TUNO_NODE_LIMIT, "", "", &length);
+    CHECK(refuses_bytes(SCRIPT, text, length, TUNO_NO_ROOM, length - 4));
+    repeat(" ", TUNO_SCRIPT_LIMIT - 4, "A{};", "", &length);
+    CHECK(open_bytes(SCRIPT, text, length) == 0);
+}
+
+/* ---- rooms that are enough for any text of a length: every text of up to eight of the signs that make nodes and lines, and some longer ones */
+
+static uint64_t answer_in(int function, const uint8_t *script, size_t length, struct rooms rooms) {
+    b.rooms = rooms;
+    return open_bytes(function, script, length);
+}
+
+static struct rooms rooms_for(size_t length) {
+    return rooms_of(TUNO_NODES_ROOM_FOR(length), TUNO_NAMES_ROOM_FOR(length), TUNO_LINES_ROOM_FOR(length), TUNO_POOL_ROOM_FOR(length));
+}
+
+static int enough(int function, const uint8_t *script, size_t length) {
+    uint64_t answer = answer_in(function, script, length, rooms_for(length));
+    return answer == answer_in(function, script, length, rooms_of(300, 100, 400, 100));
+}
+
+static void test_rooms(void) {
+    static const char *const longer[] = {
+        "{extern \"C\"{a;b;c};};", "{extern \"C\"{a};};", "{extern \"C\"{a;};extern \"C++\"{b};};", "{extern \"C\"{a;b;c;};};", "A{a;b;};B{c;}A;",
+        "A{global:a;local:b;};", "{a;/**/b;};", "{global:*;};", haze};
+    static const char signs[] = "{};a";
+    uint8_t script[8];
+    size_t length, place, i;
+    unsigned enough_room = 0, tried = 0;
+
+    lend(some_rooms);
+    for (length = 0; length <= sizeof script; length++) {
+        size_t texts = (size_t)1 << (2 * length);
+        for (i = 0; i < texts; i++) {
+            for (place = 0; place < length; place++) script[place] = (uint8_t)signs[(i >> (2 * place)) & 3];
+            tried += 2;
+            enough_room += (unsigned)enough(SCRIPT, script, length) + (unsigned)enough(LIST, script, length);
+        }
+    }
+    CHECK(enough_room == tried);
+    for (i = 0; i < sizeof longer / sizeof longer[0]; i++) {
+        CHECK(enough(SCRIPT, bytes(longer[i]), strlen(longer[i])));
+        CHECK(enough(LIST, bytes(longer[i]), strlen(longer[i])));
+    }
+}
+
+/* ---- questions that are refused */
+
+static void test_refused_questions(void) {
+    struct name name = plain("f");
+    int kind;
+
+    /* names, of a version script (0) and of an export list (1) */
+    for (kind = 0; kind < 2; kind++) {
+        CHECK(opened_fresh(kind == 0 ? SCRIPT : LIST, "{ f*; };") == 0);
+        keep();
+        memset(text, 'f', sizeof text);
+        name.raw = name.demangled = text;
+        name.raw_length = TUNO_RAW_NAME_LIMIT;
+        name.demangled_length = TUNO_DEMANGLED_NAME_LIMIT;
+        if (kind == 0) {
+            CHECK(version_bytes(name, 0, text, 0, 1) == 0 && value == TUNO_VERSION_NONE);
+            CHECK(locality_of(name, 1) == 0 && value == TUNO_LOCALITY_GLOBAL);
+            CHECK(version_bytes(name, 1, text, TUNO_WANTED_VERSION_LIMIT, 1) == TUNO_UNKNOWN_VERSION);
+            CHECK(version_bytes(name, 1, text, TUNO_WANTED_VERSION_LIMIT + 1, 1) == TUNO_TOO_LONG);
+            CHECK(contains_of(name, 1) == TUNO_WRONG_KIND);
+            CHECK(versions(0) == TUNO_NO_ROOM);
+            CHECK(parents(0) == TUNO_NO_ROOM);
+            CHECK(version_bytes(name, 0, text, 0, 0) == TUNO_NO_ROOM);
+            CHECK(version_bytes(name, 1, text, 1, 0) == TUNO_UNKNOWN_VERSION);
+            CHECK(locality_of(name, 0) == TUNO_NO_ROOM);
+        } else {
+            CHECK(contains_of(name, 1) == 0 && value == 1);
+            CHECK(versions(1) == TUNO_WRONG_KIND);
+            CHECK(parents(0) == TUNO_WRONG_KIND);
+            CHECK(version_bytes(name, 1, text, 1, 1) == TUNO_WRONG_KIND);
+            CHECK(locality_of(name, 1) == TUNO_WRONG_KIND);
+            CHECK(contains_of(name, 0) == TUNO_NO_ROOM);
+        }
+        name.raw_length = TUNO_RAW_NAME_LIMIT + 1;
+        CHECK((kind == 0 ? version_bytes(name, 0, text, 0, 1) : contains_of(name, 1)) == TUNO_TOO_LONG);
+        CHECK((kind == 0 ? locality_of(name, 1) : contains_of(name, 0)) == TUNO_TOO_LONG);
+        name.raw_length = 1;
+        name.demangled_length = TUNO_DEMANGLED_NAME_LIMIT + 1;
+        CHECK((kind == 0 ? version_bytes(name, 0, text, 0, 1) : contains_of(name, 1)) == TUNO_TOO_LONG);
+        CHECK((kind == 0 ? locality_of(name, 1) : contains_of(name, 0)) == TUNO_TOO_LONG);
+        name = both("f", "\xff");
+        CHECK((kind == 0 ? version_bytes(name, 0, text, 0, 1) : contains_of(name, 1)) == TUNO_NAME_NOT_UTF8);
+        name = both("\xc3", "f");
+        CHECK((kind == 0 ? locality_of(name, 1) : contains_of(name, 1)) == TUNO_NAME_NOT_UTF8);
+        CHECK(as_before());
+    }
+}
+
+/* ---- what is no book: 14, and nothing is written */
+
+static int no_book(void) {
+    int refused;
+    keep();
+    refused = versions(1) == TUNO_NO_BOOK && parents(0) == TUNO_NO_BOOK && version("f") == TUNO_NO_BOOK && locality("\xff") == TUNO_NO_BOOK &&
+        contains("f") == TUNO_NO_BOOK && add(9, 9, 9, "[") == TUNO_NO_BOOK && strike(0) == TUNO_NO_BOOK && undo() == TUNO_NO_BOOK &&
+        settle() == TUNO_NO_BOOK && symbol("[;", 0) == TUNO_NO_BOOK;
+    return refused && as_before();
+}
+
+static void test_no_book(void) {
+    size_t i;
+    lend(all_rooms);
+    CHECK(TUNO_REFUSAL(opened(SCRIPT, "{")) != 0);
+    CHECK(all_zero());
+    CHECK(no_book());
+    for (i = 0; i < 2; i++) {
+        CHECK(opened_fresh(i == 0 ? SCRIPT : LIST, "{ f; };") == 0);
+        b.rooms.counts = 5;
+        CHECK(no_book());
+        b.rooms.counts = 7;
+        CHECK(no_book());
+        b.rooms.counts = 6;
+        b.pool[1 + 1] = 'x';
+        CHECK(no_book());
+        b.pool[1 + 1] = 0;
+        b.counts[1 + TUNO_COUNT_KIND] = 3;
+        CHECK(no_book());
+        b.counts[1 + TUNO_COUNT_KIND] = i == 0 ? TUNO_KIND_REGULAR : TUNO_KIND_EXPORT_LIST;
+        b.counts[1 + TUNO_COUNT_LINES] = 0xffffffffu;
+        CHECK(no_book());
+        b.counts[1 + TUNO_COUNT_LINES] = 1;
+        CHECK(strike(0) == 0);
+        b.journal[1 + TUNO_EDIT_LINE] = 1;
+        CHECK(no_book());
+    }
+}
+
+/* ---- edits that are refused */
+
+static int refused_edit(uint32_t number, uint32_t expected) { return number == expected && as_before() && untouched_beside(); }
+
+static void test_refused_edits(void) {
+    size_t i;
+    memset(text, 'a', sizeof text);
+
+    CHECK(opened_fresh(SCRIPT, haze) == 0);
+    keep();
+    CHECK(refused_edit(add(3, 0, 0, "["), TUNO_NO_SUCH));
+    CHECK(refused_edit(add(0, 2, 0, "f"), TUNO_NO_SUCH));
+    CHECK(refused_edit(add(0, 0, 2, "f"), TUNO_NO_SUCH));
+    CHECK(refused_edit(add_bytes(0, 0, 0, text, TUNO_TOKEN_LIMIT + 1), TUNO_TOO_LONG));
+    CHECK(refused_edit(add(0, 0, 0, "\xff*"), TUNO_GLOB_NOT_UTF8));
+    CHECK(refused_edit(add(0, 0, 0, "[a"), TUNO_BAD_PATTERN));
+    CHECK(refused_edit(strike(3), TUNO_NO_SUCH));
+    CHECK(refused_edit(strike(0xffffffffu), TUNO_NO_SUCH));
+    CHECK(refused_edit(undo(), TUNO_NOTHING_TO_UNDO));
+    CHECK(refused_edit(symbol("f;", 0), TUNO_WRONG_KIND));
+    CHECK(refused_edit(settle(), 0));
+
+    /* the Rust kind */
+    CHECK(opened_fresh(SCRIPT, "{ f; local: *; };") == 0);
+    keep();
+    CHECK(refused_edit(add(9, 0, 0, "f"), TUNO_WRONG_KIND));
+    CHECK(refused_edit(strike(9), TUNO_WRONG_KIND));
+    CHECK(refused_edit(undo(), TUNO_NOTHING_TO_UNDO));
+    CHECK(refused_edit(settle(), 0));
+    CHECK(refused_edit(symbol("f;", 0), TUNO_WRONG_KIND));
+
+    /* an export list */
+    CHECK(opened_fresh(LIST, "{ f; };") == 0);
+    keep();
+    CHECK(refused_edit(add(0, TUNO_SECTION_LOCAL, 0, "f"), TUNO_NO_SUCH));
+    CHECK(refused_edit(add(1, 0, 0, "f"), TUNO_NO_SUCH));
+    CHECK(refused_edit(symbol_bytes(text, TUNO_TOKEN_LIMIT + 1, 1), TUNO_TOO_LONG));
+    CHECK(refused_edit(symbol("f", 0), TUNO_UNREADABLE));
+    CHECK(refused_edit(symbol("", 0), TUNO_UNREADABLE));
+    CHECK(refused_edit(symbol("extern \"C\" { a; b", 1), TUNO_UNREADABLE));
+    CHECK(refused_edit(symbol("extern \"C\" { a; b", 0), TUNO_UNCLOSED));
+    CHECK(refused_edit(symbol("#x", 1), TUNO_UNCLOSED));
+    CHECK(refused_edit(symbol("extern \"D\"", 0), TUNO_BAD_EXTERN));
+    CHECK(refused_edit(symbol("extern \"C\" { a; \xff?; };", 0), TUNO_GLOB_NOT_UTF8));
+    CHECK(refused_edit(symbol("extern \"C\" { a; [; };", 0), TUNO_BAD_PATTERN));
+
+    /* rooms: a row of lines, a byte of the pool, a row of the journal */
+    lend(rooms_of(3, 0, 11, 8));
+    b.rooms.journal = 4;
+    CHECK(opened(LIST, "{ f; };") == 0);
+    keep();
+    CHECK(refused_edit(symbol("extern \"C\" { a; b; [ };", 0), TUNO_NO_ROOM));
+    CHECK(refused_edit(add(0, 0, 0, "12345678"), TUNO_NO_ROOM));
+    CHECK(add(0, 0, 0, "1234567") == 0);
+    keep();
+    CHECK(refused_edit(add(0, 0, 0, ""), TUNO_NO_ROOM));
+    CHECK(refused_edit(add(0, 0, 0, "[a"), TUNO_BAD_PATTERN));
+    CHECK(strike(0) == 0);
+    keep();
+    CHECK(refused_edit(strike(0), TUNO_NO_SUCH));
+    CHECK(refused_edit(strike(1), TUNO_NO_ROOM));
+    CHECK(symbol("extern \"C\" {};", 0) == 0);
+    CHECK(as_before());
+
+    /* limits: the pool's, with room behind it, then the edits' */
+    lend(all_rooms);
+    b.rooms.pool = TUNO_POOL_LIMIT + 1;
+    CHECK(opened(SCRIPT, "") == 0);
+    for (i = 0; i < TUNO_POOL_LIMIT / TUNO_TOKEN_LIMIT; i++) CHECK(add_bytes(0, 0, 0, text, TUNO_TOKEN_LIMIT) == 0);
+    CHECK(count(TUNO_COUNT_POOL_BYTES) == TUNO_POOL_LIMIT);
+    keep();
+    CHECK(refused_edit(add(0, 0, 0, "a"), TUNO_NO_ROOM));
+    CHECK(add(0, 0, 0, "*") == 0);
+
+    lend(all_rooms);
+    b.rooms.pool = 0;
+    b.rooms.journal = TUNO_JOURNAL_ROOM + 2;
+    CHECK(opened(SCRIPT, "") == 0);
+    for (i = 0; i < TUNO_EDIT_LIMIT && add(0, 0, 0, "*") == 0; i++) {
+    }
+    CHECK(count(TUNO_COUNT_EDITS) == TUNO_EDIT_LIMIT);
+    keep();
+    CHECK(refused_edit(add(0, 0, 0, "*"), TUNO_NO_ROOM));
+    CHECK(refused_edit(strike(0), TUNO_NO_ROOM));
+}
+
+/* ---- a trial: what the edits do, and every byte back */
+
+static void test_trial(void) {
+    static struct book opening;
+    size_t undone = 0;
+
+    lend(some_rooms);
+    CHECK(opened(SCRIPT, haze) == 0);
+    memcpy(&opening, &b, sizeof b);
+    CHECK(add(2, TUNO_SECTION_LOCAL, TUNO_LANGUAGE_CXX, "\"haze::day()\" \n") == 0);
+    CHECK(line_is(3, 2, TUNO_CLASS_EXACT, TUNO_SECTION_LOCAL, TUNO_LANGUAGE_CXX, 0, 16, "haze::day()"));
+    CHECK(edit_is(0, TUNO_EDIT_ADD, 3));
+    CHECK(count(TUNO_COUNT_LINES) == 4 && count(TUNO_COUNT_POOL_BYTES) == 27 && count(TUNO_COUNT_EDITS) == 1);
+    CHECK(locality_of(both("_Zday", "haze::day()"), 1) == 0 && value == TUNO_LOCALITY_LOCAL);
+    CHECK(strike(2) == 0);
+    CHECK(version("haze_month") == 0 && value == 2);
+    CHECK(add(1, 0, 0, "[") == TUNO_BAD_PATTERN);
+    CHECK(strike(0) == 0);
+    CHECK(locality("haze_month") == 0 && value == TUNO_LOCALITY_LOCAL);
+    CHECK(add(2, 0, 0, "ha[^a-y]e_*") == 0);
+    CHECK(line_is(4, 2, TUNO_CLASS_STAR, TUNO_SECTION_GLOBAL, TUNO_LANGUAGE_GENERAL, 0, 27, "ha[!a-y]e_*"));
+    CHECK(version("haze_month") == 0 && value == 3);
+    CHECK(strike(4) == 0);
+    CHECK(strike(4) == TUNO_NO_SUCH);
+    CHECK(strike(1) == 0);
+    CHECK(version("main") == 0 && value == TUNO_VERSION_NONE);
+    CHECK(locality("main") == 0 && value == TUNO_LOCALITY_NOTHING);
+    CHECK(count(TUNO_COUNT_EDITS) == 6);
+    CHECK(untouched_beside());
+    while (undo() == 0) undone++;
+    CHECK(undone == 6);
+    CHECK(memcmp(&opening, &b, sizeof b) == 0);
+
+    /* with nothing struck a settle changes nothing, and undo still works */
+    CHECK(add(0, 0, 0, "f") == 0);
+    keep();
+    CHECK(settle() == 0);
+    CHECK(as_before());
+    CHECK(undo() == 0);
+    CHECK(memcmp(&opening, &b, sizeof b) == 0);
+
+    /* a settle that drops lines: packed, renumbered, and that moment is what undoing leads back to */
+    CHECK(strike(0) == 0 && add(1, 0, 0, "haze_d*") == 0 && strike(1) == 0);
+    CHECK(settle() == 0);
+    CHECK(untouched_beside());
+    CHECK(count(TUNO_COUNT_LINES) == 2 && count(TUNO_COUNT_POOL_BYTES) == 17 && count(TUNO_COUNT_EDITS) == 0);
+    CHECK(line_is(0, 2, TUNO_CLASS_EXACT, TUNO_SECTION_GLOBAL, TUNO_LANGUAGE_GENERAL, 0, 0, "haze_month"));
+    CHECK(line_is(1, 1, TUNO_CLASS_STAR, TUNO_SECTION_GLOBAL, TUNO_LANGUAGE_GENERAL, 0, 10, "haze_d*"));
+    CHECK(zero(b.lines + 1 + 8, 4 * (b.rooms.lines - 8)) && zero(b.pool + 1 + 17, b.rooms.pool - 17) && zero(b.journal + 1, 4 * b.rooms.journal));
+    CHECK(version("haze_day") == 0 && value == 2);
+    CHECK(version("main") == 0 && value == TUNO_VERSION_NONE);
+    keep();
+    CHECK(undo() == TUNO_NOTHING_TO_UNDO);
+    CHECK(as_before());
+    CHECK(strike(1) == 0 && add(0, 1, 1, "x") == 0);
+    CHECK(undo() == 0 && undo() == 0);
+    CHECK(as_before());
+
+    /* a settle frees room: a book that is full takes a line again */
+    lend(rooms_of(3, 0, 8, 2));
+    CHECK(opened(LIST, "{ f; g; };") == 0);
+    CHECK(add(0, 0, 0, "h") == TUNO_NO_ROOM);
+    CHECK(strike(0) == 0 && settle() == 0 && add(0, 0, 0, "h") == 0);
+    CHECK(contains("f") == 0 && value == 0);
+    CHECK(contains("h") == 0 && value == 1);
+    CHECK(untouched_beside());
+}
+
+static void test_add_symbol(void) {
+    lend(some_rooms);
+    CHECK(opened(LIST, "{ f; };") == 0);
+    keep();
+    CHECK(symbol("g; ignored", 0) == 0);
+    CHECK(line_is(1, 0, TUNO_CLASS_EXACT, 0, 0, 0, 1, "g"));
+    CHECK(undo() == 0);
+    CHECK(as_before());
+    CHECK(symbol("extern \"C++\" { a::*; \"b()\"; };", 0) == 0);
+    CHECK(line_is(1, 0, TUNO_CLASS_STAR, 0, TUNO_LANGUAGE_CXX, 0, 1, "a::*"));
+    CHECK(line_is(2, 0, TUNO_CLASS_EXACT, 0, TUNO_LANGUAGE_CXX, 0, 5, "b()"));
+    CHECK(count(TUNO_COUNT_EDITS) == 2);
+    CHECK(contains_of(both("_Zb", "b()"), 1) == 0 && value == 1);
+    CHECK(undo() == 0);
+    CHECK(contains_of(both("_Zb", "b()"), 1) == 0 && value == 0);
+    CHECK(contains_of(both("_Za", "a::c"), 1) == 0 && value == 1);
+    CHECK(undo() == 0);
+    CHECK(as_before());
+    /* a flag that is not 0 means yes */
+    CHECK(symbol("a;b}c", 7) == 0);
+    CHECK(line_is(1, 0, TUNO_CLASS_EXACT, 0, 0, 0, 1, "a;b"));
+    CHECK(undo() == 0 && symbol("", 1) == 0);
+    CHECK(line_is(1, 0, TUNO_CLASS_EXACT, 0, 0, 0, 1, ""));
+    CHECK(undo() == 0);
+    CHECK(as_before());
+    CHECK(untouched_beside());
+}
+
+/* ---- a book in larger rooms: the same contents with zeros behind */
+
+static void test_larger_rooms(void) {
+    lend(rooms_of(9, 12, 12, 16));
+    b.rooms.journal = 0;
+    CHECK(opened(SCRIPT, haze) == 0);
+    CHECK(strike(0) == TUNO_NO_ROOM);
+    keep();
+    lend(all_rooms);
+    memset(b.counts + 1, 0, 4 * b.rooms.counts);
+    memset(b.nodes + 1, 0, 4 * b.rooms.nodes);
+    memset(b.names + 1, 0, b.rooms.names);
+    memset(b.lines + 1, 0, 4 * b.rooms.lines);
+    memset(b.pool + 1, 0, b.rooms.pool);
+    memset(b.journal + 1, 0, 4 * b.rooms.journal);
+    memcpy(b.counts + 1, before.counts + 1, 4 * before.rooms.counts);
+    memcpy(b.nodes + 1, before.nodes + 1, 4 * before.rooms.nodes);
+    memcpy(b.names + 1, before.names + 1, before.rooms.names);
+    memcpy(b.lines + 1, before.lines + 1, 4 * before.rooms.lines);
+    memcpy(b.pool + 1, before.pool + 1, before.rooms.pool);
+    keep();
+    CHECK(opened_fresh(SCRIPT, haze) == 0);
+    CHECK(as_before());
+    CHECK(strike(0) == 0);
+}
+
+int main(int argc, char **argv) {
+    int function;
+    if (argc != 2) {
+        fprintf(stderr, "usage: %s examples/haze.txt\n", argv[0]);
+        return 2;
+    }
+    test_story(argv[1]);
+    test_points();
+    test_refused_openings();
+    test_rooms();
+    test_refused_questions();
+    test_no_book();
+    test_refused_edits();
+    test_trial();
+    test_add_symbol();
+    test_larger_rooms();
+    for (function = 0; function < FUNCTIONS; function++) CHECK(met[function] == declared(function));
+    printf("%u passed, %u failed\n", passed, failed);
+    return failed != 0;
+}

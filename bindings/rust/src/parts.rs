@@ -1,0 +1,171 @@
+//! What a book is made of.
+
+/// What was opened.
+#[derive(Clone, Copy, Debug, PartialEq, Eq, Hash)]
+pub enum Kind {
+    /// A version script.
+    Regular,
+    /// A version script as rustc writes it: one body without a name, exact globals, and `local:
+    /// *;`. No symbol has a version under it, and it can't be edited.
+    Rust,
+    /// An export list.
+    ExportList,
+}
+
+/// How a line's bytes are held against a name.
+#[derive(Clone, Copy, Debug, PartialEq, Eq, Hash)]
+pub enum Class {
+    /// The name itself.
+    Exact,
+    /// The name itself; it was written with `\`.
+    Escaped,
+    /// A pattern; it was written with `?`, `[` or `]`.
+    NonStar,
+    /// A pattern; it was written with `*`.
+    Star,
+    /// `*` alone: every name.
+    All,
+}
+
+/// Whether a line exports or hides.
+#[derive(Clone, Copy, Debug, PartialEq, Eq, Hash)]
+pub enum Section {
+    /// `global:`.
+    Global,
+    /// `local:`.
+    Local,
+}
+
+/// Which name of a symbol a line sees.
+#[derive(Clone, Copy, Debug, PartialEq, Eq, Hash)]
+pub enum Language {
+    /// The raw name.
+    General,
+    /// The demangled name: `extern "C++"`.
+    Cxx,
+}
+
+/// A node by its number in the script. It is no version index: see [`VersionIndex`].
+#[derive(Clone, Copy, Debug, PartialEq, Eq, PartialOrd, Ord, Hash)]
+pub struct NodeNumber(pub u32);
+
+impl NodeNumber {
+    /// Node 0, the one without a name: a one-body script's, the empty base of a script with named
+    /// nodes, and the only one of an export list.
+    pub const BASE: NodeNumber = NodeNumber(0);
+}
+
+/// A version's index, one more than its node's number.
+///
+/// ```
+/// use tunoyaket::{NodeNumber, VersionIndex};
+///
+/// assert_eq!(VersionIndex::from_node(NodeNumber(2)).number(), 3);
+/// assert_eq!(VersionIndex::from_node(NodeNumber(2)).node(), Some(NodeNumber(2)));
+/// assert_eq!(VersionIndex::GLOBAL.number(), 1);
+/// assert_eq!(VersionIndex::GLOBAL.node(), None);
+/// ```
+#[derive(Clone, Copy, Debug, PartialEq, Eq, PartialOrd, Ord, Hash)]
+pub struct VersionIndex(u32);
+
+impl VersionIndex {
+    /// The global version, which no named node has: what a symbol gets whose wanted version is
+    /// empty.
+    pub const GLOBAL: VersionIndex = VersionIndex(1);
+
+    /// That of a node.
+    ///
+    /// # Panics
+    ///
+    /// For the number `u32::MAX`, which no node has.
+    pub fn from_node(node: NodeNumber) -> VersionIndex {
+        VersionIndex(node.0.checked_add(1).expect("the number of a node"))
+    }
+
+    /// An index that the library told.
+    pub(crate) fn told(index: u32) -> Option<VersionIndex> {
+        (index != 0).then_some(VersionIndex(index))
+    }
+
+    /// The index as a number, 1 or more.
+    pub fn number(self) -> u32 {
+        self.0
+    }
+
+    /// The named node that it is the version of.
+    pub fn node(self) -> Option<NodeNumber> {
+        (self != VersionIndex::GLOBAL).then_some(NodeNumber(self.0 - 1))
+    }
+}
+
+/// A node of a script.
+#[derive(Clone, Copy, Debug, PartialEq, Eq, Hash)]
+pub struct Node<'b> {
+    /// Its number.
+    pub number: NodeNumber,
+    /// Its name, which need not be UTF-8.
+    pub name: &'b [u8],
+    /// The node that it names as its parent.
+    pub parent: Option<NodeNumber>,
+}
+
+impl<'b> Node<'b> {
+    /// A node by its row.
+    pub(crate) fn at(number: usize, row: &[u32], names: &'b [u8]) -> Node<'b> {
+        Node {
+            number: NodeNumber(number as u32),
+            name: &names[row[0] as usize..][..row[1] as usize],
+            parent: (row[2] != 0).then_some(NodeNumber(row[2])),
+        }
+    }
+}
+
+/// A line of a script or of an export list.
+#[derive(Clone, Copy, Debug, PartialEq, Eq, Hash)]
+pub struct Line<'b> {
+    /// Its number, from 0 on in the order of reading and adding. A settle that drops lines
+    /// renumbers those behind them.
+    pub number: u32,
+    /// The node in which it stands.
+    pub node: NodeNumber,
+    /// How its bytes are held against a name.
+    pub class: Class,
+    /// Its section.
+    pub section: Section,
+    /// Its language.
+    pub language: Language,
+    /// Whether it is struck, so that no lookup sees it.
+    pub struck: bool,
+    /// What is kept of its token: without quotes, an escaped one without its `\`, a pattern with
+    /// each `[^` as `[!`, and of `*` nothing.
+    pub bytes: &'b [u8],
+}
+
+impl<'b> Line<'b> {
+    /// A line by its row.
+    pub(crate) fn at(number: usize, row: &[u32], pool: &'b [u8]) -> Line<'b> {
+        let code = row[1];
+        Line {
+            number: number as u32,
+            node: NodeNumber(row[0]),
+            class: match code % 32 / 4 {
+                0 => Class::Exact,
+                1 => Class::Escaped,
+                2 => Class::NonStar,
+                3 => Class::Star,
+                4 => Class::All,
+                class => unreachable!("no line has the class {class}"),
+            },
+            section: match code % 4 / 2 {
+                0 => Section::Global,
+                _ => Section::Local,
+            },
+            language: match code % 2 {
+                0 => Language::General,
+                _ => Language::Cxx,
+            },
+            struck: code / 32 != 0,
+            bytes: &pool[row[2] as usize..][..row[3] as usize],
+        }
+    }
+}
