@@ -2,6 +2,7 @@
 //!
 //!     NAME [--seed N] [--rounds N]   compare; exit status 1 when anything differs
 //!     NAME sample FILE [--seed N]    write a sample of the Rust's answers to FILE, where there is one
+//!     NAME replay FILE               compare what stands in FILE, where a case can be written down
 
 use crate::inputs::Random;
 use std::process::ExitCode;
@@ -19,6 +20,8 @@ pub struct Program {
     pub compared: fn(Random, u64) -> bool,
     /// Writes a sample.
     pub sample: Option<fn(&str, Random) -> std::io::Result<()>>,
+    /// Compares a case that was written down; true when it does not differ, or why it is none.
+    pub replay: Option<fn(&str) -> Result<bool, String>>,
 }
 
 impl Program {
@@ -50,6 +53,12 @@ impl Program {
                     .unwrap_or_else(|error| quit(&format!("{file}: {error}")));
                 true
             }
+            (["replay", file], _) => {
+                let replay = self.replay.unwrap_or_else(|| self.misused());
+                let text = std::fs::read_to_string(file).map_err(|error| error.to_string());
+                let agree = text.and_then(|text| replay(&text));
+                agree.unwrap_or_else(|error| quit(&format!("{file}: {error}")))
+            }
             _ => self.misused(),
         };
         ExitCode::from(if agree { 0 } else { 1 })
@@ -62,11 +71,14 @@ impl Program {
 
     fn misused(&self) -> ! {
         let name = self.name;
-        let sample = match self.sample {
-            Some(_) => format!(", or {name} sample FILE [--seed N]"),
-            None => String::new(),
-        };
-        quit(&format!("usage: {name} [--seed N] [--rounds N]{sample}"))
+        let mut usage = format!("usage: {name} [--seed N] [--rounds N]");
+        if self.sample.is_some() {
+            usage += &format!(", or {name} sample FILE [--seed N]");
+        }
+        if self.replay.is_some() {
+            usage += &format!(", or {name} replay FILE");
+        }
+        quit(&usage)
     }
 }
 

@@ -1,10 +1,11 @@
 //! What the comparisons share: their command line, their inputs, their domain of equality, their
-//! counts, and what they say of a case that differs.
+//! counts, their samples, and what they say of a case that differs.
 
 pub mod command;
 pub mod domain;
 pub mod inputs;
 pub mod report;
+pub mod sampling;
 pub mod tally;
 
 use std::fmt::Write;

@@ -24,6 +24,7 @@ fn main() -> ExitCode {
         rounds: 10_000,
         compared,
         sample: Some(sample::write),
+        replay: None,
     }
     .run()
 }

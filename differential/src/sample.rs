@@ -12,10 +12,8 @@
 use differential::domain::{adjacent_stars, stored_text};
 use differential::hex;
 use differential::inputs::{Random, SPECIAL};
+use differential::sampling;
 use host::{class, published};
-use std::collections::HashSet;
-use std::fs::File;
-use std::io::{BufWriter, Write};
 
 /// How many lines of each kind. Every second line of `M` matches.
 const KINDS: [(&str, usize); 4] = [("C", 700), ("U", 600), ("S", 1100), ("M", 1600)];
@@ -23,24 +21,16 @@ const KINDS: [(&str, usize); 4] = [("C", 700), ("U", 600), ("S", 1100), ("M", 16
 const LONGEST: usize = 60;
 
 pub fn write(file: &str, mut random: Random) -> std::io::Result<()> {
-    let mut out = BufWriter::new(File::create(file)?);
-    for (kind, count) in KINDS {
-        let mut lines = HashSet::new();
-        while lines.len() < count {
-            let line = match kind {
-                "C" => classed(&mut random),
-                "U" => unescaped(&mut random),
-                "S" => stored(&mut random),
-                _ => matched(&mut random, lines.len() % 2 == 0),
-            };
-            // A line that is already there, or lies outside the domain, is drawn again.
-            if let Some(line) = line.filter(|line| lines.insert(line.clone())) {
-                writeln!(out, "{kind} {line}")?;
-            }
-        }
-        println!("{kind} {count}");
-    }
-    out.flush()
+    let draw = |kind, number: usize| {
+        let line = match kind {
+            "C" => classed(&mut random),
+            "U" => unescaped(&mut random),
+            "S" => stored(&mut random),
+            _ => matched(&mut random, number % 2 == 0),
+        };
+        line.map(|line| (line.clone(), format!("{kind} {line}\n")))
+    };
+    sampling::write(file, &KINDS, draw, |kind, count| format!("{kind} {count}"))
 }
 
 fn classed(random: &mut Random) -> Option<String> {

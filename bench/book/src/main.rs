@@ -6,9 +6,8 @@
 
 use bench::{ratio, Bench, Figures, Unit};
 use book::buffers::{Buffers, Rooms};
-use book::model::{Line, Model, Node};
+use book::model::Model;
 use book::{kind, limit, ours};
-use host::class;
 use reading_host::{published, Source};
 use std::cell::OnceCell;
 use std::hint::black_box;
@@ -127,7 +126,10 @@ impl Case {
         self.made.get_or_init(|| match self.what {
             What::Lines(token, lines, length, lent) => script(one_body(token, lines, length), lent),
             What::Nodes(nodes, length) => script(chain(nodes, length), Lent::JustEnough),
-            What::Check(lines, nodes, edits, name) => Made::Book(full(lines, nodes, edits, name)),
+            What::Check(lines, nodes, edits, name) => {
+                let model = Model::mixed(lines, nodes, edits, name);
+                Made::Book(model.laid(model.needs()))
+            }
             What::CheckEmpty => Made::Book(Model::new(kind::REGULAR).laid(Rooms::FULL)),
         })
     }
@@ -167,43 +169,6 @@ fn just(script: &[u8]) -> Rooms {
     let answer = ours::open(Source::Script, script, &mut book);
     assert!(answer == 0, "a script of this list is refused {answer}");
     Model::of(&book).needs()
-}
-
-/// A book with that many nodes, each with the one before it as its parent, lines of 128 bytes of each
-/// class in turn, and edits: the latter half of the lines is added, and then struck.
-fn full(lines: usize, nodes: usize, edits: usize, name: usize) -> Buffers {
-    let mut model = Model::new(kind::REGULAR);
-    for number in 1..nodes {
-        model.nodes.push(Node {
-            name: format!("{number:n>name$}").into_bytes(),
-            parent: number - 1,
-        });
-    }
-    let line = |number: usize| {
-        let (class, end) = [
-            (class::EXACT, "___"),
-            (class::ESCAPED, "__*"),
-            (class::NON_STAR, "[a]"),
-            (class::STAR, "a?*"),
-        ][number % 4];
-        let text = format!("{:_<width$}{end}", format!("haze_{number}"), width = 125);
-        Line {
-            node: number % nodes,
-            class,
-            section: number / 4 % 2,
-            language: number / 8 % 2,
-            ..Line::exact(text.as_bytes())
-        }
-    };
-    let added = edits / 2;
-    model.lines = (0..lines - added).map(line).collect();
-    for number in lines - added..lines {
-        model.add(line(number));
-    }
-    for number in lines - added..lines {
-        model.strike(number);
-    }
-    model.laid(model.needs())
 }
 
 /// Runs a case so many times, and gives the time taken; nothing where the Rust does not have it.

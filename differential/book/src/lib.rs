@@ -1,12 +1,19 @@
-//! A book in lent buffers: the proved library's functions over it (`ours`), document 01's row 14
-//! (`fault`) and its ranking (`ranking`) read slowly, and a book apart from buffers, which can be
-//! edited and laid out (`model`).
+//! A book in lent buffers: the proved library's functions over it (`ours`), document 01 read slowly,
+//! its row 14 (`fault`), its ranking (`ranking`), its openings and edits (`trial`, over `reader` and
+//! `storing`), and a book apart from buffers, which can be laid out (`model`); and what random books,
+//! texts and names are made of (`changes`, `texts`).
 
 pub mod buffers;
+pub mod changes;
 pub mod fault;
 pub mod model;
 pub mod ours;
+pub mod questions;
 pub mod ranking;
+pub mod reader;
+pub mod storing;
+pub mod texts;
+pub mod trial;
 
 /// The kinds of a book.
 pub mod kind {

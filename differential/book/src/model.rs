@@ -1,8 +1,8 @@
 //! A book apart from buffers: read out of them, edited by document 01's rules, and laid out again.
 
 use crate::buffers::{Buffers, Lent, Rooms};
-use crate::{kind, width};
-use host::class;
+use crate::{kind, limit, width};
+use host::{class, refusal};
 
 #[derive(Clone, Debug, PartialEq, Eq)]
 pub struct Model {
@@ -45,6 +45,77 @@ impl Model {
             lines: Vec::new(),
             edits: Vec::new(),
         }
+    }
+
+    /// A regular one with so many lines of two bytes.
+    pub fn with_lines(count: usize) -> Self {
+        Self {
+            lines: vec![Line::exact(b"ab"); count],
+            ..Self::new(kind::REGULAR)
+        }
+    }
+
+    /// A regular one with so many bytes: lines as long as can be, and the rest in two.
+    pub fn with_pool(bytes: usize) -> Self {
+        let half = limit::TOKEN / 2;
+        let long = Line::exact(&b"a".repeat(limit::TOKEN));
+        let mut model = Self::new(kind::REGULAR);
+        model.lines = vec![long; bytes / limit::TOKEN];
+        let left = bytes % limit::TOKEN;
+        for part in [left.min(half), left.saturating_sub(half)] {
+            model.lines.push(Line::exact(&b"b".repeat(part)));
+        }
+        model
+    }
+
+    /// A regular one with so many edits: lines are added and struck in turn.
+    pub fn with_edits(count: usize) -> Self {
+        let mut model = Self::new(kind::REGULAR);
+        for number in 0..count {
+            match number % 2 {
+                0 => model.add(Line::exact(b"c")),
+                _ => model.strike(number / 2),
+            }
+        }
+        model
+    }
+
+    /// A regular one with that many nodes, each with the one before it as its parent, lines of 128 bytes
+    /// of each class in turn, and edits: the last lines are added, and then struck. A node's name has so
+    /// many bytes.
+    pub fn mixed(lines: usize, nodes: usize, edits: usize, name: usize) -> Self {
+        let mut model = Self::new(kind::REGULAR);
+        for number in 1..nodes {
+            model.nodes.push(Node {
+                name: format!("{number:n>name$}").into_bytes(),
+                parent: number - 1,
+            });
+        }
+        let line = |number: usize| {
+            let (class, end) = [
+                (class::EXACT, "___"),
+                (class::ESCAPED, "__*"),
+                (class::NON_STAR, "[a]"),
+                (class::STAR, "a?*"),
+            ][number % 4];
+            let text = format!("{:_<width$}{end}", format!("haze_{number}"), width = 125);
+            Line {
+                node: number % nodes,
+                class,
+                section: number / 4 % 2,
+                language: number / 8 % 2,
+                ..Line::exact(text.as_bytes())
+            }
+        };
+        let added = edits / 2;
+        model.lines = (0..lines - added).map(line).collect();
+        for number in lines - added..lines {
+            model.add(line(number));
+        }
+        for number in lines - added..lines {
+            model.strike(number);
+        }
+        model
     }
 
     /// Reads buffers that are a book.
@@ -116,6 +187,14 @@ impl Model {
         };
         let parents = self.nodes.iter().filter(|node| node.parent != 0).count();
         Some([versions as u32, parents as u32])
+    }
+
+    /// What the two counts answer of it.
+    pub fn asked_counts(&self) -> [Result<u32, u64>; 2] {
+        match self.counts() {
+            Some(counts) => counts.map(Ok),
+            None => [Err(refusal::WRONG_KIND); 2],
+        }
     }
 
     /// The rooms that it needs, to the last number and byte.

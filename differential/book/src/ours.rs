@@ -3,121 +3,118 @@
 use crate::buffers::Buffers;
 use reading_host::Source;
 
-/// Declares functions that open a text into a lent book.
-macro_rules! openings {
-    ($($name:ident)*) => {
+/// Declares functions over a lent book, with what each takes before the book, and behind it.
+macro_rules! functions {
+    ($lent:tt: $($name:ident($($before:ident: $of:ty),*; $($behind:ident: $is:ty),*) -> $answer:ty)*) => {
         extern "C" {
             $(fn $name(
-                text: *const u8,
-                text_length: usize,
-                counts: *mut u32,
+                $($before: $of,)*
+                counts: *$lent u32,
                 counts_length: usize,
-                nodes: *mut u32,
+                nodes: *$lent u32,
                 nodes_length: usize,
-                names: *mut u8,
+                names: *$lent u8,
                 names_length: usize,
-                lines: *mut u32,
+                lines: *$lent u32,
                 lines_length: usize,
-                pool: *mut u8,
+                pool: *$lent u8,
                 pool_length: usize,
-                journal: *mut u32,
+                journal: *$lent u32,
                 journal_length: usize,
-            ) -> u64;)*
+                $($behind: $is,)*
+            ) -> $answer;)*
         }
     };
 }
 
-openings! {
-    tuno_open_version_script
-    tuno_open_export_list
+functions! { mut:
+    tuno_open_version_script(text: *const u8, text_length: usize;) -> u64
+    tuno_open_export_list(text: *const u8, text_length: usize;) -> u64
+    tuno_add(; node: u32, section: u32, language: u32, token: *const u8, token_length: usize) -> u32
+    tuno_strike(; line: u32) -> u32
+    tuno_undo(;) -> u32
+    tuno_settle(;) -> u32
+    tuno_add_symbol(; text: *const u8, text_length: usize, without_semicolon: u32) -> u32
 }
 
-/// Declares functions that are asked of a lent book, with what each takes besides, and answer into
-/// `out`.
-macro_rules! questions {
-    ($($name:ident($($given:ident: $type:ty),*))*) => {
-        extern "C" {
-            $(fn $name(
-                counts: *const u32,
-                counts_length: usize,
-                nodes: *const u32,
-                nodes_length: usize,
-                names: *const u8,
-                names_length: usize,
-                lines: *const u32,
-                lines_length: usize,
-                pool: *const u8,
-                pool_length: usize,
-                journal: *const u32,
-                journal_length: usize,
-                $($given: $type,)*
-                out: *mut u32,
-                out_length: usize,
-            ) -> u32;)*
-        }
-    };
-}
-
-questions! {
-    tuno_version_count()
-    tuno_parent_count()
-    tuno_version_for_symbol(
+functions! { const:
+    tuno_version_count(; out: *mut u32, out_length: usize) -> u32
+    tuno_parent_count(; out: *mut u32, out_length: usize) -> u32
+    tuno_version_for_symbol(;
         raw: *const u8, raw_length: usize, demangled: *const u8, demangled_length: usize,
-        has_wanted: u32, wanted: *const u8, wanted_length: usize
-    )
-    tuno_locality(raw: *const u8, raw_length: usize, demangled: *const u8, demangled_length: usize)
-    tuno_contains(raw: *const u8, raw_length: usize, demangled: *const u8, demangled_length: usize)
+        has_wanted: u32, wanted: *const u8, wanted_length: usize, out: *mut u32, out_length: usize
+    ) -> u32
+    tuno_locality(;
+        raw: *const u8, raw_length: usize, demangled: *const u8, demangled_length: usize,
+        out: *mut u32, out_length: usize
+    ) -> u32
+    tuno_contains(;
+        raw: *const u8, raw_length: usize, demangled: *const u8, demangled_length: usize,
+        out: *mut u32, out_length: usize
+    ) -> u32
+}
+
+/// Calls one of them; a book is lent by the pointers that a method gives.
+macro_rules! call {
+    ($call:ident($($before:expr),*; $book:ident.$pointer:ident(); $($behind:expr),*)) => {
+        unsafe {
+            $call(
+                $($before,)*
+                $book.counts.$pointer(),
+                $book.counts.len(),
+                $book.nodes.$pointer(),
+                $book.nodes.len(),
+                $book.names.$pointer(),
+                $book.names.len(),
+                $book.lines.$pointer(),
+                $book.lines.len(),
+                $book.pool.$pointer(),
+                $book.pool.len(),
+                $book.journal.$pointer(),
+                $book.journal.len(),
+                $($behind,)*
+            )
+        }
+    };
 }
 
 /// Opens a script or an export list: 0, or a refusal's number plus 256 times its place.
 pub fn open(source: Source, text: &[u8], book: &mut Buffers) -> u64 {
-    let call = match source {
-        Source::Script => tuno_open_version_script,
-        Source::ExportList => tuno_open_export_list,
+    let (start, length) = (text.as_ptr(), text.len());
+    match source {
+        Source::Script => call!(tuno_open_version_script(start, length; book.as_mut_ptr();)),
+        Source::ExportList => call!(tuno_open_export_list(start, length; book.as_mut_ptr();)),
         Source::AddSymbol | Source::AddSymbolWithoutSemicolon => panic!("such a text is no book"),
-    };
-    unsafe {
-        call(
-            text.as_ptr(),
-            text.len(),
-            book.counts.as_mut_ptr(),
-            book.counts.len(),
-            book.nodes.as_mut_ptr(),
-            book.nodes.len(),
-            book.names.as_mut_ptr(),
-            book.names.len(),
-            book.lines.as_mut_ptr(),
-            book.lines.len(),
-            book.pool.as_mut_ptr(),
-            book.pool.len(),
-            book.journal.as_mut_ptr(),
-            book.journal.len(),
-        )
     }
+}
+
+/// Adds a line: 0, or a refusal's number, as of every edit.
+pub fn add(book: &mut Buffers, [node, section, language]: [u32; 3], token: &[u8]) -> u64 {
+    let (start, length) = (token.as_ptr(), token.len());
+    u64::from(call!(tuno_add(; book.as_mut_ptr(); node, section, language, start, length)))
+}
+
+pub fn strike(book: &mut Buffers, line: u32) -> u64 {
+    u64::from(call!(tuno_strike(; book.as_mut_ptr(); line)))
+}
+
+pub fn undo(book: &mut Buffers) -> u64 {
+    u64::from(call!(tuno_undo(; book.as_mut_ptr();)))
+}
+
+pub fn settle(book: &mut Buffers) -> u64 {
+    u64::from(call!(tuno_settle(; book.as_mut_ptr();)))
+}
+
+pub fn add_symbol(book: &mut Buffers, text: &[u8], without_semicolon: u32) -> u64 {
+    let (start, length) = (text.as_ptr(), text.len());
+    u64::from(call!(tuno_add_symbol(; book.as_mut_ptr(); start, length, without_semicolon)))
 }
 
 /// The value that a function answers of a book and of what is given besides, or a refusal's number.
 macro_rules! ask {
     ($call:ident, $book:ident $(, $given:expr)*) => {
-        answered(|out| unsafe {
-            $call(
-                $book.counts.as_ptr(),
-                $book.counts.len(),
-                $book.nodes.as_ptr(),
-                $book.nodes.len(),
-                $book.names.as_ptr(),
-                $book.names.len(),
-                $book.lines.as_ptr(),
-                $book.lines.len(),
-                $book.pool.as_ptr(),
-                $book.pool.len(),
-                $book.journal.as_ptr(),
-                $book.journal.len(),
-                $($given,)*
-                out.as_mut_ptr(),
-                out.len(),
-            )
-        })
+        answered(|out| call!($call(; $book.as_ptr(); $($given,)* out.as_mut_ptr(), out.len())))
     };
 }
 

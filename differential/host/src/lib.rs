@@ -30,6 +30,8 @@ pub mod refusal {
     pub const NO_ROOM: u64 = 8;
     pub const NAME_NOT_UTF8: u64 = 9;
     pub const UNKNOWN_VERSION: u64 = 10;
+    pub const NO_SUCH: u64 = 11;
+    pub const NO_EDIT: u64 = 12;
     pub const WRONG_KIND: u64 = 13;
     pub const NO_BOOK: u64 = 14;
 }

@@ -11,7 +11,7 @@ include!("../../host/archive.rs");
 use std::fs;
 
 fn main() {
-    link_archive("TUNOYAKET_READING_ARCHIVE", "reading");
+    link_archive("TUNOYAKET_READING_ARCHIVE", "reading_rows");
     let out = given("OUT_DIR");
 
     let probes = format!("{}/src/probes", given("CARGO_MANIFEST_DIR"));

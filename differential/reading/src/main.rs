@@ -30,6 +30,7 @@ fn main() -> ExitCode {
         rounds: 100_000,
         compared,
         sample: Some(sample::write),
+        replay: None,
     }
     .run()
 }

@@ -23,14 +23,12 @@
 use differential::domain::adjacent_stars;
 use differential::hex;
 use differential::inputs::Random;
+use differential::sampling;
 use host::class;
 use reading::scripts::{self, Kind};
 use reading_host::kept::{Line, Matcher, Node};
 use reading_host::published::{self, Answer};
 use reading_host::Source;
-use std::collections::HashSet;
-use std::fs::File;
-use std::io::{BufWriter, Write};
 
 /// How many texts for each source. Every second one is accepted.
 const TEXTS: [(Source, usize); 4] = [
@@ -43,19 +41,12 @@ const TEXTS: [(Source, usize); 4] = [
 const LONGEST: usize = 200;
 
 pub fn write(file: &str, mut random: Random) -> std::io::Result<()> {
-    let mut out = BufWriter::new(File::create(file)?);
-    for (source, count) in TEXTS {
-        let mut texts = HashSet::new();
-        while texts.len() < count {
-            // A text that is already there, or not the wanted one, is drawn again.
-            let text = text(&mut random, source, texts.len() % 2 == 0);
-            if let Some(text) = text.filter(|text| texts.insert(text.clone())) {
-                writeln!(out, "R {text}")?;
-            }
-        }
-        println!("{source:?} {count}");
-    }
-    out.flush()
+    let draw = |source, number: usize| {
+        let text = text(&mut random, source, number % 2 == 0);
+        text.map(|text| (text.clone(), format!("R {text}\n")))
+    };
+    let said = |source, count| format!("{source:?} {count}");
+    sampling::write(file, &TEXTS, draw, said)
 }
 
 fn text(random: &mut Random, source: Source, wanted: bool) -> Option<String> {

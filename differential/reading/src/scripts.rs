@@ -201,6 +201,14 @@ impl Kind {
         Kind::Bare,
         Kind::Words,
     ];
+
+    /// What a text that is to be a book is opened as.
+    pub fn source(self) -> Source {
+        match self {
+            Kind::ExportList => Source::ExportList,
+            _ => Source::Script,
+        }
+    }
 }
 
 pub fn random(random: &mut Random, kind: Kind) -> Vec<u8> {

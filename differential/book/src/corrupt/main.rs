@@ -11,20 +11,17 @@
 //! that is read out of the buffers says (13 for an export list). Which kinds of change left a book
 //! and which did not is printed at the end.
 
-mod changes;
-
 use book::buffers::{Buffers, Rooms};
+use book::changes::CHANGES;
 use book::fault::fault;
 use book::model::{Line, Model, Node};
 use book::{kind, limit, ours};
-use changes::CHANGES;
 use differential::command::Program;
 use differential::inputs::Random;
 use differential::report::cut;
 use differential::tally::Tally;
 use host::{class, refusal};
 use reading::scripts::{self, Kind};
-use reading_host::Source;
 use std::collections::BTreeMap;
 use std::process::ExitCode;
 
@@ -37,6 +34,7 @@ fn main() -> ExitCode {
         rounds: 200_000,
         compared,
         sample: None,
+        replay: None,
     }
     .run()
 }
@@ -159,10 +157,7 @@ fn wanted(book: &Buffers) -> [Result<u32, u64>; 2] {
     if fault(book).is_some() {
         return [Err(refusal::NO_BOOK); 2];
     }
-    match Model::of(book).counts() {
-        Some(counts) => counts.map(Ok),
-        None => [Err(refusal::WRONG_KIND); 2],
-    }
+    Model::of(book).asked_counts()
 }
 
 fn told(book: &Buffers) -> String {
@@ -212,12 +207,8 @@ fn opened(random: &mut Random) -> Model {
             Kind::ExportList,
         ]);
         let text = scripts::random(random, kind);
-        let source = match kind {
-            Kind::ExportList => Source::ExportList,
-            _ => Source::Script,
-        };
         let mut book = Buffers::new(Rooms::ample(text.len()));
-        if ours::open(source, &text, &mut book) != 0 {
+        if ours::open(kind.source(), &text, &mut book) != 0 {
             continue;
         }
         let model = Model::of(&book);
@@ -318,29 +309,13 @@ fn limits(comparison: &mut Comparison) {
         held("nodes", &model, count <= limit::NODES);
     }
     for count in over(limit::LINES) {
-        let mut model = regular();
-        model.lines = vec![Line::exact(b"ab"); count];
-        held("lines", &model, count <= limit::LINES);
+        held("lines", &Model::with_lines(count), count <= limit::LINES);
     }
     for bytes in over(limit::POOL) {
-        let mut model = regular();
-        let long = Line::exact(&b"a".repeat(limit::TOKEN));
-        model.lines = vec![long; limit::POOL / limit::TOKEN - 1];
-        for part in [limit::TOKEN / 2, bytes - limit::POOL + limit::TOKEN / 2] {
-            model.lines.push(Line::exact(&b"b".repeat(part)));
-        }
-        held("pool", &model, bytes <= limit::POOL);
+        held("pool", &Model::with_pool(bytes), bytes <= limit::POOL);
     }
     for count in over(limit::EDITS) {
-        let mut model = regular();
-        for number in 0..count / 2 {
-            model.add(Line::exact(b"c"));
-            model.strike(number);
-        }
-        if count % 2 == 1 {
-            model.add(Line::exact(b"c"));
-        }
-        held("edits", &model, count <= limit::EDITS);
+        held("edits", &Model::with_edits(count), count <= limit::EDITS);
     }
     for length in over(limit::TOKEN) {
         for (class, byte) in [

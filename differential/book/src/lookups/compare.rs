@@ -3,80 +3,15 @@
 
 use crate::coverage::Coverage;
 use book::buffers::{Buffers, Rooms};
-use book::model::{Line, Model};
+use book::model::Model;
 use book::ours::{self, Name};
+use book::questions::{Held, Outside, Question};
 use book::ranking::Ranking;
-use book::{kind, limit};
 use differential::hex;
 use differential::report::{cut, expect, shorten, told};
 use differential::tally::Tally;
 use host::refusal;
-use reading_host::asked::{demangler_answers, List, Script, Symbol};
 use reading_host::Source;
-
-/// Why a question lies outside the domain of equality. It must be refused there.
-#[derive(Clone, Copy)]
-enum Outside {
-    Limit,
-    Name,
-}
-
-/// The same in words, by their numbers.
-const REASONS: [&str; 2] = ["a name over the limit", "a name that is not UTF-8"];
-
-/// What is asked of a name.
-#[derive(Clone, Copy, Debug, PartialEq, Eq)]
-pub enum What {
-    Version,
-    Locality,
-    Membership,
-}
-
-/// A question. Without a demangled name the raw one is given again; a version is wanted or not.
-#[derive(Clone)]
-pub struct Question {
-    pub what: What,
-    pub raw: Vec<u8>,
-    pub demangled: Option<Vec<u8>>,
-    pub wanted: Option<Vec<u8>>,
-}
-
-impl Question {
-    pub fn name(&self) -> Name<'_> {
-        let raw = &self.raw[..];
-        Name {
-            raw,
-            demangled: self.demangled.as_deref().unwrap_or(raw),
-        }
-    }
-
-    /// Whether equality is asked of it.
-    pub fn is_within(&self) -> bool {
-        self.outside().is_none()
-    }
-
-    fn outside(&self) -> Option<Outside> {
-        let Name { raw, demangled } = self.name();
-        let wanted = self.wanted.as_deref().unwrap_or_default();
-        let utf8 = |name| std::str::from_utf8(name).is_ok();
-        if raw.len() > limit::RAW
-            || demangled.len() > limit::DEMANGLED
-            || wanted.len() > limit::WANTED
-        {
-            Some(Outside::Limit)
-        } else if !(utf8(raw) && utf8(demangled)) {
-            Some(Outside::Name)
-        } else {
-            None
-        }
-    }
-}
-
-/// What the Rust holds of a text.
-enum Held<'t> {
-    Script(Script<'t>),
-    List(List<'t>),
-}
 
 /// A text that both sides have opened.
 pub struct Opened<'t> {
@@ -89,10 +24,7 @@ pub struct Opened<'t> {
 /// Opens a text on both sides; nothing where one of them refuses it. That they do so alike, and keep
 /// the same, is compared by `differential/run book`.
 pub fn opened(source: Source, text: &[u8]) -> Option<Opened<'_>> {
-    let held = match source {
-        Source::ExportList => Held::List(List::parse(text)?),
-        _ => Held::Script(Script::parse(text)?),
-    };
+    let held = Held::parse(source, text)?;
     let mut book = Buffers::new(Rooms::ample(text.len()));
     if ours::open(source, text, &mut book) != 0 {
         return None;
@@ -134,87 +66,12 @@ impl Opened<'_> {
 
     /// The counts of versions and parents that the Rust gives for a script.
     pub fn published_counts(&self) -> Option<[u32; 2]> {
-        match &self.held {
-            Held::Script(script) => Some(script.counts().map(u32::from)),
-            Held::List(_) => None,
-        }
+        self.held.counts()
     }
 
-    /// The Rust's answer, in the library's numbers. For the Rust kind, locality is document 01's:
-    /// "global for listed names, else local".
+    /// The Rust's answer.
     pub fn published(&self, question: &Question) -> Result<u32, u64> {
-        let text = |name| std::str::from_utf8(name).expect("names are UTF-8 here");
-        demangler_answers(question.demangled.as_deref().map(text));
-        let symbol = Symbol::new(&question.raw);
-        match (&self.held, question.what) {
-            (Held::Script(script), What::Version) => {
-                let version = script.version(&symbol, question.wanted.as_deref());
-                let index = version.ok_or(refusal::UNKNOWN_VERSION)?;
-                Ok(index.map_or(0, u32::from))
-            }
-            (Held::Script(script), What::Locality) => Ok(match script.listed() {
-                Some(listed) if listed.contains(&&question.raw[..]) => 1,
-                Some(_) => 2,
-                None => script
-                    .deciding(&symbol)
-                    .map_or(0, |(_, section)| 1 + section as u32),
-            }),
-            (Held::List(list), What::Membership) => Ok(u32::from(list.contains(&symbol))),
-            _ => Err(refusal::WRONG_KIND),
-        }
-    }
-
-    /// What the ranking of this host gives, which also says what decided.
-    fn ranked(&self, question: &Question, coverage: Option<&mut Coverage>) -> Result<u32, u64> {
-        if let Some(wanted) = &question.wanted {
-            return self.wanted(wanted, coverage);
-        }
-        let matching = self.ranking.matching(question.name());
-        let line = self.ranking.deciding(&matching);
-        if let Some(coverage) = coverage {
-            coverage.decided(self.model.kind, &matching, line);
-        }
-        Ok(match (question.what, self.model.kind) {
-            (What::Version, kind::RUST) => 0,
-            (What::Version, _) => match line {
-                Some(line) if line.node > 0 => 1 + line.node as u32,
-                _ => 0,
-            },
-            (What::Locality, kind::RUST) => {
-                let listed = |line: &&Line| line.section == 0;
-                2 - u32::from(matching.iter().any(listed))
-            }
-            (What::Locality, _) => line.map_or(0, |line| 1 + line.section as u32),
-            (What::Membership, _) => u32::from(line.is_some()),
-        })
-    }
-
-    /// "A wanted version that is empty gives 1, a known one its index, an unknown one refusal 10",
-    /// "the last node of that name"; and for the Rust kind "always none, a wanted one too".
-    fn wanted(&self, wanted: &[u8], coverage: Option<&mut Coverage>) -> Result<u32, u64> {
-        let nodes = self.model.nodes.iter().enumerate();
-        let named: Vec<usize> = nodes
-            .filter(|(number, node)| *number > 0 && node.name == wanted)
-            .map(|(number, _)| number)
-            .collect();
-        if let Some(coverage) = coverage {
-            coverage.wanted(self.model.kind, wanted, named.len());
-        }
-        match named.last() {
-            _ if self.model.kind == kind::RUST => Ok(0),
-            _ if wanted.is_empty() => Ok(1),
-            Some(&node) => Ok(1 + node as u32),
-            None => Err(refusal::UNKNOWN_VERSION),
-        }
-    }
-
-    fn ours(&self, question: &Question) -> Result<u32, u64> {
-        let name = question.name();
-        match question.what {
-            What::Version => ours::version(&self.book, name, question.wanted.as_deref()),
-            What::Locality => ours::locality(&self.book, name),
-            What::Membership => ours::contains(&self.book, name),
-        }
+        self.held.answer(question)
     }
 
     /// Whether the sides agree, or what is wrong.
@@ -224,19 +81,18 @@ impl Opened<'_> {
         coverage: Option<&mut Coverage>,
     ) -> Result<Option<Outside>, String> {
         let outside = question.outside();
-        let want = match outside {
-            Some(Outside::Limit) => Err(refusal::OVER_THE_LIMIT),
-            Some(Outside::Name) => Err(refusal::NAME_NOT_UTF8),
-            None => {
-                let rust = self.published(question);
-                let ranked = self.ranked(question, coverage);
-                expect(rust == ranked, || {
-                    format!("the Rust answers {rust:?}, the ranking gives {ranked:?}")
-                })?;
-                rust
-            }
-        };
-        let got = self.ours(question);
+        let ranked = self.ranking.ranked(question);
+        let want = ranked.answer;
+        if outside.is_none() {
+            let rust = self.published(question);
+            expect(rust == want, || {
+                format!("the Rust answers {rust:?}, the ranking gives {want:?}")
+            })?;
+        }
+        if let Some(coverage) = coverage {
+            coverage.answered(self.model.kind, question, &ranked.by);
+        }
+        let got = question.ours(&self.book);
         expect(got == want, || format!("expected {want:?}, got {got:?}"))?;
         Ok(outside)
     }
@@ -256,7 +112,7 @@ pub struct Comparison {
 impl Comparison {
     pub fn new() -> Self {
         Self {
-            tally: Tally::new(REASONS),
+            tally: Tally::new(Outside::REASONS),
             texts: 0,
             opened: [0; 3],
             questions: 0,

@@ -2,6 +2,8 @@
 
 use book::kind;
 use book::model::Line;
+use book::questions::Question;
+use book::ranking::By;
 
 const CLASSES: [&str; 5] = ["Exact", "Escaped", "NonStar", "Star", "All"];
 
@@ -29,7 +31,15 @@ pub struct Coverage {
 }
 
 impl Coverage {
-    pub fn decided(&mut self, kind: u32, matching: &[&Line], line: Option<&Line>) {
+    pub fn answered(&mut self, kind: u32, question: &Question, by: &By) {
+        match by {
+            By::Refusal => {}
+            By::Wanted(nodes) => self.wanted(kind, question, *nodes),
+            By::Lines { matching, deciding } => self.decided(kind, matching, *deciding),
+        }
+    }
+
+    fn decided(&mut self, kind: u32, matching: &[&Line], line: Option<&Line>) {
         let list = kind == kind::EXPORT_LIST;
         if kind == kind::RUST {
             let listed = matching.iter().any(|line| line.section == 0);
@@ -54,10 +64,10 @@ impl Coverage {
         }
     }
 
-    pub fn wanted(&mut self, kind: u32, wanted: &[u8], nodes: usize) {
+    fn wanted(&mut self, kind: u32, question: &Question, nodes: usize) {
         let number = match nodes {
             _ if kind == kind::RUST => 4,
-            _ if wanted.is_empty() => 0,
+            _ if question.wanted.as_deref() == Some(b"") => 0,
             0 => 3,
             1 => 1,
             _ => 2,

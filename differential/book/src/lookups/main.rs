@@ -20,11 +20,11 @@
 mod compare;
 mod coverage;
 mod sample;
-mod texts;
 
-use book::limit;
 use book::model::Model;
-use compare::{Comparison, Question, What};
+use book::questions::{Question, What};
+use book::{limit, texts};
+use compare::Comparison;
 use differential::command::Program;
 use differential::inputs::{long, Random};
 use reading::scripts::{self, Kind};
@@ -51,6 +51,7 @@ fn main() -> ExitCode {
         rounds: 40_000,
         compared,
         sample: Some(sample::write),
+        replay: None,
     }
     .run()
 }
@@ -62,7 +63,7 @@ fn compared(mut random: Random, rounds: u64) -> bool {
         for _ in 0..rounds {
             for kind in KINDS {
                 let text = texts::text(&mut random, kind);
-                let source = source(kind);
+                let source = kind.source();
                 comparison.surely(source, &text, |book| many(&mut random, source, book));
             }
         }
@@ -73,7 +74,7 @@ fn compared(mut random: Random, rounds: u64) -> bool {
             for _ in 0..rounds / 4 {
                 for kind in KINDS {
                     let text = scripts::random(&mut random, kind);
-                    let source = source(kind);
+                    let source = kind.source();
                     comparison.text(source, &text, |book| many(&mut random, source, book));
                 }
             }
@@ -81,13 +82,6 @@ fn compared(mut random: Random, rounds: u64) -> bool {
     );
     comparison.phase("around the limits of names", limits);
     comparison.finish()
-}
-
-pub fn source(kind: Kind) -> Source {
-    match kind {
-        Kind::ExportList => Source::ExportList,
-        _ => Source::Script,
-    }
 }
 
 /// The questions of some names.
@@ -162,10 +156,9 @@ fn around_limits(source: Source) -> Vec<Question> {
     let short = b"a".to_vec();
     let mut questions = Vec::new();
     let mut ask = |raw: &Vec<u8>, demangled: Option<&Vec<u8>>, wanted: Option<&Vec<u8>>| {
-        let whats: &[What] = match (source, wanted) {
-            (Source::ExportList, _) => &[What::Membership],
-            (_, Some(_)) => &[What::Version],
-            _ => &[What::Version, What::Locality],
+        let whats = match wanted {
+            Some(_) => &[What::Version],
+            None => What::of(source),
         };
         questions.extend(whats.iter().map(|&what| Question {
             what,

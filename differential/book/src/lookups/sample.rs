@@ -12,16 +12,16 @@
 //! Counts, indices and localities are digits. All lie within the domain of equality, and are the same
 //! for the same seed.
 
-use crate::compare::{opened, Opened, Question, What};
-use crate::{questions, source, texts};
-use book::kind;
+use crate::compare::{opened, Opened};
+use crate::questions;
+use book::questions::{Question, What};
+use book::{kind, texts};
 use differential::hex;
 use differential::inputs::Random;
+use differential::sampling;
 use reading::scripts::Kind;
 use reading_host::Source;
 use std::collections::HashSet;
-use std::fs::File;
-use std::io::{BufWriter, Write};
 
 /// How many texts of each kind.
 const TEXTS: [(Kind, usize); 4] = [
@@ -37,20 +37,13 @@ const QUESTIONS: usize = 10;
 const LONGEST: usize = 200;
 
 pub fn write(file: &str, mut random: Random) -> std::io::Result<()> {
-    let mut out = BufWriter::new(File::create(file)?);
-    for (kind, count) in TEXTS {
-        let mut texts = HashSet::new();
-        while texts.len() < count {
-            // A text that is already there, or has too few questions, is drawn again.
-            let text = texts::text(&mut random, kind);
-            let lines = lines(&mut random, source(kind), &text);
-            if let Some(lines) = lines.filter(|_| texts.insert(text)) {
-                out.write_all(lines.as_bytes())?;
-            }
-        }
-        println!("{} texts, {} questions", count, count * QUESTIONS);
-    }
-    out.flush()
+    let draw = |kind: Kind, _| {
+        let text = texts::text(&mut random, kind);
+        let lines = lines(&mut random, kind.source(), &text)?;
+        Some((text, lines))
+    };
+    let said = |_, count| format!("{} texts, {} questions", count, count * QUESTIONS);
+    sampling::write(file, &TEXTS, draw, said)
 }
 
 /// A text and its questions, no two alike.

@@ -4,6 +4,8 @@
 use book::buffers::{Buffers, Rooms};
 use book::fault::fault;
 use book::model::{Line, Model};
+use book::reader::Refused;
+use book::trial::Trial;
 use book::{kind, limit, ours};
 use differential::domain::{adjacent_stars, stored_text};
 use differential::inputs::Random;
@@ -266,6 +268,9 @@ fn opened(source: Source, text: &[u8], rooms: Rooms, book: &mut Buffers) -> Resu
     expect(book.untouched_beside(), || {
         "memory beside the buffers was written".to_string()
     })?;
+    let plain = Trial::open(source, text, 6, rooms);
+    let want = plain.as_ref().map_or_else(Refused::answer, |_| 0);
+    expect(answer == want, || format!("expected {want}, got {answer}"))?;
     if answer % 256 != 0 {
         expect(book.are_zero(), || {
             format!("refused {answer}, and not all is zero")
@@ -277,6 +282,9 @@ fn opened(source: Source, text: &[u8], rooms: Rooms, book: &mut Buffers) -> Resu
         return Err(format!("opened, and no book: {fault}"));
     }
     let model = Model::of(book);
+    expect(plain.is_ok_and(|plain| plain.book == model), || {
+        format!("another book than document 01's: {:?}", book.counted())
+    })?;
     let of_its_source = match source {
         Source::Script => model.kind != kind::EXPORT_LIST,
         _ => model.kind == kind::EXPORT_LIST,
@@ -285,10 +293,7 @@ fn opened(source: Source, text: &[u8], rooms: Rooms, book: &mut Buffers) -> Resu
         format!("opened as {source:?}: {:?}", book.counted())
     })?;
     let counted = [ours::version_count(book), ours::parent_count(book)];
-    let want = match model.counts() {
-        Some(counts) => counts.map(Ok),
-        None => [Err(refusal::WRONG_KIND); 2],
-    };
+    let want = model.asked_counts();
     expect(counted == want, || {
         format!("the counts are {counted:?}, and not {want:?}")
     })?;

@@ -19,8 +19,9 @@
 //!
 //! Besides, of our side alone: what was opened is a book, by the library's own check and by the
 //! plain reading of row 14 in this crate; a refused opening leaves all lent memory zero; nothing
-//! beside the lent memory is written; and in small rooms the answer is 8 exactly where what the
-//! text needs does not fit.
+//! beside the lent memory is written; in small rooms the answer is 8 exactly where what the text needs
+//! does not fit; and the number and the place of every refusal, and the book, are those of the slow model
+//! of document 01 in this crate (../trial.rs).
 
 mod compare;
 
@@ -67,6 +68,7 @@ fn main() -> ExitCode {
         rounds: 40_000,
         compared,
         sample: None,
+        replay: None,
     }
     .run()
 }

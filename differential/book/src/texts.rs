@@ -1,7 +1,7 @@
 //! Scripts and export lists over few stems, so that their lines come close to one another, and names
 //! that come close to a book's lines.
 
-use book::model::{Line, Model};
+use crate::model::{Line, Model};
 use differential::domain::{adjacent_stars, stored_text};
 use differential::inputs::{Random, DAMAGE};
 use host::{class, published};
@@ -36,13 +36,7 @@ const NODES: [&str; 9] = ["A", "A", "A", "B", "B", "V1", "V1.2", "A;b", "\u{e9}"
 
 /// A script or an export list that is accepted, of one of the kinds that can be books.
 pub fn text(random: &mut Random, kind: Kind) -> Vec<u8> {
-    let count = 2 + random.below(4);
-    let stems = (0..count).map(|_| random.pick(&STEMS)).collect();
-    let mut text = Text {
-        random,
-        stems,
-        text: Vec::new(),
-    };
+    let mut text = Text::new(random);
     match kind {
         Kind::Nodes => text.nodes(),
         Kind::RustKind => text.rust_kind(),
@@ -52,13 +46,35 @@ pub fn text(random: &mut Random, kind: Kind) -> Vec<u8> {
     text.text
 }
 
+/// A token over the stems, which can be one that is refused.
+pub fn token(random: &mut Random) -> Vec<u8> {
+    Text::new(random).any_token().into_bytes()
+}
+
+/// A matcher that is accepted, with blanks behind it.
+pub fn matcher(random: &mut Random) -> Vec<u8> {
+    let mut text = Text::new(random);
+    text.matcher();
+    text.text
+}
+
 struct Text<'r> {
     random: &'r mut Random,
     stems: Vec<&'static str>,
     text: Vec<u8>,
 }
 
-impl Text<'_> {
+impl<'r> Text<'r> {
+    fn new(random: &'r mut Random) -> Self {
+        let count = 2 + random.below(4);
+        let stems = (0..count).map(|_| random.pick(&STEMS)).collect();
+        Self {
+            random,
+            stems,
+            text: Vec::new(),
+        }
+    }
+
     fn put(&mut self, words: &str) {
         self.text.extend_from_slice(words.as_bytes());
     }
@@ -222,7 +238,7 @@ pub fn name(random: &mut Random, book: &Model) -> Vec<u8> {
 }
 
 /// A name that the line matches, but for a bracket with `!` at times.
-fn matched(random: &mut Random, line: &Line) -> Vec<char> {
+pub fn matched(random: &mut Random, line: &Line) -> Vec<char> {
     let bytes = String::from_utf8_lossy(&line.bytes);
     if line.class == class::ALL {
         return random.pick(&STEMS).chars().collect();

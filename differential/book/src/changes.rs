@@ -1,8 +1,8 @@
 //! The kinds of change. Most change one number or byte; the last ones move, swap or cut, so that
 //! more than a plain damage is asked for.
 
-use book::buffers::{Buffers, Counted, Lent, Noise};
-use book::{limit, width};
+use crate::buffers::{Buffers, Counted, Lent, Noise};
+use crate::{limit, width};
 use differential::inputs::Random;
 
 pub struct Change {
