@@ -33,6 +33,7 @@ use Rattle.changes.specs.declared.Edited.{Edited}
 use Rattle.changes.specs.declared.Edited.the-variants as answer
 use Rattle.changes.specs.Changes.{Change, after, edited, no as says-no, to}
 use Rattle.changes.specs.Trial.{append, append-kept, unplaced, with-line}
+use Rattle.changes.proofs.Answers.{Answers}
 use Rattle.adding.proofs.Laying.{bytes-laid, bytes-more, row-laid}
 
 -- ---- what refuses a token that has no row: r is what `store_token` answers with no room at all
@@ -53,10 +54,6 @@ module _ (x : Edition) (kind : ℕ) (t : List ℕ) (y : x ≡ edition-of kind) (
 
   pub unplaced-stored : (k : Class) (i : ℕ) → r ≡ As k i → no-room ≡ unplaced (keep (edition-of kind) t)
   unplaced-stored k i z = rw (← y) (stored-told (keep x t) k i u z)
-
--- ---- a change that was made or refused: what is answered, and the buffers behind it
-abbrev pub Made : Buffers → Change → Edited → Buffers → Type 0
-Made b ch r b′ = (r ≡ edited ch) × (b′ ≡ after b ch)
 
 and-false : (x : Bool) → (x && false) ≡ false
 and-false true = refl
@@ -81,7 +78,7 @@ module _ (c : Counts) (n m l q j : List ℕ) (node section language : ℕ) (t : 
   append-is = refl
 
   made-no : (K : Keep) (i : ℕ) → K ≡ keep (edition-of (c .kind)) t → change K ≡ says-no i → (r : Edited) → r ≡ answer.Refused i
-      → Made lent (append lent book node section language t) r lent
+      → Answers r lent lent (append lent book node section language t)
   unfolding edited after
   made-no K i k e r z = rw (append-is, ← k, e) (z, refl)
 
@@ -97,10 +94,10 @@ module _ (c : Counts) (n m l q j : List ℕ) (node section language : ℕ) (t : 
   editless (refused i) f = refl
 
   module _ (i : ℕ) (e : i ≡ unplaced (keep (edition-of (c .kind)) t)) where
-    pub append-rowless : fits-row l (c .lines) ≡ false → (r : Edited) → r ≡ answer.Refused i → Made lent (append lent book node section language t) r lent
+    pub append-rowless : fits-row l (c .lines) ≡ false → (r : Edited) → r ≡ answer.Refused i → Answers r lent lent (append lent book node section language t)
     append-rowless f r z = made-no (keep (edition-of (c .kind)) t) i refl (rowless (keep (edition-of (c .kind)) t) f ∙ ap says-no (sym e)) r z
 
-    pub append-editless : edit-row j (c .edits) ≡ false → (r : Edited) → r ≡ answer.Refused i → Made lent (append lent book node section language t) r lent
+    pub append-editless : edit-row j (c .edits) ≡ false → (r : Edited) → r ≡ answer.Refused i → Answers r lent lent (append lent book node section language t)
     append-editless f r z = made-no (keep (edition-of (c .kind)) t) i refl (editless (keep (edition-of (c .kind)) t) f ∙ ap says-no (sym e)) r z
 
   -- what `put_token` asks
@@ -115,7 +112,7 @@ module _ (c : Counts) (n m l q j : List ℕ) (node section language : ℕ) (t : 
 
   module _ (x : Edition) (y : x ≡ edition-of (c .kind)) (s : Stored) (q′ : List ℕ) (u : Put (keep x t) q (c .pool) s q′) where
     pub append-refused : (i : ℕ) → s ≡ stored.Refused i → (r : Edited) → r ≡ answer.Refused i
-        → Made lent (append lent book node section language t) r (five n m l q′ j)
+        → Answers r lent (five n m l q′ j) (append lent book node section language t)
     append-refused i z r a =
         let w = was-refused (keep x t) q (c .pool) s q′ i u z in
         rw (w .1) (made-no (keep x t) i (ap (λ (e : Edition). keep e t) y) (poolless (keep x t) i (w .0)) r a)
@@ -179,7 +176,7 @@ module _ (c : Counts) (n m l q j : List ℕ) (node section language : ℕ) (t : 
         → class ≡ class-number k → l′ ≡ paste l (line-width * c .lines) (node ∷ (class * 4 + section * 2 + language) ∷ c .pool ∷ i ∷ []) 4
         → j′ ≡ paste j (edit-width * c .edits) (add ∷ c .lines ∷ []) 2 → (r : Edited)
         → r ≡ answer.Done (record { kind = c .kind; nodes = c .nodes; names = c .names; lines = c .lines + 1; pool = c .pool + i; edits = c .edits + 1 })
-        → Made lent (append lent book node section language t) r (five n m l′ q′ j′)
+        → Answers r lent (five n m l′ q′ j′) (append lent book node section language t)
     unfolding edited after
     append-made f g k i class l′ j′ z w a d r e =
         let o = was-kept (keep x t) q (c .pool) s q′ k i u z in

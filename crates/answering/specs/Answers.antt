@@ -1,27 +1,18 @@
--- What the release desk prints for an edit of a trial book and for a question, and what a command leaves. Assumes nothing.
+-- What the release desk prints for an edit of a trial book, and what a command leaves. Assumes nothing.
 use Prim.Native.Nat.{ℕ, _-_}
 use mathlib.Core.Path.{_≡_}
 use mathlib.Core.List.{List, [], _∷_, _++_}
-use mathlib.Core.Bool.{Bool, true, cond}
-use mathlib.Core.Option.{Option}
-use lib.Dec.{eqb}
+use mathlib.Core.Bool.{Bool, true}
 use lib.ListN.{length}
-use Rattle.numbers.specs.Signs.{line-feed, space}
+use Rattle.numbers.specs.Signs.{line-feed}
 use Rattle.lists.specs.Front.{front}
 use Rattle.lists.specs.Texts.{codes}
 use Rattle.book.specs.declared.Counts.{Counts}
-use Rattle.book.specs.Books.{Book, export}
 use Rattle.book.specs.Layout.{Buffers}
-use Rattle.ranking.specs.Matching.{name-of}
-use Rattle.export_list.specs.declared.Membership.{Membership}
-use Rattle.export_list.specs.declared.Membership.the-variants as membership
-use Rattle.export_list.specs.Membership.{contains-asked}
 use Rattle.changes.specs.declared.Edited.{Edited}
 use Rattle.changes.specs.declared.Edited.the-variants as answer
 use Rattle.changes.specs.Changes.{Change, after, counts-after, edited}
-use Rattle.input.specs.Splitting.{name-part}
-use Rattle.printing.specs.Printing.{numbered, refused-answer, refused-fields}
-use Rattle.rendering.specs.Lines.{symbol-answered}
+use Rattle.printing.specs.Printing.{numbered, refused-answer}
 use Rattle.answering.specs.declared.Ran.{Ran}
 
 -- ---- what is printed for an edit: of the counts c before it, and what it answers. "`! N` for a refusal"
@@ -49,21 +40,6 @@ settled (answer.Refused n) = refused-answer n
 unfoldable pub symbols-added : Counts → Edited → List ℕ
 symbols-added c (answer.Done d) = numbered (codes "added") (d .lines - c .lines)
 symbols-added c (answer.Refused n) = refused-answer n
-
--- ---- `ask`: "as verlist prints it; for an export list `NAME in` or `NAME out`"
-abbrev pub member-fields : Membership → List ℕ
-member-fields membership.Within = codes "in"
-member-fields membership.Without = codes "out"
-member-fields (membership.Refused n) = refused-fields n
-
-unfoldable pub member-line : List ℕ → Membership → List ℕ
-member-line name m = name ++ space ∷ (member-fields m ++ line-feed ∷ [])
-
-unfoldable pub member-answered : Option Book → List ℕ → List ℕ
-member-answered w t = member-line (name-part t) (contains-asked w (name-of (name-part t) (name-part t)))
-
-unfoldable pub asked : ℕ → Option Book → List ℕ → List ℕ
-asked kind w t = cond (eqb kind export) (member-answered w t) (symbol-answered w t)
 
 -- ---- a command: what is printed, the counts and the buffers behind it, and whether it is a command at all
 pub record Step : Type 0 where

@@ -7,7 +7,7 @@ use lib.ListN.{length, getD}
 use Rattle.numbers.specs.Limits.{token-limit}
 use Rattle.numbers.specs.Signs.{asterisk, carriage-return, hash, semicolon, slash}
 use Rattle.lists.specs.Same.{same}
-use Rattle.packing.specs.Tables.{every}
+use Rattle.packing.specs.Tables.{any, every}
 use Rattle.pattern.specs.declared.Edition.{Edition}
 use Rattle.pattern.specs.Patterns.{refusal}
 use Rattle.pattern.specs.Storing.{stored}
@@ -82,8 +82,7 @@ unfoldable pub bare-star : Line → Bool
 bare-star x = eqb (x .class) all-class && (eqb (x .section) local && eqb (x .language) general)
 
 unfoldable pub some-star : List Line → Bool
-some-star [] = false
-some-star (x ∷ xs) = bare-star x || some-star xs
+some-star xs = any bare-star xs
 
 abbrev pub no-edits : List Edit → Bool
 no-edits es = eqb (length es) 0

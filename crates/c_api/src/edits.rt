@@ -1,35 +1,8 @@
 // A lent book edited: the refusal or 0. Where an edit is done its counts are written; where it is refused nothing is.
-ghost use mathlib.Core.Path.{_≡_};
-ghost use lib.ListN.{length};
 ghost use Rattle.book.specs.Layout.{five};
-ghost use Rattle.changes.specs.Changes.{edit-refusal};
 ghost use Rattle.changes.specs.Symbols.{symbol-asked};
 ghost use Rattle.changes.specs.Trial.{add-asked, settle-asked, strike-asked, undo-asked};
-ghost use Rattle.c_api.specs.Calls.{Edits, counts-told, flag};
-use crate::lent::COUNTS;
-use crate::lent::counts_of;
-use crate::lent::put_counts;
-use changes::Edited;
-use numbers::NO_BOOK;
-use symbols::add_symbol;
-use trial::add;
-use trial::settle;
-use trial::strike;
-use undoing::undo_latest;
-
-// What an edit answered, with the counts of the book behind it.
-fn finish(r: Edited, counts: &mut [u32]) -> u32
-    requires { ⌜ length (now counts) ≡ 6 ⌝ }
-    ensures { λ n. ⌜ (n ≡ edit-refusal r) × (now (counts .exit) ≡ counts-told (now (counts .entry)) r) ⌝ }
-{
-    match r {
-        Edited::Refused(no) => no,
-        Edited::Done(c) => {
-            put_counts(counts, c);
-            0
-        }
-    }
-}
+ghost use Rattle.lending.specs.Calls.{Edits, flag};
 
 // A line more in a node, a section and a language.
 #[no_mangle]
@@ -49,12 +22,8 @@ pub extern "C" fn tuno_add(
         (λ b w. add-asked b w node section language (now (token .entry)))
         r (now (counts .exit)) (five (now (nodes .entry)) (now (names .entry)) (now (lines .exit)) (now (pool .exit)) (now (journal .exit))) ⌝ }
 {
-    if counts.len() != COUNTS {
-        return NO_BOOK;
-    }
-    let c = counts_of(counts);
-    let r = add(
-        c,
+    lent_edits::add(
+        counts,
         nodes,
         names,
         lines,
@@ -64,8 +33,7 @@ pub extern "C" fn tuno_add(
         section,
         language,
         token,
-    );
-    finish(r, counts)
+    )
 }
 
 // A line that stands is struck.
@@ -83,12 +51,7 @@ pub extern "C" fn tuno_strike(
         (λ b w. strike-asked b w line)
         r (now (counts .exit)) (five (now (nodes .entry)) (now (names .entry)) (now (lines .exit)) (now (pool .entry)) (now (journal .exit))) ⌝ }
 {
-    if counts.len() != COUNTS {
-        return NO_BOOK;
-    }
-    let c = counts_of(counts);
-    let r = strike(c, nodes, names, lines, pool, journal, line);
-    finish(r, counts)
+    lent_edits::strike(counts, nodes, names, lines, pool, journal, line)
 }
 
 // The latest edit is taken back.
@@ -105,12 +68,7 @@ pub extern "C" fn tuno_undo(
         (λ b w. undo-asked w)
         r (now (counts .exit)) (five (now (nodes .entry)) (now (names .entry)) (now (lines .exit)) (now (pool .exit)) (now (journal .exit))) ⌝ }
 {
-    if counts.len() != COUNTS {
-        return NO_BOOK;
-    }
-    let c = counts_of(counts);
-    let r = undo_latest(c, nodes, names, lines, pool, journal);
-    finish(r, counts)
+    lent_edits::undo(counts, nodes, names, lines, pool, journal)
 }
 
 // The struck lines are dropped, and the rest is packed.
@@ -127,12 +85,7 @@ pub extern "C" fn tuno_settle(
         (λ b w. settle-asked w)
         r (now (counts .exit)) (five (now (nodes .entry)) (now (names .entry)) (now (lines .exit)) (now (pool .exit)) (now (journal .exit))) ⌝ }
 {
-    if counts.len() != COUNTS {
-        return NO_BOOK;
-    }
-    let c = counts_of(counts);
-    let r = settle(c, nodes, names, lines, pool, journal);
-    finish(r, counts)
+    lent_edits::settle(counts, nodes, names, lines, pool, journal)
 }
 
 // The lines of a text, added to an export list, all or none. `without_semicolon`, where it is not 0, says how the text ends.
@@ -151,11 +104,14 @@ pub extern "C" fn tuno_add_symbol(
         (λ b w. symbol-asked b w (now (text .entry)) (flag «without_semicolon»))
         r (now (counts .exit)) (five (now (nodes .entry)) (now (names .entry)) (now (lines .exit)) (now (pool .exit)) (now (journal .exit))) ⌝ }
 {
-    if counts.len() != COUNTS {
-        return NO_BOOK;
-    }
-    let c = counts_of(counts);
-    let bare = without_semicolon != 0;
-    let r = add_symbol(c, nodes, names, lines, pool, journal, text, bare);
-    finish(r, counts)
+    lent_edits::add_symbol(
+        counts,
+        nodes,
+        names,
+        lines,
+        pool,
+        journal,
+        text,
+        without_semicolon,
+    )
 }

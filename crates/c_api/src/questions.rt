@@ -1,23 +1,10 @@
 // What a lent book is asked. `out` shorter than needed is refused 8, last, and nothing is written where anything is refused.
 ghost use Rattle.book.specs.Layout.{five};
 ghost use Rattle.ranking.specs.Matching.{name-of};
-ghost use Rattle.version_script.specs.Questions.{count-refusal, count-value, counted, parent-count, version-count};
+ghost use Rattle.counting.specs.Questions.{count-refusal, count-value, counted, parent-count, version-count};
 ghost use Rattle.lookups.specs.Lookups.{locality-asked, locality-refusal, locality-value, version-asked, version-refusal, version-value, wanted-of};
 ghost use Rattle.export_list.specs.Membership.{contains-asked, membership-refusal, membership-value};
-ghost use Rattle.c_api.specs.Calls.{Replies, flag, lent};
-use crate::lent::COUNTS;
-use crate::lent::answer;
-use crate::lent::counts_of;
-use export_list::Membership;
-use export_list::lookups::contains;
-use lookups::answers::Locality;
-use lookups::answers::Version;
-use lookups::locality;
-use lookups::version_for_symbol;
-use numbers::NO_BOOK;
-use version_script::Count;
-use version_script::counts::parent_count;
-use version_script::counts::version_count;
+ghost use Rattle.lending.specs.Calls.{Replies, flag, lent};
 
 #[no_mangle]
 pub extern "C" fn tuno_version_count(
@@ -32,13 +19,7 @@ pub extern "C" fn tuno_version_count(
     ensures { λ r. ⌜ Replies count-refusal count-value (counted version-count (lent (now (counts .entry)) (five (now (nodes .entry)) (now (names .entry)) (now (lines .entry)) (now (pool .entry)) (now (journal .entry)))))
         (now (out .entry)) r (now (out .exit)) ⌝ }
 {
-    if counts.len() != COUNTS {
-        return NO_BOOK;
-    }
-    match version_count(counts_of(counts), nodes, names, lines, pool, journal) {
-        Count::Refused(no) => answer(no, 0, out),
-        Count::Counted(versions) => answer(0, versions, out),
-    }
+    lent_questions::version_count(counts, nodes, names, lines, pool, journal, out)
 }
 
 #[no_mangle]
@@ -54,13 +35,7 @@ pub extern "C" fn tuno_parent_count(
     ensures { λ r. ⌜ Replies count-refusal count-value (counted parent-count (lent (now (counts .entry)) (five (now (nodes .entry)) (now (names .entry)) (now (lines .entry)) (now (pool .entry)) (now (journal .entry)))))
         (now (out .entry)) r (now (out .exit)) ⌝ }
 {
-    if counts.len() != COUNTS {
-        return NO_BOOK;
-    }
-    match parent_count(counts_of(counts), nodes, names, lines, pool, journal) {
-        Count::Refused(no) => answer(no, 0, out),
-        Count::Counted(parents) => answer(0, parents, out),
-    }
+    lent_questions::parent_count(counts, nodes, names, lines, pool, journal, out)
 }
 
 // The index of the version, 0 for none. `has_wanted`, where it is not 0, says that `wanted` is the version that is wanted.
@@ -82,12 +57,8 @@ pub extern "C" fn tuno_version_for_symbol(
         (name-of (now (raw .entry)) (now (demangled .entry))) (wanted-of (flag «has_wanted») (now (wanted .entry))))
         (now (out .entry)) r (now (out .exit)) ⌝ }
 {
-    if counts.len() != COUNTS {
-        return NO_BOOK;
-    }
-    let has = has_wanted != 0;
-    match version_for_symbol(
-        counts_of(counts),
+    lent_questions::version_for_symbol(
+        counts,
         nodes,
         names,
         lines,
@@ -95,13 +66,10 @@ pub extern "C" fn tuno_version_for_symbol(
         journal,
         raw,
         demangled,
-        has,
+        has_wanted,
         wanted,
-    ) {
-        Version::Refused(no) => answer(no, 0, out),
-        Version::Unversioned => answer(0, 0, out),
-        Version::Index(i) => answer(0, i.0, out),
-    }
+        out,
+    )
 }
 
 // 0 for nothing, 1 for global, 2 for local.
@@ -120,11 +88,8 @@ pub extern "C" fn tuno_locality(
     ensures { λ r. ⌜ Replies locality-refusal locality-value (locality-asked (lent (now (counts .entry)) (five (now (nodes .entry)) (now (names .entry)) (now (lines .entry)) (now (pool .entry)) (now (journal .entry)))) (name-of (now (raw .entry)) (now (demangled .entry))))
         (now (out .entry)) r (now (out .exit)) ⌝ }
 {
-    if counts.len() != COUNTS {
-        return NO_BOOK;
-    }
-    match locality(
-        counts_of(counts),
+    lent_questions::locality(
+        counts,
         nodes,
         names,
         lines,
@@ -132,12 +97,8 @@ pub extern "C" fn tuno_locality(
         journal,
         raw,
         demangled,
-    ) {
-        Locality::Refused(no) => answer(no, 0, out),
-        Locality::Nothing => answer(0, 0, out),
-        Locality::Global => answer(0, 1, out),
-        Locality::Local => answer(0, 2, out),
-    }
+        out,
+    )
 }
 
 // 1 where the name is in the list, else 0.
@@ -156,11 +117,8 @@ pub extern "C" fn tuno_contains(
     ensures { λ r. ⌜ Replies membership-refusal membership-value (contains-asked (lent (now (counts .entry)) (five (now (nodes .entry)) (now (names .entry)) (now (lines .entry)) (now (pool .entry)) (now (journal .entry)))) (name-of (now (raw .entry)) (now (demangled .entry))))
         (now (out .entry)) r (now (out .exit)) ⌝ }
 {
-    if counts.len() != COUNTS {
-        return NO_BOOK;
-    }
-    match contains(
-        counts_of(counts),
+    lent_questions::contains(
+        counts,
         nodes,
         names,
         lines,
@@ -168,9 +126,6 @@ pub extern "C" fn tuno_contains(
         journal,
         raw,
         demangled,
-    ) {
-        Membership::Refused(no) => answer(no, 0, out),
-        Membership::Without => answer(0, 0, out),
-        Membership::Within => answer(0, 1, out),
-    }
+        out,
+    )
 }

@@ -5,3 +5,4 @@ pub mod AddedLines
 pub mod Growth
 pub mod Marking
 pub mod Standing
+pub mod Marks

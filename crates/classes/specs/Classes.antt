@@ -5,7 +5,7 @@ use mathlib.Core.List.{List, [], _∷_}
 use mathlib.Core.Bool.{Bool, true, false, cond, _&&_, _||_}
 use lib.Dec.{eqb, leb}
 use lib.ListN.{length, getD, take, drop}
-use Rattle.numbers.specs.Signs.{asterisk, backslash, closing, opening, question, quote}
+use Rattle.numbers.specs.Signs.{asterisk, backslash, closing-bracket, opening-bracket, question, quote}
 use Rattle.classes.specs.declared.Class.{Class}
 use Rattle.classes.specs.declared.Class.the-variants.{Exact, Escaped, NonStar, Star, All}
 
@@ -41,7 +41,7 @@ escaped All = All
 
 -- "`[`, `]`, `?` give NonStar"
 unfoldable pub nonstar : ℕ → Bool
-nonstar c = eqb c opening || (eqb c closing || eqb c question)
+nonstar c = eqb c opening-bracket || (eqb c closing-bracket || eqb c question)
 
 unfoldable pub scanned : Class → ℕ → Class
 scanned k c = cond (eqb c backslash) (escaped k) (cond (nonstar c) NonStar k)
@@ -55,7 +55,7 @@ scan k false (c ∷ s) = cond (eqb c asterisk) Star (scan (scanned k c) (eqb c b
 
 -- the bytes that the scan looks for
 unfoldable pub sign : ℕ → Bool
-sign c = eqb c asterisk || (eqb c question || (eqb c opening || (eqb c backslash || eqb c closing)))
+sign c = eqb c asterisk || (eqb c question || (eqb c opening-bracket || (eqb c backslash || eqb c closing-bracket)))
 
 -- "In order"
 unfoldable pub class-of : List ℕ → Class

@@ -1,4 +1,4 @@
--- What each exit of `add_command`, `strike_command` and `command_of` has learnt. Assumes nothing.
+-- What each exit of `add_command`, `strike_command`, `question_of` and `command_of` has learnt. Assumes nothing.
 use Prim.Native.Nat.{ℕ, _+_}
 use mathlib.Core.Path.{_≡_, sym, _∙_}
 use mathlib.Core.List.{List}
@@ -13,11 +13,15 @@ use Rattle.numbers.specs.Signs.{space}
 use Rattle.lists.specs.Same.{same}
 use Rattle.lists.specs.Texts.{codes}
 use Rattle.linker_script.proofs.Searches.{byte-within}
+use Rattle.line_parts.specs.declared.Numeral.{Numeral}
+use Rattle.line_parts.specs.declared.Numeral.the-variants.{Number, Nothing}
+use Rattle.line_parts.specs.Parts.{number-at}
 use Rattle.commands.specs.declared.Command.{Command}
 use Rattle.commands.specs.declared.Command.the-variants as command
-use Rattle.commands.specs.declared.Numeral.{Numeral}
-use Rattle.commands.specs.declared.Numeral.the-variants.{Number, Nothing}
-use Rattle.commands.specs.Commands.{add-command, begins, command-of, number-at, strike-command}
+use Rattle.commands.specs.declared.Edit.the-variants as edit
+use Rattle.commands.specs.declared.Question.the-variants as question
+use Rattle.tokens.specs.Tokens.{begins}
+use Rattle.commands.specs.Commands.{add-command, command-of, question-of, strike-command}
 
 -- ---- `add NODE SECTION LANGUAGE TOKEN`
 -- a blank lies within
@@ -69,7 +73,7 @@ module _ (l : List ℕ) (r : Numeral) (e : r ≡ number-at l 4) where
             unfolding add-command
             no-third-blank h = rw (node-at, blank-at, section-at, second-blank-at, language-at, ← g₃, ne-eqb b₃ space h)
 
-            pub is-addition : b₃ ≡ space → command.Add node section language (t + 1) ≡ add-command l
+            pub is-addition : b₃ ≡ space → command.Edits (edit.Add node section language (t + 1)) ≡ add-command l
             unfolding add-command
             is-addition h = rw (node-at, blank-at, section-at, second-blank-at, language-at, ← g₃, eq-eqb b₃ space h)
 
@@ -83,13 +87,47 @@ module _ (l : List ℕ) (r : Numeral) (e : r ≡ number-at l 7) where
     line-at : number-at l 7 ≡ Number line p
     line-at = sym e ∙ f
 
-    pub is-striking : p ≡ length l → command.Strike line ≡ strike-command l
+    pub is-striking : p ≡ length l → command.Edits (edit.Strike line) ≡ strike-command l
     unfolding strike-command
     is-striking h = rw (line-at, eq-eqb p (length l) h)
 
     pub more-behind : (p ≡ length l → ⊥) → command.Unknown ≡ strike-command l
     unfolding strike-command
     more-behind h = rw (line-at, ne-eqb p (length l) h)
+
+-- ---- a question: the tests that fail, and the one that holds
+module _ (l : List ℕ) (t : Bool) (e : t ≡ begins (codes "ask ") l) where
+  pub is-ask : t ≡ true → command.Asks (question.Ask 4) ≡ question-of l
+  unfolding question-of
+  is-ask h = rw (sym e ∙ h)
+
+  module _ (m : t ≡ false) (t₂ : Bool) (e₂ : t₂ ≡ same l (codes "counts")) where
+    no-ask : begins (codes "ask ") l ≡ false
+    no-ask = sym e ∙ m
+
+    pub is-counts : t₂ ≡ true → command.Asks question.Counts ≡ question-of l
+    unfolding question-of
+    is-counts h = rw (no-ask, sym e₂ ∙ h)
+
+    module _ (m₂ : t₂ ≡ false) (t₃ : Bool) (e₃ : t₃ ≡ same l (codes "lines")) where
+      no-counts : same l (codes "counts") ≡ false
+      no-counts = sym e₂ ∙ m₂
+
+      pub is-lines : t₃ ≡ true → command.Asks question.Lines ≡ question-of l
+      unfolding question-of
+      is-lines h = rw (no-ask, no-counts, sym e₃ ∙ h)
+
+      module _ (m₃ : t₃ ≡ false) (t₄ : Bool) (e₄ : t₄ ≡ same l (codes "dump")) where
+        no-lines : same l (codes "lines") ≡ false
+        no-lines = sym e₃ ∙ m₃
+
+        pub is-dump : t₄ ≡ true → command.Asks question.Dump ≡ question-of l
+        unfolding question-of
+        is-dump h = rw (no-ask, no-counts, no-lines, sym e₄ ∙ h)
+
+        pub is-unknown : t₄ ≡ false → command.Unknown ≡ question-of l
+        unfolding question-of
+        is-unknown h = rw (no-ask, no-counts, no-lines, sym e₄ ∙ h)
 
 -- ---- a line: the tests that fail, and the one that holds
 module _ (l : List ℕ) (t : Bool) (e : t ≡ begins (codes "add ") l) where
@@ -109,7 +147,7 @@ module _ (l : List ℕ) (t : Bool) (e : t ≡ begins (codes "add ") l) where
       n₂ : begins (codes "strike ") l ≡ false
       n₂ = sym e₂ ∙ m₂
 
-      pub is-undo : t₃ ≡ true → command.Undo ≡ command-of l
+      pub is-undo : t₃ ≡ true → command.Edits edit.Undo ≡ command-of l
       unfolding command-of
       is-undo h = rw (n₁, n₂, sym e₃ ∙ h)
 
@@ -117,7 +155,7 @@ module _ (l : List ℕ) (t : Bool) (e : t ≡ begins (codes "add ") l) where
         n₃ : same l (codes "undo") ≡ false
         n₃ = sym e₃ ∙ m₃
 
-        pub is-settle : t₄ ≡ true → command.Settle ≡ command-of l
+        pub is-settle : t₄ ≡ true → command.Edits edit.Settle ≡ command-of l
         unfolding command-of
         is-settle h = rw (n₁, n₂, n₃, sym e₄ ∙ h)
 
@@ -125,7 +163,7 @@ module _ (l : List ℕ) (t : Bool) (e : t ≡ begins (codes "add ") l) where
           n₄ : same l (codes "settle") ≡ false
           n₄ = sym e₄ ∙ m₄
 
-          pub is-symbol : t₅ ≡ true → command.Symbol 7 false ≡ command-of l
+          pub is-symbol : t₅ ≡ true → command.Edits (edit.Symbol 7 false) ≡ command-of l
           unfolding command-of
           is-symbol h = rw (n₁, n₂, n₃, n₄, sym e₅ ∙ h)
 
@@ -133,42 +171,10 @@ module _ (l : List ℕ) (t : Bool) (e : t ≡ begins (codes "add ") l) where
             n₅ : begins (codes "symbol ") l ≡ false
             n₅ = sym e₅ ∙ m₅
 
-            pub is-bare-symbol : t₆ ≡ true → command.Symbol 8 true ≡ command-of l
+            pub is-bare-symbol : t₆ ≡ true → command.Edits (edit.Symbol 8 true) ≡ command-of l
             unfolding command-of
             is-bare-symbol h = rw (n₁, n₂, n₃, n₄, n₅, sym e₆ ∙ h)
 
-            module _ (m₆ : t₆ ≡ false) (t₇ : Bool) (e₇ : t₇ ≡ begins (codes "ask ") l) where
-              n₆ : begins (codes "symbol! ") l ≡ false
-              n₆ = sym e₆ ∙ m₆
-
-              pub is-ask : t₇ ≡ true → command.Ask 4 ≡ command-of l
-              unfolding command-of
-              is-ask h = rw (n₁, n₂, n₃, n₄, n₅, n₆, sym e₇ ∙ h)
-
-              module _ (m₇ : t₇ ≡ false) (t₈ : Bool) (e₈ : t₈ ≡ same l (codes "counts")) where
-                n₇ : begins (codes "ask ") l ≡ false
-                n₇ = sym e₇ ∙ m₇
-
-                pub is-counts : t₈ ≡ true → command.Counts ≡ command-of l
-                unfolding command-of
-                is-counts h = rw (n₁, n₂, n₃, n₄, n₅, n₆, n₇, sym e₈ ∙ h)
-
-                module _ (m₈ : t₈ ≡ false) (t₉ : Bool) (e₉ : t₉ ≡ same l (codes "lines")) where
-                  n₈ : same l (codes "counts") ≡ false
-                  n₈ = sym e₈ ∙ m₈
-
-                  pub is-lines : t₉ ≡ true → command.Lines ≡ command-of l
-                  unfolding command-of
-                  is-lines h = rw (n₁, n₂, n₃, n₄, n₅, n₆, n₇, n₈, sym e₉ ∙ h)
-
-                  module _ (m₉ : t₉ ≡ false) (tₓ : Bool) (eₓ : tₓ ≡ same l (codes "dump")) where
-                    n₉ : same l (codes "lines") ≡ false
-                    n₉ = sym e₉ ∙ m₉
-
-                    pub is-dump : tₓ ≡ true → command.Dump ≡ command-of l
-                    unfolding command-of
-                    is-dump h = rw (n₁, n₂, n₃, n₄, n₅, n₆, n₇, n₈, n₉, sym eₓ ∙ h)
-
-                    pub is-unknown : tₓ ≡ false → command.Unknown ≡ command-of l
-                    unfolding command-of
-                    is-unknown h = rw (n₁, n₂, n₃, n₄, n₅, n₆, n₇, n₈, n₉, sym eₓ ∙ h)
+            pub is-question : t₆ ≡ false → (r : Command) → r ≡ question-of l → r ≡ command-of l
+            unfolding command-of
+            is-question h r f = rw (n₁, n₂, n₃, n₄, n₅, sym e₆ ∙ h) f

@@ -1,5 +1,2 @@
-mod Beginnings
-pub mod Ends
 mod Exits
-mod Numbers
 mod Points

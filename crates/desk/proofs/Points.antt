@@ -21,7 +21,7 @@ use Rattle.matchers.specs.Matchers.{line-to, extern-open, extern-at, extern-ins
 use Rattle.reading.specs.Scripts.{name-to, node-at, script-at, parent-to, parent-at, node-end, sole-end, inside-body, body-at, sole-at, list-at, opening-at, start-script, go-node, go-body, go-sole, go-list, next-script, next-list, next-symbol, next}
 use Rattle.reading.specs.Events.{reading-within, reading-from, reading}
 use Rattle.packing.specs.Padding.{all-zero, pad, zeros}
-use Rattle.packing.specs.Tables.{every, fine, packed, packs, rows, things}
+use Rattle.packing.specs.Tables.{any, every, fine, packed, packs, rows, things}
 use Rattle.book.specs.Books.{first-named}
 use Rattle.book.specs.Edits.{add-back, all-back, journal-fits, strike-back, take-back}
 use Rattle.book.specs.Layout.{Buffers, counts-of, edit-form, edit-width, five, laid-out, line-form, line-width, node-form, node-width}
@@ -35,18 +35,21 @@ use Rattle.ranking.specs.Matching.{class-matches, line-matches, seen}
 use Rattle.ranking.specs.Names.{bad-name, long-name, name-refusal}
 use Rattle.ranking.specs.Walk.{deciding, exact-of, exact-stages, first-line, glob-of, glob-stages, stages, walk}
 use Rattle.lookups.specs.Lookups.{index-of, last-named, listed, locality-asked, locality-of, node-version, version-asked, version-of, wanted-version}
-use Rattle.export_list.specs.Membership.{contains-asked, member-of, some-match}
+use Rattle.export_list.specs.Membership.{contains-asked, member-of}
 use Rattle.changes.specs.Changes.{after, counts-after, edited}
 use Rattle.changes.specs.Trial.{add-asked, append, append-kept, may-stand, settle-asked, settled, standing, strike-asked, strike-line, undo-asked, without-latest}
 use Rattle.changes.specs.Symbols.{add-event, add-events, add-reading, symbol-asked}
 use Rattle.input.specs.Splitting.{name-part, wanted-part}
 use Rattle.printing.specs.Printing.{decimal, numbered, refused-answer, refused-fields, spaced, spelled}
 use Rattle.rendering.specs.Lines.{asked-line, fields, index-field, symbol-answered, symbol-line, with-locality}
-use Rattle.commands.specs.Commands.{add-command, command-of, digit, digits, number-at, number-of, strike-command, worth}
-use Rattle.commands.specs.Commands as commands
+use Rattle.line_parts.specs.Parts.{digit, digits, number-at, number-of, worth}
+use Rattle.commands.specs.Commands.{add-command, command-of, question-of, strike-command}
 use Rattle.showing.specs.Shown.{buffer-shown, counts-shown, dump-shown, fields-shown, line-shown, lines-shown, numbers-shown}
-use Rattle.answering.specs.Answers.{Step, added, asked, member-answered, member-line, struck, symbols-added, telling, undone}
+use Rattle.answering.specs.Answers.{Step, added, struck, symbols-added, telling, undone}
 use Rattle.answering.specs.Answers as answers
+use Rattle.asking.specs.Asked.{asked, member-answered, member-line}
+use Rattle.desk_edits.specs.Edits.{edit-step}
+use Rattle.desk_questions.specs.Questions.{question-step}
 use Rattle.desk.specs.Desk.{line-step, step}
 
 -- what is printed for each of the lines, each on what the one before left
@@ -136,7 +139,7 @@ unfolding pieces pieces-past sound sound-past same
     name-to node-at script-at parent-to parent-at node-end sole-end inside-body body-at sole-at list-at opening-at
     start-script go-node go-body go-sole go-list next-script next-list next-symbol next
     reading-within reading-from reading
-    all-zero pad every fine packed packs rows things
+    all-zero pad any every fine packed packs rows things
     first-named add-back all-back journal-fits strike-back take-back counts-of edit-form laid-out line-form node-form
     bare-star content-good edit-ok glob-stands in-range kind-allows kind-good line-ok name-good named-good nodes-good parent-good sane skipped-first some-star
     book-of laid view within-limits view.holds
@@ -145,15 +148,15 @@ unfolding pieces pieces-past sound sound-past same
     class-matches line-matches seen bad-name long-name name-refusal
     deciding exact-of exact-stages first-line glob-of glob-stages stages walk
     index-of last-named listed locality-asked locality-of node-version version-asked version-of wanted-version
-    contains-asked member-of some-match
+    contains-asked member-of
     after counts-after edited
     add-asked append append-kept may-stand settle-asked settled standing strike-asked strike-line undo-asked without-latest
     add-event add-events add-reading symbol-asked
     name-part wanted-part
     decimal numbered refused-answer refused-fields spaced spelled
     asked-line fields index-field symbol-answered symbol-line with-locality
-    add-command command-of digit digits number-at number-of strike-command worth commands.begins
+    add-command command-of question-of digit digits number-at number-of strike-command worth
     buffer-shown counts-shown dump-shown fields-shown line-shown lines-shown numbers-shown
     added asked member-answered member-line struck symbols-added undone answers.settled
-    line-step step printed-from codes
+    edit-step question-step line-step step printed-from codes
 points = record { script-points = refl; list-points = refl; none-points = refl }

@@ -8,91 +8,17 @@ ghost use lib.ListN.{length};
 ghost use Rattle.numbers.specs.Signs.{line-feed, question};
 ghost use Rattle.lists.specs.Front.{front};
 ghost use Rattle.book.specs.Layout.{five};
-ghost use Rattle.book.specs.View.{view};
-ghost use Rattle.showing.specs.Shown.{counts-shown, dump-shown, lines-shown, shown-room};
-ghost use Rattle.answering.specs.Answers.{Runs, telling};
-ghost use Rattle.desk.specs.Desk.{line-left, line-printed, line-ran, of-book};
+ghost use Rattle.showing.specs.Shown.{shown-room};
+ghost use Rattle.desk.specs.Desk.{line-leaves, line-printed, line-ran};
 use answering::Ran;
-use answering::printed;
-use answering::run_add;
-use answering::run_ask;
-use answering::run_settle;
-use answering::run_strike;
-use answering::run_symbol;
-use answering::run_undo;
 use book::Counts;
-use book_check::is_book;
 use commands::Command;
 use commands::command_of;
-use commands::tail;
-use numbers::NO_BOOK;
+use desk_edits::run_edit;
+use desk_questions::run_question;
 use numbers::NO_ROOM;
-use printing::put_refused_answer;
 use printing::put_text;
-use showing::show_counts;
-use showing::show_dump;
-use showing::show_lines;
 use showing::shown_room;
-
-// The counts of a book.
-fn run_counts(
-    c: Counts,
-    nodes: &[u32],
-    names: &[u8],
-    lines: &[u32],
-    pool: &[u8],
-    journal: &[u32],
-    out: &mut [u8],
-) -> Ran
-    requires { ⌜ shown-room c ≤ length (now out) ⌝ }
-    ensures { λ r. ⌜ Runs (telling c (five (now (nodes .entry)) (now (names .entry)) (now (lines .entry)) (now (pool .entry)) (now (journal .entry))) (of-book (view c (five (now (nodes .entry)) (now (names .entry)) (now (lines .entry)) (now (pool .entry)) (now (journal .entry)))) (λ v. counts-shown c)))
-        (now (out .entry)) r (now (out .exit)) (five (now (nodes .entry)) (now (names .entry)) (now (lines .entry)) (now (pool .entry)) (now (journal .entry))) ⌝ }
-{
-    if !is_book(c, nodes, names, lines, pool, journal) {
-        return printed(c, put_refused_answer(out, NO_BOOK));
-    }
-    printed(c, show_counts(c, out))
-}
-
-// Its lines.
-fn run_lines(
-    c: Counts,
-    nodes: &[u32],
-    names: &[u8],
-    lines: &[u32],
-    pool: &[u8],
-    journal: &[u32],
-    out: &mut [u8],
-) -> Ran
-    requires { ⌜ shown-room c ≤ length (now out) ⌝ }
-    ensures { λ r. ⌜ Runs (telling c (five (now (nodes .entry)) (now (names .entry)) (now (lines .entry)) (now (pool .entry)) (now (journal .entry))) (of-book (view c (five (now (nodes .entry)) (now (names .entry)) (now (lines .entry)) (now (pool .entry)) (now (journal .entry)))) (λ v. lines-shown 0 (v .lines))))
-        (now (out .entry)) r (now (out .exit)) (five (now (nodes .entry)) (now (names .entry)) (now (lines .entry)) (now (pool .entry)) (now (journal .entry))) ⌝ }
-{
-    if !is_book(c, nodes, names, lines, pool, journal) {
-        return printed(c, put_refused_answer(out, NO_BOOK));
-    }
-    printed(c, show_lines(c, nodes, names, lines, pool, journal, out))
-}
-
-// What its buffers hold.
-fn run_dump(
-    c: Counts,
-    nodes: &[u32],
-    names: &[u8],
-    lines: &[u32],
-    pool: &[u8],
-    journal: &[u32],
-    out: &mut [u8],
-) -> Ran
-    requires { ⌜ shown-room c ≤ length (now out) ⌝ }
-    ensures { λ r. ⌜ Runs (telling c (five (now (nodes .entry)) (now (names .entry)) (now (lines .entry)) (now (pool .entry)) (now (journal .entry))) (of-book (view c (five (now (nodes .entry)) (now (names .entry)) (now (lines .entry)) (now (pool .entry)) (now (journal .entry)))) (λ v. dump-shown c (five (now (nodes .entry)) (now (names .entry)) (now (lines .entry)) (now (pool .entry)) (now (journal .entry))))))
-        (now (out .entry)) r (now (out .exit)) (five (now (nodes .entry)) (now (names .entry)) (now (lines .entry)) (now (pool .entry)) (now (journal .entry))) ⌝ }
-{
-    if !is_book(c, nodes, names, lines, pool, journal) {
-        return printed(c, put_refused_answer(out, NO_BOOK));
-    }
-    printed(c, show_dump(c, nodes, names, lines, pool, journal, out))
-}
 
 // What is no command.
 fn run_unknown(c: Counts, out: &mut [u8]) -> Ran
@@ -134,7 +60,7 @@ pub fn run_line(
     ensures { λ r. ⌜ (r ≡ line-ran c (five (now (nodes .entry)) (now (names .entry)) (now (lines .entry)) (now (pool .entry)) (now (journal .entry))) (now (line .entry)) (now (out .entry)))
         × (now (out .exit) ≡ line-printed c (five (now (nodes .entry)) (now (names .entry)) (now (lines .entry)) (now (pool .entry)) (now (journal .entry))) (now (line .entry)) (now (out .entry)))
         × (five (now (nodes .entry)) (now (names .entry)) (now (lines .exit)) (now (pool .exit)) (now (journal .exit))
-        ≡ line-left c (five (now (nodes .entry)) (now (names .entry)) (now (lines .entry)) (now (pool .entry)) (now (journal .entry))) (now (line .entry)) (now (out .entry))) ⌝ }
+        ≡ line-leaves c (five (now (nodes .entry)) (now (names .entry)) (now (lines .entry)) (now (pool .entry)) (now (journal .entry))) (now (line .entry)) (now (out .entry))) ⌝ }
 {
     if !has_room(c, line.len(), out.len()) {
         return Ran {
@@ -145,42 +71,8 @@ pub fn run_line(
         };
     }
     match command_of(line) {
-        Command::Add {
-            node,
-            section,
-            language,
-            at,
-        } => run_add(
-            c,
-            nodes,
-            names,
-            lines,
-            pool,
-            journal,
-            node,
-            section,
-            language,
-            tail(line, at),
-            out,
-        ),
-        Command::Strike(number) => run_strike(c, nodes, names, lines, pool, journal, number, out),
-        Command::Undo => run_undo(c, nodes, names, lines, pool, journal, out),
-        Command::Settle => run_settle(c, nodes, names, lines, pool, journal, out),
-        Command::Symbol { at, bare } => run_symbol(
-            c,
-            nodes,
-            names,
-            lines,
-            pool,
-            journal,
-            tail(line, at),
-            bare,
-            out,
-        ),
-        Command::Ask(at) => run_ask(c, nodes, names, lines, pool, journal, tail(line, at), out),
-        Command::Counts => run_counts(c, nodes, names, lines, pool, journal, out),
-        Command::Lines => run_lines(c, nodes, names, lines, pool, journal, out),
-        Command::Dump => run_dump(c, nodes, names, lines, pool, journal, out),
+        Command::Edits(e) => run_edit(c, nodes, names, lines, pool, journal, line, e, out),
+        Command::Asks(q) => run_question(c, nodes, names, lines, pool, journal, line, q, out),
         Command::Unknown => run_unknown(c, out),
     }
 }

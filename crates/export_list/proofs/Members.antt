@@ -9,7 +9,7 @@ use borrow.Author.Tests.{eq-eqb, ne-eqb}
 use lib.ListN.{length, getD}
 use Rattle.numbers.specs.Limits.{name-limit, node-limit}
 use Rattle.numbers.specs.Refusals.{no-book, wrong-kind}
-use Rattle.packing.specs.Tables.{every, packs, things}
+use Rattle.packing.specs.Tables.{any, every, packs, things}
 use Rattle.book.specs.declared.Counts.{Counts}
 use Rattle.book.specs.Books.{Line, edition-of, export, no-line}
 use Rattle.book.specs.Layout.{five, line-form}
@@ -26,17 +26,17 @@ use Rattle.ranking.proofs.Answers.{decided-line, decided-none}
 use Rattle.ranking.proofs.Deciders.{walk-decides, walk-nothing}
 use Rattle.ranking.proofs.NameTests.{short-names}
 use Rattle.export_list.specs.declared.Membership.the-variants as membership
-use Rattle.export_list.specs.Membership.{some-match, member-of, contains-asked}
+use Rattle.export_list.specs.Membership.{member-of, contains-asked}
 
 -- ---- some line matches
 module _ (m : Line → Bool) where
-  pub match-none : (ls : List Line) → ((j : ℕ) → j < length ls → m (getD ls j no-line) ≡ false) → some-match m ls ≡ false
-  unfolding some-match
+  pub match-none : (ls : List Line) → ((j : ℕ) → j < length ls → m (getD ls j no-line) ≡ false) → any m ls ≡ false
+  unfolding any
   match-none [] f = refl
   match-none (x ∷ ls) f = rw (f 0 (omega arith)) (match-none ls (λ j h. f (suc j) (omega arith)))
 
-  pub match-at : (ls : List Line) (i : ℕ) → i < length ls → m (getD ls i no-line) ≡ true → some-match m ls ≡ true
-  unfolding some-match
+  pub match-at : (ls : List Line) (i : ℕ) → i < length ls → m (getD ls i no-line) ≡ true → any m ls ≡ true
+  unfolding any
   match-at [] i h e = absurd (omega arith)
   match-at (x ∷ ls) zero h e = rw e
   match-at (x ∷ ls) (suc i) h e = rw (match-at ls i (omega arith) e, or-true)

@@ -1,23 +1,19 @@
 -- Whether a name is in an export list, as 01 has it under 'Ranking'. Assumes nothing.
 use Prim.Native.Nat.{ℕ}
-use mathlib.Core.List.{List, [], _∷_}
-use mathlib.Core.Bool.{Bool, false, cond, _||_}
+use mathlib.Core.Bool.{Bool, false, cond}
 use mathlib.Core.Option.{Option, some, none}
 use lib.Dec.{eqb}
 use Rattle.numbers.specs.Refusals.{no-book, wrong-kind}
-use Rattle.book.specs.Books.{Line, Book, edition-of, export}
+use Rattle.packing.specs.Tables.{any}
+use Rattle.book.specs.Books.{Book, edition-of, export}
 use Rattle.ranking.specs.Matching.{Name, line-matches}
 use Rattle.ranking.specs.Names.{name-refusal}
 use Rattle.export_list.specs.declared.Membership.{Membership}
 use Rattle.export_list.specs.declared.Membership.the-variants as membership
 
 -- "A name is in an export list exactly when some line matches."
-unfoldable pub some-match : (Line → Bool) → List Line → Bool
-some-match m [] = false
-some-match m (x ∷ xs) = m x || some-match m xs
-
 unfoldable pub member-of : Book → Name → Membership
-member-of w n = cond (some-match (line-matches (edition-of (w .kind)) n) (w .lines)) membership.Within membership.Without
+member-of w n = cond (any (line-matches (edition-of (w .kind)) n) (w .lines)) membership.Within membership.Without
 
 -- "export query … on a version book" is 13; "Order: 14, 13, … 1, 9"
 unfoldable pub contains-asked : Option Book → Name → Membership

@@ -12,9 +12,9 @@ use lib.ListN.{length}
 use Rattle.numbers.specs.Limits.{name-limit, token-limit}
 use Rattle.utf8.specs.Utf8.{utf8}
 use Rattle.pattern.specs.declared.Edition.{Edition}
-use Rattle.pattern.specs.declared.matching.Tried.{Tried}
+use Rattle.matching.specs.declared.Tried.{Tried}
 use Rattle.pattern.specs.Patterns.{refusal}
-use Rattle.pattern.specs.Tests.{match-of}
+use Rattle.matching.specs.Tests.{match-of}
 use Rattle.classes.specs.declared.Class.{Class}
 use Rattle.classes.specs.declared.Class.the-variants.{Exact, Escaped, NonStar, Star, All}
 use Rattle.storing.specs.declared.Stored.{Stored}

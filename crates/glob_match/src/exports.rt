@@ -72,14 +72,14 @@ pub extern "C" fn glob_match_matches(stored: &[u8], name: &[u8]) -> u64
     if NAME_LIMIT < name.len() {
         return TOO_LONG as u64;
     }
-    let no = pattern::refusal::pattern_refusal(Edition::Reld, stored, false);
+    let no = pattern_check::pattern_refusal(Edition::Reld, stored, false);
     if no != 0 {
         return no as u64;
     }
     if !utf8::is_utf8(name) {
         return NAME_NOT_UTF8 as u64;
     }
-    told(pattern::matching::match_name(Edition::Reld, stored, name).matched)
+    told(matching::match_name(Edition::Reld, stored, name).matched)
 }
 
 // The matcher alone, for measuring it: 1, or 256 where the pattern matches the name and 0 where not. It asks neither whether the bytes are UTF-8 nor
@@ -94,5 +94,5 @@ pub extern "C" fn glob_match_tried(stored: &[u8], name: &[u8]) -> u64
     if NAME_LIMIT < name.len() {
         return TOO_LONG as u64;
     }
-    told(pattern::matching::match_name(Edition::Reld, stored, name).matched)
+    told(matching::match_name(Edition::Reld, stored, name).matched)
 }

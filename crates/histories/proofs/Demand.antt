@@ -49,7 +49,7 @@ module _ (place : ℕ) (b : Buffers) (s : List ℕ) (w : Book) where
       go (on h) more f = more h f
       go (no n p) more f = absurd (true≢false (cc))
 
-  opened-edits : opening place b s ≡ opens w → w .edits ≡ []
+  pub opened-edits : opening place b s ≡ opens w → w .edits ≡ []
   unfolding opening build-reading
   opened-edits e = go (ltb script-limit (length s)) (leb node-width (length (b .nodes))) e
     where
@@ -59,7 +59,7 @@ module _ (place : ℕ) (b : Buffers) (s : List ℕ) (w : Book) where
       go false false f = absurd (true≢false (cc))
       go false true f = build-edits (reading place s .events) (reading place s .outcome) nothing-yet f
 
-  held-opened : Viewable b w → w .edits ≡ [] → Held b w (desk-at (w .lines)) (lent-book b w)
+  pub held-opened : Viewable b w → w .edits ≡ [] → Held b w (desk-at (w .lines)) (lent-book b w)
   held-opened v e =
       let z : w ≡ book-with w (w .lines) [] = λ i. record { kind = w .kind; nodes = w .nodes; lines = w .lines; edits = e i } in
       record { edits = []; lent = ap (lent-book b) z; sound = record { viewable = subst (Viewable b) z v; trail = begins refl refl } }

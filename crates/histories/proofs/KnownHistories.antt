@@ -17,7 +17,7 @@ use Rattle.matchers.specs.Matchers.{line-to, extern-open, extern-at, extern-ins
 use Rattle.reading.specs.Scripts.{name-to, node-at, script-at, parent-to, parent-at, node-end, sole-end, inside-body, body-at, sole-at, list-at, opening-at, start-script, go-node, go-body, go-sole, go-list, next-script, next-list, next-symbol, next}
 use Rattle.reading.specs.Events.{reading-within, reading-from, reading}
 use Rattle.packing.specs.Padding.{all-zero, pad}
-use Rattle.packing.specs.Tables.{every, fine, packed, packs, rows, things}
+use Rattle.packing.specs.Tables.{any, every, fine, packed, packs, rows, things}
 use Rattle.book.specs.Books.{first-named}
 use Rattle.book.specs.Edits.{add-back, all-back, journal-fits, strike-back, take-back}
 use Rattle.book.specs.Layout.{counts-of, edit-form, laid-out, line-form, node-form}
@@ -31,7 +31,7 @@ use Rattle.ranking.specs.Matching.{class-matches, line-matches, seen}
 use Rattle.ranking.specs.Names.{bad-name, long-name, name-refusal}
 use Rattle.ranking.specs.Walk.{deciding, exact-of, exact-stages, first-line, glob-of, glob-stages, stages, walk}
 use Rattle.lookups.specs.Lookups.{index-of, listed, locality-asked, locality-of, node-version, version-asked, version-of}
-use Rattle.export_list.specs.Membership.{contains-asked, member-of, some-match}
+use Rattle.export_list.specs.Membership.{contains-asked, member-of}
 use Rattle.changes.specs.Changes.{after, counts-after, edited}
 use Rattle.changes.specs.Trial.{add-asked, append, append-kept, may-stand, settle-asked, settled, standing, strike-asked, strike-line, undo-asked, without-latest}
 use Rattle.changes.specs.Symbols.{add-event, add-events, add-reading, symbol-asked}
@@ -53,7 +53,7 @@ unfolding pieces pieces-past sound sound-past same
     name-to node-at script-at parent-to parent-at node-end sole-end inside-body body-at sole-at list-at opening-at
     start-script go-node go-body go-sole go-list next-script next-list next-symbol next
     reading-within reading-from reading
-    all-zero pad every fine packed packs rows things
+    all-zero pad any every fine packed packs rows things
     first-named add-back all-back journal-fits strike-back take-back counts-of edit-form laid-out line-form node-form
     bare-star content-good edit-ok glob-stands in-range kind-allows kind-good line-ok name-good named-good nodes-good parent-good sane skipped-first some-star
     book-of laid view within-limits view.holds
@@ -62,7 +62,7 @@ unfolding pieces pieces-past sound sound-past same
     class-matches line-matches seen bad-name long-name name-refusal
     deciding exact-of exact-stages first-line glob-of glob-stages stages walk
     index-of listed locality-asked locality-of node-version version-asked version-of
-    contains-asked member-of some-match
+    contains-asked member-of
     after counts-after edited
     add-asked append append-kept may-stand settle-asked settled standing strike-asked strike-line undo-asked without-latest
     add-event add-events add-reading symbol-asked

@@ -4,21 +4,21 @@ use mathlib.Core.Path.{_≡_, refl, ap, _∙_}
 use mathlib.Core.List.{List, [], _∷_, _++_}
 use mathlib.Core.Bool.{Bool, true, false, _||_}
 use lib.Seq.{append-snoc}
+use Rattle.packing.specs.Tables.{any}
 use Rattle.book.specs.Books.{Line}
 use Rattle.book.specs.Edits.{stands}
 use Rattle.ranking.specs.Walk.{Stage, walk}
 use Rattle.ranking.proofs.Unmatched.{line-found, walk-without}
-use Rattle.export_list.specs.Membership.{some-match}
 use Rattle.changes.specs.Trial.{kept-if, standing}
 
 -- ---- lookups: m says which lines match, and no struck line does
 module _ (m : Line → Bool) (struck-out : (x : Line) → stands x ≡ false → m x ≡ false) where
-  pub standing-match : (ls : List Line) → some-match m ls ≡ some-match m (standing ls)
-  unfolding standing some-match
+  pub standing-match : (ls : List Line) → any m ls ≡ any m (standing ls)
+  unfolding standing any
   standing-match [] = refl
   standing-match (x ∷ ls) = go (stands x) refl (standing-match ls)
     where
-      go : (t : Bool) → stands x ≡ t → some-match m ls ≡ some-match m (standing ls) → (m x || some-match m ls) ≡ some-match m (kept-if t x (standing ls))
+      go : (t : Bool) → stands x ≡ t → any m ls ≡ any m (standing ls) → (m x || any m ls) ≡ any m (kept-if t x (standing ls))
       go true a e = rw e
       go false a e = rw (struck-out x a) e
 

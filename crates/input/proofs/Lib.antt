@@ -1,2 +1,3 @@
 pub mod Marks
 mod Positioned
+pub mod Cuts

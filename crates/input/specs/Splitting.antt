@@ -1,8 +1,8 @@
 -- The parts of verlist's input, as 01 has them: "script, a line `%%`, then one symbol a line (a last LF may lack), `@` before a wanted version." trial_desk's input
 -- has the same mark. Assumes nothing.
 use Prim.Native.Nat.{ℕ, _+_}
-use mathlib.Core.List.{List, [], _∷_}
-use mathlib.Core.Bool.{Bool, true, _&&_, _||_}
+use mathlib.Core.List.{List, [], _∷_, _++_}
+use mathlib.Core.Bool.{Bool, true, cond, _&&_, _||_}
 use mathlib.Core.Option.{Option, some, none}
 use lib.Dec.{eqb}
 use lib.ListN.{length, getD, take, drop}
@@ -18,6 +18,10 @@ percent = 37
 abbrev pub at-sign : ℕ
 at-sign = 64
 
+-- "(65,536 bytes at most)"
+abbrev pub input-limit : ℕ
+input-limit = 65536
+
 -- "a line `%%`": a text that begins with a line of these two bytes alone
 unfoldable pub marks : List ℕ → Bool
 marks l = eqb (getD l 0 0) percent && (eqb (getD l 1 0) percent && (eqb (length l) 2 || eqb (getD l 2 0) line-feed))
@@ -30,27 +34,32 @@ mark-in fresh p (b ∷ l) = found (fresh && marks (b ∷ l)) p (mark-in (eqb b l
 unfoldable pub mark : List ℕ → Found
 mark s = mark-in true 0 s
 
--- "without a `%%` line all is script"
-abbrev pub script-by : List ℕ → Found → List ℕ
-script-by s (Here p) = take p s
-script-by s Nowhere = s
+-- what stands before the place that is found, or all. "without a `%%` line all is script"
+abbrev pub part-before : List ℕ → Found → List ℕ
+part-before s (Here p) = take p s
+part-before s Nowhere = s
 
 -- the symbols' lines, behind the three bytes of that line
 abbrev pub symbols-by : List ℕ → Found → List ℕ
 symbols-by s (Here p) = drop (p + 3) s
 symbols-by s Nowhere = []
 
--- ---- "The first `@` splits a line"
-abbrev pub name-by : List ℕ → Found → List ℕ
-name-by t (Here p) = take p t
-name-by t Nowhere = t
+-- "one symbol a line (a last LF may lack)", and one command a line: the lines of s, the first of which has begun with t
+abbrev pub last-line : List ℕ → List (List ℕ)
+last-line [] = []
+last-line (c ∷ t) = (c ∷ t) ∷ []
 
+unfoldable pub lines-in : List ℕ → List ℕ → List (List ℕ)
+lines-in t [] = last-line t
+lines-in t (b ∷ s) = cond (eqb b line-feed) (t ∷ lines-in [] s) (lines-in (t ++ b ∷ []) s)
+
+-- ---- "The first `@` splits a line"
 abbrev pub wanted-by : List ℕ → Found → Option (List ℕ)
 wanted-by t (Here p) = some (drop (p + 1) t)
 wanted-by t Nowhere = none
 
 unfoldable pub name-part : List ℕ → List ℕ
-name-part t = name-by t (first-from (is at-sign) t 0)
+name-part t = part-before t (first-from (is at-sign) t 0)
 
 unfoldable pub wanted-part : List ℕ → Option (List ℕ)
 wanted-part t = wanted-by t (first-from (is at-sign) t 0)

@@ -30,7 +30,7 @@ use Rattle.opening.specs.Opening.{build, build-reading, kind-of, left, nothing-
 use Rattle.ranking.specs.Matching.{class-matches, line-matches, seen}
 use Rattle.ranking.specs.Names.{bad-name, long-name, name-refusal}
 use Rattle.ranking.specs.Walk.{deciding, exact-of, exact-stages, first-line, glob-of, glob-stages, stages, walk}
-use Rattle.version_script.specs.Questions.{counted, node-of, node-told, version-count}
+use Rattle.counting.specs.Questions.{counted, node-of, node-told, version-count}
 use Rattle.lookups.specs.Lookups.{index-of, last-named, locality-asked, locality-of, node-version, version-asked, version-of, wanted-version}
 use Rattle.known_points.specs.KnownPoints.{bytes, keeps, kept-matches, fits, held, Points}
 use Rattle.known_points.specs.KnownPoints as points

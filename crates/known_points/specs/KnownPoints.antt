@@ -23,11 +23,11 @@ use Rattle.lookups.specs.declared.answers.Version.{Version}
 use Rattle.lookups.specs.declared.answers.Version.the-variants.{Index}
 use Rattle.lookups.specs.declared.answers.Locality.{Locality}
 use Rattle.lookups.specs.declared.answers.Locality.the-variants.{Global, Local}
-use Rattle.version_script.specs.declared.Count.{Count}
-use Rattle.version_script.specs.declared.Count.the-variants.{Counted}
-use Rattle.version_script.specs.declared.NodeAnswer.{NodeAnswer}
-use Rattle.version_script.specs.declared.NodeAnswer.the-variants.{Node}
-use Rattle.version_script.specs.Questions.{counted, node-of, version-count}
+use Rattle.counting.specs.declared.Count.{Count}
+use Rattle.counting.specs.declared.Count.the-variants.{Counted}
+use Rattle.counting.specs.declared.NodeAnswer.{NodeAnswer}
+use Rattle.counting.specs.declared.NodeAnswer.the-variants.{Node}
+use Rattle.counting.specs.Questions.{counted, node-of, version-count}
 use Rattle.lookups.specs.Lookups.{locality-asked, version-asked}
 
 -- ---- quoted texts, as bytes in UTF-8

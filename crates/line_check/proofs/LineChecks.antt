@@ -11,7 +11,7 @@ use lib.Dec.{eqb}
 use lib.ListN.{length, drop, getD, drop-of-length-le}
 use lib.Seq.{drop-cons}
 use Rattle.numbers.specs.Limits.{token-limit}
-use Rattle.numbers.specs.Signs.{caret, opening}
+use Rattle.numbers.specs.Signs.{caret, opening-bracket}
 use Rattle.lists.specs.Same.{same}
 use Rattle.pattern.specs.declared.Edition.{Edition}
 use Rattle.pattern.specs.Patterns.{refusal}
@@ -26,7 +26,7 @@ pub record Unchanged (s : List ℕ) (i : ℕ) (b : Bool) : Type 0 where
 
 -- a byte that is no `^` stays as it is
 plain : (s : List ℕ) (i : ℕ) → i < length s → (getD s i 0 ≡ caret → ⊥) → (b : Bool)
-    → same (negated-from b (drop i s)) (drop i s) ≡ same (negated-from (eqb (getD s i 0) opening) (drop (i + 1) s)) (drop (i + 1) s)
+    → same (negated-from b (drop i s)) (drop i s) ≡ same (negated-from (eqb (getD s i 0) opening-bracket) (drop (i + 1) s)) (drop (i + 1) s)
 unfolding same negated-from stored-byte
 plain s i h f true = rw (add-one, drop-cons s i 0 h, ne-eqb (getD s i 0) caret f, eq-eqb (getD s i 0) (getD s i 0) refl)
 plain s i h f false = rw (add-one, drop-cons s i 0 h, eq-eqb (getD s i 0) (getD s i 0) refl)
@@ -40,11 +40,11 @@ module _ (s : List ℕ) (i : ℕ) (b : Bool) (z : Unchanged s i b) where
   unfolding same stored negated-from stored-byte
   stored-stops e h t c = sym (z .rest ∙ rw (drop-cons s i 0 h, t, c))
 
-  pub stored-plain : i < length s → (getD s i 0 ≡ caret → ⊥) → Unchanged s (i + 1) (eqb (getD s i 0) opening)
+  pub stored-plain : i < length s → (getD s i 0 ≡ caret → ⊥) → Unchanged s (i + 1) (eqb (getD s i 0) opening-bracket)
   stored-plain h f = record { rest = z .rest ∙ plain s i h f b }
 
   -- no `[` stands before the byte
-  pub stored-first : i < length s → b ≡ false → Unchanged s (i + 1) (eqb (getD s i 0) opening)
+  pub stored-first : i < length s → b ≡ false → Unchanged s (i + 1) (eqb (getD s i 0) opening-bracket)
   unfolding same negated-from stored-byte
   stored-first h t = record { rest = z .rest ∙ rw (add-one, drop-cons s i 0 h, t, eq-eqb (getD s i 0) (getD s i 0) refl) }
 

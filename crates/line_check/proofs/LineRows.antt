@@ -11,7 +11,7 @@ use borrow.Author.Tests.{eq-eqb, ne-eqb, not-true, not-false}
 use lib.ListN.{length, take, drop, getD, drop-of-length-le}
 use lib.Seq.{drop-cons, getD-drop}
 use Rattle.packing.specs.Padding.{all-zero}
-use Rattle.packing.specs.Tables.{Form, fine, packs, things}
+use Rattle.packing.specs.Tables.{Form, any, fine, packs, things}
 use Rattle.packing.proofs.Turns.{left, starts-at, size-at, thing-at, left-all, row-bad, size-bad, thing-bad, row-more, end-bad, end-good, packs-no, packs-zero, packs-rows}
 use Rattle.book.specs.Books.{Line, no-line}
 use Rattle.book.specs.Layout.{line-form, line-of}
@@ -152,13 +152,13 @@ module _ (l ps : List ℕ) (n : ℕ) where
           rw (x .class, x .section, x .language, ← z .place) (sym k)
 
       pub star-found : r ≡ true → true ≡ some-star (things line-form n l ps)
-      unfolding some-star
+      unfolding any some-star
       star-found t =
           let h : i < length (things line-form n l ps) = omega (arith, length-things line-form n l ps) in
           sym (z .goes ∙ rw (drop-cons (things line-form n l ps) i no-line h, here, t))
 
       pub star-next : r ≡ false → Starring l ps n (i + 1) (at + 4)
-      unfolding some-star
+      unfolding any some-star
       star-next t =
           let h : i < length (things line-form n l ps) = omega (arith, length-things line-form n l ps) in
           record {
@@ -168,6 +168,6 @@ module _ (l ps : List ℕ) (n : ℕ) where
           }
 
     pub star-none : n ≤ i → false ≡ some-star (things line-form n l ps)
-    unfolding some-star
+    unfolding any some-star
     star-none h =
         sym (z .goes ∙ rw (drop-of-length-le (things line-form n l ps) {i = i} (omega (arith, length-things line-form n l ps))))

@@ -17,7 +17,7 @@ use numbers::TOKEN_LIMIT;
 use packing::zero_bytes;
 use packing::zero_numbers;
 use pattern::Edition;
-use pattern::refusal::pattern_refusal;
+use pattern_check::pattern_refusal;
 
 // Whether no `[^` stands in a glob, which storing would change.
 fn is_as_stored(edition: Edition, glob: &[u8]) -> bool

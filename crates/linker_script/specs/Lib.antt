@@ -1,4 +1,3 @@
-pub mod Blocks
 pub mod Finding
 pub mod Skip
 pub mod Trim

@@ -1,2 +1,1 @@
-mod Answers
 mod Scripts

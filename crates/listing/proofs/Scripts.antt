@@ -1,7 +1,7 @@
 -- What is printed for a script and its symbols' lines: the exits of `render_listing_refused`, `render_script` and `render_listing`. Assumes nothing.
 use Prim.Native.Nat.{ℕ, _+_, _*_, _-_, _/_, _<_, _≤_}
 use mathlib.Core.Path.{_≡_, refl, sym, ap, _∙_}
-use mathlib.Core.List.{List, [], _∷_, _++_}
+use mathlib.Core.List.{List, [], _∷_, _++_, append-nil}
 use mathlib.Core.Bool.{Bool, true, false, cond}
 use mathlib.Core.Option.{Option, some}
 use native.Mathlib.Decide.{decLt}
@@ -28,18 +28,19 @@ use Rattle.opening.specs.declared.Opened.{Opened}
 use Rattle.opening.specs.Opening.{Opening, cleared, declined, left, opening, opens, told}
 use Rattle.opening.proofs.Refusing.{opening-refuses}
 use Rattle.opened.proofs.Opened.{opened-holds}
-use Rattle.version_script.specs.declared.Count.{Count}
-use Rattle.version_script.specs.declared.Count.the-variants as count
-use Rattle.version_script.specs.Questions.{counted, parent-count, version-count}
+use Rattle.counting.specs.declared.Count.{Count}
+use Rattle.counting.specs.declared.Count.the-variants as count
+use Rattle.counting.specs.Questions.{counted, parent-count, version-count}
 use Rattle.listing.specs.declared.listed.Listed.{Listed}
-use Rattle.input.specs.Splitting.{mark, script-by, symbols-by}
-use Rattle.printing.specs.Printing.{refused-line}
+use Rattle.input.specs.Splitting.{lines-in, mark, part-before, symbols-by}
+use Rattle.printing.specs.Printing.{Begins, Puts, refused-line}
 use Rattle.rendering.specs.Lines.{counts-answered, counts-line, symbol-answered}
-use Rattle.listing.specs.Listing.{answers, book-left, has-room, input-opening, listed, listing, nothing-listed, out-left, printed, printed-told, with-refusal}
-use Rattle.listing.proofs.Answers.{answer-few}
+use Rattle.listing_symbols.specs.SymbolLines.{answers}
+use Rattle.listing.specs.Listing.{Prints, book-left, has-room, input-opening, listed, listing, nothing-listed, out-left, printed, printed-told, with-refusal}
+use Rattle.listing_symbols.proofs.Answers.{answer-few}
 use Rattle.printing.proofs.Digits.{few-digits}
 use Rattle.input.proofs.Marks.{mark-within}
-use Rattle.printing.proofs.Pieces.{Begins, Puts, begins-front, puts-both}
+use Rattle.printing.proofs.Pieces.{begins-front, puts-both}
 use Rattle.rendering.proofs.Rendered.{Rendered, rendered-some}
 
 abbrev told-as : ℕ → ℕ → ℕ → Listed
@@ -72,14 +73,15 @@ counts-few : (w : Option Book) → length (counts-answered w) ≤ 36
 unfolding counts-answered
 counts-few w = counts-line-few (counted version-count w) (counted parent-count w)
 
-answers-few : (w : Option Book) (t s : List ℕ) → length (answers w t s) ≤ 15 * (length t + length s)
-unfolding answers
+answers-few : (w : Option Book) (t s : List ℕ) → length (answers w (lines-in t s)) ≤ 15 * (length t + length s)
+unfolding answers lines-in
 answers-few w [] [] = omega arith
-answers-few w (c ∷ t) [] = omega (arith, answer-few w (c ∷ t))
+answers-few w (c ∷ t) [] = rw append-nil (omega (arith, answer-few w (c ∷ t)))
 answers-few w t (b ∷ s) = go (eqb b line-feed) (answers-few w [] s) (answers-few w (t ++ b ∷ []) s)
   where
-    go : (v : Bool) → length (answers w [] s) ≤ 15 * (0 + length s) → length (answers w (t ++ b ∷ []) s) ≤ 15 * (length (t ++ b ∷ []) + length s)
-        → length (cond v (symbol-answered w t) [] ++ answers w (cond v [] (t ++ b ∷ [])) s) ≤ 15 * (length t + length (b ∷ s))
+    go : (v : Bool) → length (answers w (lines-in [] s)) ≤ 15 * (0 + length s)
+        → length (answers w (lines-in (t ++ b ∷ []) s)) ≤ 15 * (length (t ++ b ∷ []) + length s)
+        → length (answers w (cond v (t ∷ lines-in [] s) (lines-in (t ++ b ∷ []) s))) ≤ 15 * (length t + length (b ∷ s))
     go true h k = simp length-append (omega (arith, answer-few w t))
     go false h k = omega (arith, length-append t (b ∷ []))
 
@@ -113,7 +115,7 @@ module _ (b : Buffers) (s : List ℕ) (x : Opened) (e : x ≡ told (opening at-s
   module _ (symbols d : List ℕ) (b′ : Buffers) (j : b′ ≡ left b (opening at-script b s)) where
     pub script-refused-listed : (x .refusal ≡ 0 → ⊥) → (l : List ℕ) (r : Listed)
         → (r ≡ with-refusal (length (refused-line (x .refusal))) (declined (x .refusal) (x .place))) × (l ≡ front (refused-line (x .refusal)) d)
-        → (r ≡ printed-told (opening at-script b s) symbols) × (l ≡ front (printed (opening at-script b s) symbols) d) × (b′ ≡ left b (opening at-script b s))
+        → Prints b (opening at-script b s) symbols d b′ l r
     unfolding printed
     script-refused-listed h l r p =
         let z = script-refused h in
@@ -130,30 +132,29 @@ module _ (b : Buffers) (s : List ℕ) (x : Opened) (e : x ≡ told (opening at-s
           let z : length d₁ ≡ length d = ap length (counted-put .1) ∙ length-front (counts-answered (view (x .counts) b′)) d (omega arith) in
           omega (arith, more k, counted-put .0)
 
-      all-room : (w : Option Book) → 0 + length (counts-answered w) + length (answers w [] symbols) ≤ length d
+      all-room : (w : Option Book) → 0 + length (counts-answered w) + length (answers w (lines-in [] symbols)) ≤ length d
       all-room w = go (decLt 0 (length symbols))
         where
-          go : Dec (0 < length symbols) → 0 + length (counts-answered w) + length (answers w [] symbols) ≤ length d
+          go : Dec (0 < length symbols) → 0 + length (counts-answered w) + length (answers w (lines-in [] symbols)) ≤ length d
           go (yes k) = omega (arith, more k, counts-few w, answers-few w [] symbols)
           go (no k) = omega (arith, counts-few w, answers-few w [] symbols)
 
-      pub script-listed : (d₂ : List ℕ) (n₂ : ℕ) → Puts d₁ n₁ (answers (view (x .counts) b′) [] symbols) d₂ n₂
-          → (told-as n₂ 0 0 ≡ printed-told (opening at-script b s) symbols)
-          × (d₂ ≡ front (printed (opening at-script b s) symbols) d) × (b′ ≡ left b (opening at-script b s))
+      pub script-listed : (d₂ : List ℕ) (n₂ : ℕ) → Puts d₁ n₁ (answers (view (x .counts) b′) (lines-in [] symbols)) d₂ n₂
+          → Prints b (opening at-script b s) symbols d b′ d₂ (told-as n₂ 0 0)
       unfolding printed front
       script-listed d₂ n₂ q =
           let z = script-opens h b′ j in
           let v = view (x .counts) b′ in
           let c : Puts d 0 (counts-answered v) d₁ n₁ =
           (counted-put .0 ∙ sym (zero-add (length (counts-answered v))), counted-put .1 ∙ rw (take-length, zero-add)) in
-          let a : Puts d 0 (counts-answered v ++ answers v [] symbols) d₂ n₂ =
-          puts-both d 0 (counts-answered v) (answers v [] symbols) d₁ d₂ n₁ n₂ (all-room v) c q in
-          let m : Begins d (counts-answered v ++ answers v [] symbols) d₂ n₂ = (a .0 ∙ zero-add (length (counts-answered v ++ answers v [] symbols)), a .1) in
-          let u : printed (opening at-script b s) symbols ≡ counts-answered v ++ answers v [] symbols =
-          ap (λ (o : Opening). printed o symbols) (z .1 .0) ∙ sym (ap (λ (y : Option Book). counts-answered y ++ answers y [] symbols) (z .1 .1)) in
+          let a : Puts d 0 (counts-answered v ++ answers v (lines-in [] symbols)) d₂ n₂ =
+          puts-both d 0 (counts-answered v) (answers v (lines-in [] symbols)) d₁ d₂ n₁ n₂ (all-room v) c q in
+          let m : Begins d (counts-answered v ++ answers v (lines-in [] symbols)) d₂ n₂ = (a .0 ∙ zero-add (length (counts-answered v ++ answers v (lines-in [] symbols))), a .1) in
+          let u : printed (opening at-script b s) symbols ≡ counts-answered v ++ answers v (lines-in [] symbols) =
+          ap (λ (o : Opening). printed o symbols) (z .1 .0) ∙ sym (ap (λ (y : Option Book). counts-answered y ++ answers y (lines-in [] symbols)) (z .1 .1)) in
           let t : with-refusal n₂ (opening at-script b s) ≡ told-as n₂ 0 0 = ap (λ (o : Opening). with-refusal n₂ o) (z .1 .0) in (
             sym (ap (λ (n : ℕ). with-refusal n (opening at-script b s)) (ap length u ∙ sym (m .0)) ∙ t),
-            begins-front d (counts-answered v ++ answers v [] symbols) d₂ n₂ m ∙ ap (λ (k : List ℕ). front k d) (sym u),
+            begins-front d (counts-answered v ++ answers v (lines-in [] symbols)) d₂ n₂ m ∙ ap (λ (k : List ℕ). front k d) (sym u),
             j,
           )
 
@@ -190,9 +191,7 @@ module _ (b : Buffers) (s d : List ℕ) where
 
       module _ (g : length s ≤ 65536) where
         whole : (r : Listed) (l : List ℕ) (b′ : Buffers)
-            → (r ≡ printed-told (opening at-script b (script-by s (mark s))) (symbols-by s (mark s)))
-            × (l ≡ front (printed (opening at-script b (script-by s (mark s))) (symbols-by s (mark s))) d)
-            × (b′ ≡ left b (opening at-script b (script-by s (mark s)))) → Lists b s d r l b′
+            → Prints b (opening at-script b (part-before s (mark s))) (symbols-by s (mark s)) d b′ l r → Lists b s d r l b′
         unfolding listed out-left book-left has-room input-opening listing
         whole r l b′ p =
             let v : ltb 65536 (length s) ≡ false = le-ltb 65536 (length s) g in
@@ -200,19 +199,16 @@ module _ (b : Buffers) (s d : List ℕ) where
 
         module _ (x : Found) (e : x ≡ mark s) (r : Listed) (l : List ℕ) (b′ : Buffers) where
           pub no-mark-listed : x ≡ Nowhere
-              → (r ≡ printed-told (opening at-script b s) [])
-              × (l ≡ front (printed (opening at-script b s) []) d) × (b′ ≡ left b (opening at-script b s)) → Lists b s d r l b′
+              → Prints b (opening at-script b s) [] d b′ l r → Lists b s d r l b′
           no-mark-listed f p = whole r l b′ (rw (← e, f) p)
 
           module _ (p : ℕ) (f : x ≡ Here p) where
             pub mark-ends-listed : length s ≤ p + 3
-                → (r ≡ printed-told (opening at-script b (take p s)) [])
-                × (l ≡ front (printed (opening at-script b (take p s)) []) d) × (b′ ≡ left b (opening at-script b (take p s))) → Lists b s d r l b′
+                → Prints b (opening at-script b (take p s)) [] d b′ l r → Lists b s d r l b′
             mark-ends-listed j q = whole r l b′ (rw (← e, f, drop-of-length-le s j) q)
 
             pub mark-listed : (symbols : List ℕ) → symbols ≡ take (length s - (p + 3)) (drop (p + 3) s)
-                → (r ≡ printed-told (opening at-script b (take p s)) symbols)
-                × (l ≡ front (printed (opening at-script b (take p s)) symbols) d) × (b′ ≡ left b (opening at-script b (take p s))) → Lists b s d r l b′
+                → Prints b (opening at-script b (take p s)) symbols d b′ l r → Lists b s d r l b′
             mark-listed symbols t q =
                 let z : symbols ≡ drop (p + 3) s = t ∙ take-all (length s - (p + 3)) (drop (p + 3) s) (omega (arith, length-drop (p + 3) s)) in
                 whole r l b′ (rw (← e, f, ← z) q)

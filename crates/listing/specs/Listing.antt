@@ -1,44 +1,31 @@
 -- The whole of what verlist prints, as 01 has it, and what is left in the buffers that it is lent. Assumes nothing.
 use Prim.Native.Nat.{ℕ, _+_, _*_}
-use mathlib.Core.List.{List, [], _∷_, _++_}
+use mathlib.Core.Path.{_≡_}
+use mathlib.Core.List.{List, [], _++_}
 use mathlib.Core.Bool.{Bool, cond}
-use mathlib.Core.Option.{Option, some}
-use lib.Dec.{eqb, leb, ltb}
+use mathlib.Core.Option.{some}
+use lib.Dec.{leb, ltb}
 use lib.ListN.{length}
 use Rattle.numbers.specs.Refusals.{no-room, too-long}
-use Rattle.numbers.specs.Signs.{line-feed}
 use Rattle.lists.specs.Front.{front}
 use Rattle.packing.specs.Padding.{zeros}
 use Rattle.reading.specs.Places.{at-script}
-use Rattle.book.specs.Books.{Book}
 use Rattle.book.specs.Layout.{Buffers, edit-width, five, line-width, node-width}
 use Rattle.opening.specs.Opening.{Opening, opens, declined, left, opening}
 use Rattle.listing.specs.declared.listed.Listed.{Listed}
-use Rattle.input.specs.Splitting.{mark, script-by, symbols-by}
+use Rattle.input.specs.Splitting.{input-limit, lines-in, mark, part-before, symbols-by}
 use Rattle.printing.specs.Printing.{refused-line}
-use Rattle.rendering.specs.Lines.{counts-answered, symbol-answered, tail-room}
+use Rattle.rendering.specs.Lines.{counts-answered, tail-room}
+use Rattle.listing_symbols.specs.SymbolLines.{answers}
 
--- "(65,536 bytes at most)"
-abbrev pub input-limit : ℕ
-input-limit = 65536
-
--- "one symbol a line (a last LF may lack)": the answers to the lines of s, the first of which has begun with t
-abbrev pub last-answer : Option Book → List ℕ → List ℕ
-last-answer w [] = []
-last-answer w (c ∷ t) = symbol-answered w (c ∷ t)
-
-unfoldable pub answers : Option Book → List ℕ → List ℕ → List ℕ
-answers w t [] = last-answer w t
-answers w t (b ∷ s) = cond (eqb b line-feed) (symbol-answered w t) [] ++ answers w (cond (eqb b line-feed) [] (t ++ b ∷ [])) s
-
--- "It prints version and parent counts, then …", "or `refused` and the number for the script"
+-- "It prints version and parent counts, then …", "one symbol a line (a last LF may lack)", "or `refused` and the number for the script"
 unfoldable pub printed : Opening → List ℕ → List ℕ
-printed (opens w) symbols = counts-answered (some w) ++ answers (some w) [] symbols
+printed (opens w) symbols = counts-answered (some w) ++ answers (some w) (lines-in [] symbols)
 printed (declined n p) symbols = refused-line n
 
 -- the opening of the script, in buffers with the rooms of b; "longer input prints `refused 1`"
 unfoldable pub input-opening : Buffers → List ℕ → Opening
-input-opening b s = cond (ltb input-limit (length s)) (declined too-long 0) (opening at-script b (script-by s (mark s)))
+input-opening b s = cond (ltb input-limit (length s)) (declined too-long 0) (opening at-script b (part-before s (mark s)))
 
 -- what is printed
 unfoldable pub listing : Buffers → List ℕ → List ℕ
@@ -56,6 +43,10 @@ with-refusal n (declined m p) = record { length = n; refusal = m; place = p }
 -- the same of what is printed for an opening
 abbrev pub printed-told : Opening → List ℕ → Listed
 printed-told o symbols = with-refusal (length (printed o symbols)) o
+
+-- what is printed for an opening of the buffers b stands at the front of d, which is l then, r is told of it, and the buffers are as the opening leaves them
+abbrev pub Prints : Buffers → Opening → List ℕ → List ℕ → Buffers → List ℕ → Listed → Type 0
+Prints b o symbols d b′ l r = (r ≡ printed-told o symbols) × (l ≡ front (printed o symbols) d) × (b′ ≡ left b o)
 
 -- without room: 0 would say that it is done
 abbrev pub nothing-listed : Listed

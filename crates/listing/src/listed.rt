@@ -1,33 +1,22 @@
 // The whole of what verlist prints, into a lent buffer.
 ghost use mathlib.Core.Path.{_≡_};
-ghost use mathlib.Core.Bool.{true};
-ghost use mathlib.Core.List.{[]};
 ghost use Prim.Native.Nat.{_+_, _*_, _<_, _≤_};
 ghost use lib.ListN.{length};
-ghost use lib.Seq.{paste};
 ghost use Rattle.numbers.specs.Refusals.{too-long};
 ghost use Rattle.lists.specs.Front.{front};
 ghost use Rattle.reading.specs.Places.{at-script};
 ghost use Rattle.book.specs.Layout.{five};
-ghost use Rattle.book.specs.View.{holds, view};
-ghost use Rattle.opening.specs.Opening.{cleared, declined, left, opening};
-ghost use Rattle.lookups.specs.Lookups.{wanted-of};
+ghost use Rattle.opening.specs.Opening.{cleared, declined, opening};
 ghost use Rattle.printing.specs.Printing.{refused-line};
-ghost use Rattle.rendering.specs.Lines.{asked-line, symbol-answered};
-ghost use Rattle.listing.specs.Listing.{answers, book-left, listed, nothing-listed, out-left, printed, printed-told, with-refusal};
-use book::Counts;
-use input::splitting::find_at;
+ghost use Rattle.listing.specs.Listing.{Prints, book-left, listed, nothing-listed, out-left, with-refusal};
 use input::splitting::find_mark;
 use linker_script::Found;
-use linker_script::find;
-use lookups::locality_in_book;
-use lookups::version_in_book;
+use listing_symbols::render_symbols;
 use numbers::NO_ROOM;
 use numbers::TOO_LONG;
 use packing::clear_bytes;
 use packing::clear_numbers;
 use rendering::TAIL_ROOM;
-use rendering::put_symbol_line;
 use rendering::render_counts;
 use rendering::render_refused;
 use version_script::open;
@@ -76,167 +65,6 @@ fn render_too_long(
     render_listing_refused(TOO_LONG, 0, out)
 }
 
-// A symbol that a book is asked for, with the version that is wanted, if one is. The book is not checked for each symbol, as it is by
-// `rendering::render_asked`: what an opening leaves is a book.
-fn render_asked_in_book(
-    c: Counts,
-    nodes: &[u32],
-    names: &[u8],
-    lines: &[u32],
-    pool: &[u8],
-    journal: &[u32],
-    name: &[u8],
-    has_wanted: bool,
-    wanted: &[u8],
-    out: &mut [u8],
-) -> usize
-    requires { ⌜ (length (now name) + 48 ≤ length (now out)) × (holds c (five (now nodes) (now names) (now lines) (now pool) (now journal)) ≡ true) ⌝ }
-    ensures { λ r. ⌜ (r ≡ length (asked-line (view c (five (now (nodes .entry)) (now (names .entry)) (now (lines .entry)) (now (pool .entry)) (now (journal .entry)))) (now (name .entry)) (wanted-of «has_wanted» (now (wanted .entry)))))
-        × (now (out .exit) ≡ paste (now (out .entry)) 0
-        (asked-line (view c (five (now (nodes .entry)) (now (names .entry)) (now (lines .entry)) (now (pool .entry)) (now (journal .entry)))) (now (name .entry)) (wanted-of «has_wanted» (now (wanted .entry))))
-        (length (asked-line (view c (five (now (nodes .entry)) (now (names .entry)) (now (lines .entry)) (now (pool .entry)) (now (journal .entry)))) (now (name .entry)) (wanted-of «has_wanted» (now (wanted .entry)))))) ⌝ }
-{
-    let v = version_in_book(
-        c,
-        nodes,
-        names,
-        lines,
-        pool,
-        journal,
-        name,
-        name,
-        has_wanted,
-        wanted,
-    );
-    let l = locality_in_book(c, nodes, names, lines, pool, journal, name, name);
-    put_symbol_line(out, name, v, l)
-}
-
-// A symbol's line of the input, asked of buffers that hold a book.
-fn render_symbol_in_book(
-    c: Counts,
-    nodes: &[u32],
-    names: &[u8],
-    lines: &[u32],
-    pool: &[u8],
-    journal: &[u32],
-    line: &[u8],
-    out: &mut [u8],
-) -> usize
-    requires { ⌜ (length (now line) + 48 ≤ length (now out)) × (holds c (five (now nodes) (now names) (now lines) (now pool) (now journal)) ≡ true) ⌝ }
-    ensures { λ r. ⌜ (r ≡ length (symbol-answered (view c (five (now (nodes .entry)) (now (names .entry)) (now (lines .entry)) (now (pool .entry)) (now (journal .entry)))) (now (line .entry))))
-        × (now (out .exit) ≡ paste (now (out .entry)) 0
-        (symbol-answered (view c (five (now (nodes .entry)) (now (names .entry)) (now (lines .entry)) (now (pool .entry)) (now (journal .entry)))) (now (line .entry)))
-        (length (symbol-answered (view c (five (now (nodes .entry)) (now (names .entry)) (now (lines .entry)) (now (pool .entry)) (now (journal .entry)))) (now (line .entry))))) ⌝ }
-{
-    match find_at(line) {
-        Found::Nowhere => render_asked_in_book(
-            c,
-            nodes,
-            names,
-            lines,
-            pool,
-            journal,
-            line,
-            false,
-            line,
-            out,
-        ),
-        Found::Here(p) => {
-            let from = p + 1;
-            render_asked_in_book(
-                c,
-                nodes,
-                names,
-                lines,
-                pool,
-                journal,
-                &line[..p],
-                true,
-                &line[from..],
-                out,
-            )
-        }
-    }
-}
-
-// The answer to a symbol's line, from a place of `out` on, and the place behind it.
-fn put_answer(
-    c: Counts,
-    nodes: &[u32],
-    names: &[u8],
-    lines: &[u32],
-    pool: &[u8],
-    journal: &[u32],
-    line: &[u8],
-    at: usize,
-    out: &mut [u8],
-) -> usize
-    requires { ⌜ (at + length (now line) + 48 ≤ length (now out)) × (holds c (five (now nodes) (now names) (now lines) (now pool) (now journal)) ≡ true) ⌝ }
-    ensures { λ r. ⌜ (r ≡ at + length (symbol-answered (view c (five (now (nodes .entry)) (now (names .entry)) (now (lines .entry)) (now (pool .entry)) (now (journal .entry)))) (now (line .entry))))
-        × (now (out .exit) ≡ paste (now (out .entry)) at
-        (symbol-answered (view c (five (now (nodes .entry)) (now (names .entry)) (now (lines .entry)) (now (pool .entry)) (now (journal .entry)))) (now (line .entry)))
-        (length (symbol-answered (view c (five (now (nodes .entry)) (now (names .entry)) (now (lines .entry)) (now (pool .entry)) (now (journal .entry)))) (now (line .entry))))) ⌝ }
-{
-    let n = render_symbol_in_book(c, nodes, names, lines, pool, journal, line, &mut out[at..]);
-    at + n
-}
-
-// The answers to the symbols' lines, from a place of `out` on, and the place behind them.
-fn render_symbols(
-    c: Counts,
-    nodes: &[u32],
-    names: &[u8],
-    lines: &[u32],
-    pool: &[u8],
-    journal: &[u32],
-    symbols: &[u8],
-    from: usize,
-    out: &mut [u8],
-) -> usize
-    requires { ⌜ (0 < length (now symbols) → from + 48 + 15 * length (now symbols) ≤ length (now out))
-        × (holds c (five (now nodes) (now names) (now lines) (now pool) (now journal)) ≡ true) ⌝ }
-    ensures { λ r. ⌜ (r ≡ from + length (answers (view c (five (now (nodes .entry)) (now (names .entry)) (now (lines .entry)) (now (pool .entry)) (now (journal .entry)))) [] (now (symbols .entry))))
-        × (now (out .exit) ≡ paste (now (out .entry)) from
-        (answers (view c (five (now (nodes .entry)) (now (names .entry)) (now (lines .entry)) (now (pool .entry)) (now (journal .entry)))) [] (now (symbols .entry)))
-        (length (answers (view c (five (now (nodes .entry)) (now (names .entry)) (now (lines .entry)) (now (pool .entry)) (now (journal .entry)))) [] (now (symbols .entry))))) ⌝ }
-{
-    let mut at = 0;
-    let mut end = from;
-    while at < symbols.len() {
-        match find(symbols, b'\n', at) {
-            Found::Here(p) => {
-                end = put_answer(
-                    c,
-                    nodes,
-                    names,
-                    lines,
-                    pool,
-                    journal,
-                    &symbols[at..p],
-                    end,
-                    out,
-                );
-                at = p + 1;
-            }
-            Found::Nowhere => {
-                return put_answer(
-                    c,
-                    nodes,
-                    names,
-                    lines,
-                    pool,
-                    journal,
-                    &symbols[at..],
-                    end,
-                    out,
-                );
-            }
-        }
-    }
-    end
-}
-
 // A script and its symbols' lines.
 fn render_script(
     script: &[u8],
@@ -249,11 +77,8 @@ fn render_script(
     out: &mut [u8],
 ) -> Listed
     requires { ⌜ (48 ≤ length (now out)) × (0 < length (now symbols) → 84 + 15 * length (now symbols) ≤ length (now out)) ⌝ }
-    ensures { λ r. ⌜ (r ≡ printed-told (opening at-script (five (now (nodes .entry)) (now (names .entry)) (now (lines .entry)) (now (pool .entry)) (now (journal .entry))) (now (script .entry))) (now (symbols .entry)))
-        × (now (out .exit) ≡ front (printed (opening at-script (five (now (nodes .entry)) (now (names .entry)) (now (lines .entry)) (now (pool .entry)) (now (journal .entry))) (now (script .entry))) (now (symbols .entry))) (now (out .entry)))
-        × (five (now (nodes .exit)) (now (names .exit)) (now (lines .exit)) (now (pool .exit)) (now (journal .exit))
-        ≡ left (five (now (nodes .entry)) (now (names .entry)) (now (lines .entry)) (now (pool .entry)) (now (journal .entry)))
-        (opening at-script (five (now (nodes .entry)) (now (names .entry)) (now (lines .entry)) (now (pool .entry)) (now (journal .entry))) (now (script .entry)))) ⌝ }
+    ensures { λ r. ⌜ Prints (five (now (nodes .entry)) (now (names .entry)) (now (lines .entry)) (now (pool .entry)) (now (journal .entry))) (opening at-script (five (now (nodes .entry)) (now (names .entry)) (now (lines .entry)) (now (pool .entry)) (now (journal .entry))) (now (script .entry))) (now (symbols .entry)) (now (out .entry))
+        (five (now (nodes .exit)) (now (names .exit)) (now (lines .exit)) (now (pool .exit)) (now (journal .exit))) (now (out .exit)) r ⌝ }
 {
     let opened = open(script, nodes, names, lines, pool, journal);
     if opened.refusal != 0 {

@@ -10,12 +10,14 @@
 ghost use Prim.Native.Nat.{_+_, _≤_, _<_};
 ghost use lib.ListN.{length};
 use book::Counts;
+use counting::Count;
+use counting::parent_count;
+use counting::version_count;
 use export_list::Membership;
 use export_list::lookups::contains;
+use locality_lookup::locality;
 use lookups::answers::Locality;
 use lookups::answers::Version;
-use lookups::locality;
-use lookups::version_for_symbol;
 use numbers::UNKNOWN_VERSION;
 use opening::Opened;
 use replay::byte_or_zero;
@@ -25,9 +27,7 @@ use replay::print_counts;
 use replay::print_different;
 use replay::read_cases;
 use replay::read_field;
-use version_script::Count;
-use version_script::counts::parent_count;
-use version_script::counts::version_count;
+use version_lookup::version_for_symbol;
 
 // An answer that no case has.
 const OTHER: u8 = b'?';

@@ -1,3 +1,3 @@
 pub mod Asked
-mod Wanted
-mod Decided
+mod LastNamed
+pub mod Decided

@@ -1,13 +1,14 @@
 -- Version and locality of a name, as 01 has them under 'Ranking'. Assumes nothing.
 use Prim.Native.Nat.{ℕ, _+_}
 use mathlib.Core.List.{List, [], _∷_}
-use mathlib.Core.Bool.{Bool, false, cond, _&&_, _||_}
+use mathlib.Core.Bool.{Bool, false, cond, _&&_}
 use mathlib.Core.Option.{Option, some, none}
 use lib.Dec.{eqb, ltb}
 use lib.ListN.{length, getD}
 use Rattle.numbers.specs.Limits.{version-limit}
 use Rattle.numbers.specs.Refusals.{no-book, unknown-version, wrong-kind}
 use Rattle.lists.specs.Same.{same}
+use Rattle.packing.specs.Tables.{any}
 use Rattle.book.specs.Books.{Node, Line, Book, export, global, no-line, rust}
 use Rattle.ranking.specs.Matching.{Name}
 use Rattle.ranking.specs.Names.{name-refusal}
@@ -72,8 +73,7 @@ decided-locality ls none = locality.Nothing
 
 -- "global for listed names, else local"; the global lines of a book of the Rust kind are Exact and general, and none is struck (14)
 unfoldable pub listed : List Line → List ℕ → Bool
-listed [] t = false
-listed (x ∷ xs) t = (eqb (x .section) global && same (x .bytes) t) || listed xs t
+listed xs t = any (λ x. eqb (x .section) global && same (x .bytes) t) xs
 
 unfoldable pub locality-of : Book → Name → Locality
 locality-of w n = cond (eqb (w .kind) rust) (cond (listed (w .lines) (n .raw)) locality.Global locality.Local) (decided-locality (w .lines) (deciding n w))

@@ -13,7 +13,7 @@ use Rattle.linker_script.specs.declared.Skipped.{Skipped}
 use Rattle.linker_script.specs.declared.Skipped.the-variants.{At, Open}
 use Rattle.linker_script.specs.Skip.{skip}
 use Rattle.linker_script.proofs.Searches.{byte-within}
-use Rattle.tokens.specs.Tokens.{stands}
+use Rattle.tokens.specs.Tokens.{stands-at}
 use Rattle.tokens.proofs.Words.{stands-within}
 use Rattle.cursors.specs.declared.Step.{Step}
 use Rattle.cursors.specs.declared.Step.the-variants.{End, Refused}
@@ -41,12 +41,12 @@ module _ (s : List ℕ) (p x : ℕ) (e : x ≡ getD s p 0) (b : ℕ) where
   byte-fits h k n = omega (arith, byte-within s p (omega arith))
 
 -- ---- behind a word w; v is what `try_take` answers
-module _ (w s : List ℕ) (p : ℕ) (v : Bool) (e : v ≡ stands w s p) where
+module _ (w s : List ℕ) (p : ℕ) (v : Bool) (e : v ≡ stands-at w s p) where
   module _ (a b r : Step) where
-    pub word-goes : v ≡ true → r ≡ a → r ≡ cond (stands w s p) a b
+    pub word-goes : v ≡ true → r ≡ a → r ≡ cond (stands-at w s p) a b
     word-goes k m = rw (← e, k) m
 
-    pub word-missing : v ≡ false → r ≡ b → r ≡ cond (stands w s p) a b
+    pub word-missing : v ≡ false → r ≡ b → r ≡ cond (stands-at w s p) a b
     word-missing k m = rw (← e, k) m
 
   -- it lies within the text, so the places up to its end fit

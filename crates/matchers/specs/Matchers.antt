@@ -10,7 +10,7 @@ use Rattle.numbers.specs.Signs.{opening-brace, semicolon}
 use Rattle.tokens.specs.declared.TokenEnd.{TokenEnd}
 use Rattle.tokens.specs.declared.TokenEnd.the-variants.{To}
 use Rattle.tokens.specs.declared.TokenEnd.the-variants as token
-use Rattle.tokens.specs.Tokens.{stands, to-semicolon, extern-end, bare-extern-end, bare-end, bare-skip, trimmed}
+use Rattle.tokens.specs.Tokens.{stands-at, to-semicolon, extern-end, bare-extern-end, bare-end, bare-skip, trimmed}
 use Rattle.cursors.specs.declared.Cursor.{Cursor}
 use Rattle.cursors.specs.declared.Event.{Event}
 use Rattle.cursors.specs.declared.Event.the-variants.{Extern, Closed, Line}
@@ -54,16 +54,16 @@ extern-open c s place language p =
 -- "`extern ` (one space), then `"C++"` or `"C"`": else refused 4; p is the place of `extern `
 unfoldable pub extern-at : Cursor → List ℕ → ℕ → ℕ → Step
 extern-at c s place p =
-    cond (stands cxx-word s (p + 7)) (extern-open c s place 1 (p + 12))
-    (cond (stands c-word s (p + 7)) (extern-open c s place 0 (p + 10))
+    cond (stands-at cxx-word s (p + 7)) (extern-open c s place 1 (p + 12))
+    (cond (stands-at c-word s (p + 7)) (extern-open c s place 0 (p + 10))
     (Refused bad-extern p))
 
 -- "In … an extern block a skip stands before each … token and before the closing `};`"; "`};`, skip"; "`extern ` within it is refused 4 at once";
 -- behind the block the reading goes on at `place`, and e is the end of the token at p
 unfoldable pub extern-inside : Cursor → List ℕ → ℕ → ℕ → TokenEnd → Step
 extern-inside c s place p e =
-    cond (stands close-word s p) (skipping s (p + 2) (λ r. Go Closed (moved (in-language c 0) place r)))
-    (cond (stands extern-word s p) (Refused bad-extern p)
+    cond (stands-at close-word s p) (skipping s (p + 2) (λ r. Go Closed (moved (in-language c 0) place r)))
+    (cond (stands-at extern-word s p) (Refused bad-extern p)
     (line-to c s (c .place) p e))
 
 unfoldable pub in-extern : Cursor → List ℕ → ℕ → Step
@@ -74,7 +74,7 @@ in-bare c s place = skipping s (c .at) (λ p. extern-inside c s place p (bare-ex
 
 -- ---- a matcher at the place p; its extern block is read at `inner`, and behind its token the reading stands at `place`
 unfoldable pub matcher : Cursor → List ℕ → ℕ → ℕ → ℕ → Step
-matcher c s inner place p = cond (stands extern-word s p) (extern-at c s inner p) (line-to c s place p (to-semicolon s p))
+matcher c s inner place p = cond (stands-at extern-word s p) (extern-at c s inner p) (line-to c s place p (to-semicolon s p))
 
 -- "With `without_semicolon`" the token is that of `bare-end`, and behind it only the skip is read: the reading then stands past the text, which moves it on
 -- also where the text is empty
@@ -83,4 +83,4 @@ bare-line c s place (To q) = skipping s (bare-skip s) (λ r. Go (line c s 0 q) (
 bare-line c s place (token.Refused n) = Refused n 0
 
 unfoldable pub bare-matcher : Cursor → List ℕ → ℕ → ℕ → Step
-bare-matcher c s inner place = cond (stands extern-word s 0) (extern-at c s inner 0) (bare-line c s place (bare-end s))
+bare-matcher c s inner place = cond (stands-at extern-word s 0) (extern-at c s inner 0) (bare-line c s place (bare-end s))

@@ -22,16 +22,16 @@ abbrev pub question : ℕ
 question = 63
 
 -- `[`
-abbrev pub opening : ℕ
-opening = 91
+abbrev pub opening-bracket : ℕ
+opening-bracket = 91
 
 -- `\`
 abbrev pub backslash : ℕ
 backslash = 92
 
 -- `]`
-abbrev pub closing : ℕ
-closing = 93
+abbrev pub closing-bracket : ℕ
+closing-bracket = 93
 
 -- `^`
 abbrev pub caret : ℕ

@@ -9,7 +9,7 @@ use borrow.Author.Tests.{eq-eqb, eqb-true, not-false, not-true}
 use lib.Dec.{eqb}
 use lib.ListN.{length}
 use Rattle.lists.proofs.Tests.{both}
-use Rattle.packing.specs.Tables.{every, packed, rows}
+use Rattle.packing.specs.Tables.{any, every, packed, rows}
 use Rattle.packing.proofs.TableLaws.{every-append}
 use Rattle.book.specs.Books.{Node, Line, Book, all-class, exact-class, global, local, regular, rust}
 use Rattle.book.specs.Layout.{Buffers, edit-form}
@@ -42,7 +42,7 @@ pub rust-mixed : {m s : Bool} {ys : List Line} (more : Bool) → Rust-lines m s 
 rust-mixed {m} more t = record { star = t .star; globals = λ e. t .globals (or-left m more e) }
 
 star-append : (xs ys : List Line) → some-star (xs ++ ys) ≡ (some-star xs || some-star ys)
-unfolding some-star
+unfolding any some-star
 star-append [] ys = refl
 star-append (x ∷ xs) ys = go (bare-star x) (star-append xs ys)
   where
@@ -54,7 +54,7 @@ star-append (x ∷ xs) ys = go (bare-star x) (star-append xs ys)
 module _ (mixed starred inside : Bool) (ys : List Line) (y : Line) (t : Rust-lines mixed starred ys)
     (plain : inside ≡ false → y .language ≡ 0) (among : inside ≡ true → y .section ≡ 0 → mixed ≡ true) where
   new-star : eqb (y .section) local && (eqb (y .class) all-class && not inside) ≡ true → some-star (y ∷ []) ≡ true
-  unfolding some-star bare-star
+  unfolding any some-star bare-star
   new-star e =
       let a = both (eqb (y .section) local) _ e in
       let b = both (eqb (y .class) all-class) _ (a .1) in

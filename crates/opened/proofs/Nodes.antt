@@ -15,7 +15,7 @@ use Rattle.numbers.specs.Signs.{asterisk, carriage-return, slash}
 use Rattle.packing.specs.Tables.{every}
 use Rattle.packing.proofs.TableLaws.{every-from}
 use Rattle.linker_script.specs.Skip.{blank}
-use Rattle.linker_script.proofs.Skipping.{Stopped}
+use Rattle.comments.proofs.Skipping.{Stopped}
 use Rattle.tokens.specs.Tokens.{named}
 use Rattle.reading.proofs.Origins.{Named}
 use Rattle.book.specs.Books.{Node, first-named, no-node}

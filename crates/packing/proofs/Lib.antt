@@ -1,4 +1,5 @@
 pub mod PaddingLaws
+pub mod Pasting
 pub mod TableLaws
 pub mod Packings
 pub mod Turns

@@ -2,7 +2,7 @@
 -- before it". One account for nodes with their names, lines with their bytes, and edits, which have none. Assumes nothing.
 use Prim.Native.Nat.{ℕ, zero, suc, _+_}
 use mathlib.Core.List.{List, [], _∷_, _++_}
-use mathlib.Core.Bool.{Bool, true, _&&_}
+use mathlib.Core.Bool.{Bool, true, false, _&&_, _||_}
 use lib.Dec.{eqb, leb}
 use lib.ListN.{length, take, drop}
 use Rattle.packing.specs.Padding.{all-zero}
@@ -51,3 +51,8 @@ module _ {X : Type 0} (F : Form X) where
 unfoldable pub every : {X : Type 0} → (X → Bool) → List X → Bool
 every ok [] = true
 every ok (x ∷ xs) = ok x && every ok xs
+
+-- whether one of them is
+unfoldable pub any : {X : Type 0} → (X → Bool) → List X → Bool
+any ok [] = false
+any ok (x ∷ xs) = ok x || any ok xs

@@ -20,7 +20,7 @@ use Rattle.utf8.proofs.Walk.{walk-onward, walk-chars, chars-nil, chars-end, cha
 use Rattle.pattern.specs.declared.Edition.{Edition}
 use Rattle.pattern.specs.declared.bracket.MemberAt.{MemberAt}
 use Rattle.pattern.specs.Patterns.{single, range, holds, some-holds, member, inside, between, takes, bracketed, opened}
-use Rattle.pattern.specs.Post.{Member-ok, Bracket-ok, mark-as, taken}
+use Rattle.pattern.specs.Post.{Member-ok, bracket-told, mark-as, taken}
 use Rattle.pattern.proofs.Bytes.{inside-nil, inside-close, inside-cons, between-chars, behind-chars}
 use Rattle.pattern.proofs.Places.{walk-pieces, number-within, ascii-byte}
 
@@ -207,20 +207,39 @@ module _ (e : Edition) (rest : List ℕ) (from k : ℕ) (p : from ≡ mark-as fa
   pub bracket-fits : from + k ≤ length rest
   bracket-fits = omega (arith, here .room, simp length-drop at (between-few e (drop from rest)))
 
+  bracket-behind : drop (opened e (chars rest) .more) (chars rest) ≡ chars (drop (from + k + 1) rest)
+  unfolding bracketed
+  bracket-behind =
+      let n = length (between e (chars (drop from rest))) in
+      rw (here .reads, add-assoc from n 1, ← drop-drop (n + 1) from (chars rest), here .skips, behind-chars, drop-drop, ← q, add-assoc from k 1)
+
   module _ (x : ℕ) (b : Bool) (h : b ≡ some-holds (pieces (member e) (chars (take (from + k - from) (drop from rest)))) x) where
-    bracket-ok : Bracket-ok e rest x (record { takes = cond (eqb from 1) (not b) b; past = from + k + 1 })
+    bracket-says : cond (eqb from 1) (not b) b ≡ taken (opened e (chars rest) .what) x
     unfolding bracketed taken takes
-    bracket-ok =
+    bracket-says =
         let l : from + k - from ≡ length (between e (drop from rest)) = omega arith in
-        let n = length (between e (chars (drop from rest))) in
-        record {
-          takes = rw (here .reads, between-chars e (drop from rest), h, l, between-part e (drop from rest));
-          behind = rw (here .reads, add-assoc from n 1, ← drop-drop (n + 1) from (chars rest), here .skips, behind-chars, drop-drop, ← q, add-assoc from k 1);
-          within = omega (arith, bracket-fits);
-        }
+        rw (here .reads, between-chars e (drop from rest), h, l, between-part e (drop from rest))
 
-    pub bracket-negated : from ≡ 1 → Bracket-ok e rest x (record { takes = not b; past = from + k + 1 })
-    bracket-negated o = rw (eq-eqb from 1 o) at bracket-ok
+    bracket-is : (t : Bool) → t ≡ cond (eqb from 1) (not b) b → record { takes = t; past = from + k + 1 } ≡ bracket-told e rest x
+    unfolding bracket-told
+    bracket-is t i = rw (i, bracket-says, q, p)
 
-    pub bracket-plain : (from ≡ 1 → ⊥) → Bracket-ok e rest x (record { takes = b; past = from + k + 1 })
-    bracket-plain n = rw (ne-eqb from 1 n) at bracket-ok
+    pub bracket-negated : from ≡ 1 → record { takes = not b; past = from + k + 1 } ≡ bracket-told e rest x
+    bracket-negated o = bracket-is (not b) (rw (eq-eqb from 1 o))
+
+    pub bracket-plain : (from ≡ 1 → ⊥) → record { takes = b; past = from + k + 1 } ≡ bracket-told e rest x
+    bracket-plain n = bracket-is b (rw (ne-eqb from 1 n))
+
+-- what is told of a bracket, for those who read on behind it
+module _ (e : Edition) (rest : List ℕ) (x : ℕ) where
+  pub told-takes : bracket-told e rest x .takes ≡ taken (opened e (chars rest) .what) x
+  unfolding bracket-told
+  told-takes = refl
+
+  pub told-behind : drop (opened e (chars rest) .more) (chars rest) ≡ chars (drop (bracket-told e rest x .past) rest)
+  unfolding bracket-told
+  told-behind = bracket-behind e rest _ _ refl refl
+
+  pub told-within : bracket-told e rest x .past ≤ length rest + 1
+  unfolding bracket-told
+  told-within = omega (arith, bracket-fits e rest _ _ refl refl)

@@ -1,10 +1,3 @@
 pub mod Bytes
-mod Places
-mod BracketExits
-mod ElementExits
-pub mod Latest
-mod Turns
-mod Stored
-mod Negations
-mod Closings
-mod Refusals
+pub mod Places
+pub mod BracketExits

@@ -1,4 +1,3 @@
 pub mod Patterns
 pub mod Storing
-pub mod Tests
 pub mod Post

@@ -9,7 +9,7 @@ use lib.ListN.{length}
 use lib.Dec.{eqb, leb, ltb}
 use Rattle.lists.specs.Pieces.{Piece, piece, Reader, pieces, sound}
 use Rattle.numbers.specs.Refusals.{bad-pattern, glob-not-utf8}
-use Rattle.numbers.specs.Signs.{asterisk, bang, closing, dash, opening, question}
+use Rattle.numbers.specs.Signs.{asterisk, bang, closing-bracket, dash, opening-bracket, question}
 use Rattle.utf8.specs.Utf8.{chars, utf8}
 use Rattle.pattern.specs.declared.Edition.{Edition}
 
@@ -36,7 +36,7 @@ member e a (b ∷ d ∷ s) = cond (eqb b dash) (piece (range a d) 2) (piece (sin
 -- the characters up to the first `]`
 unfoldable pub inside : List ℕ → List ℕ
 inside [] = []
-inside (c ∷ s) = cond (eqb c closing) [] (c ∷ inside s)
+inside (c ∷ s) = cond (eqb c closing-bracket) [] (c ∷ inside s)
 
 -- "the first character never closes; the next `]` does": what stands between, of the characters behind `[` or `[!`
 unfoldable pub between : Edition → List ℕ → List ℕ
@@ -75,7 +75,7 @@ unfoldable pub element : Edition → Reader ℕ Element
 element e c s =
     cond (eqb c asterisk) (piece star 0)
     (cond (eqb c question) (piece (one any-one) 0)
-    (cond (eqb c opening) (opened e s)
+    (cond (eqb c opening-bracket) (opened e s)
     (piece (one (literal c)) 0)))
 
 -- the elements of a pattern's bytes

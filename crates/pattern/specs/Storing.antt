@@ -3,7 +3,7 @@ use Prim.Native.Nat.{ℕ}
 use mathlib.Core.List.{List, [], _∷_}
 use mathlib.Core.Bool.{Bool, true, false, cond, _&&_}
 use lib.Dec.{eqb}
-use Rattle.numbers.specs.Signs.{bang, caret, opening}
+use Rattle.numbers.specs.Signs.{bang, caret, opening-bracket}
 use Rattle.pattern.specs.declared.Edition.{Edition}
 
 -- a byte of a glob as it is stored; `b` says that a `[` stands just before it
@@ -12,7 +12,7 @@ stored-byte b c = cond (b && eqb c caret) bang c
 
 unfoldable pub negated-from : Bool → List ℕ → List ℕ
 negated-from b [] = []
-negated-from b (c ∷ s) = stored-byte b c ∷ negated-from (eqb c opening) s
+negated-from b (c ∷ s) = stored-byte b c ∷ negated-from (eqb c opening-bracket) s
 
 -- "each `[^` is stored as `[!`"
 unfoldable pub stored : Edition → List ℕ → List ℕ

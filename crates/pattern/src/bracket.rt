@@ -6,7 +6,7 @@ ghost use lib.ListN.{length, drop};
 ghost use Rattle.lists.specs.Pieces.{pieces};
 ghost use Rattle.utf8.specs.Utf8.{chars};
 ghost use Rattle.pattern.specs.Patterns.{between, member, some-holds};
-ghost use Rattle.pattern.specs.Post.{Member-ok, Bracket-ok, mark-as};
+ghost use Rattle.pattern.specs.Post.{Member-ok, bracket-told, mark-as};
 use crate::Edition;
 
 // How many bytes the mark of a negated bracket takes, at the place behind its `[`; a token has `^` too, which is stored as `!`.
@@ -102,7 +102,7 @@ pub struct Bracket {
 
 // The bracket whose `[` stands just before `rest`, held against the character x.
 pub fn bracket_takes(edition: Edition, rest: &[u8], x: u32) -> Bracket
-    ensures { λ r. ⌜ Bracket-ok edition (now (rest .entry)) x r ⌝ }
+    ensures { λ r. ⌜ r ≡ bracket-told edition (now (rest .entry)) x ⌝ }
 {
     let from = mark_at(rest, 0, false);
     let end = from + between_length(edition, rest, from);

@@ -9,12 +9,9 @@ use lib.Seq.{drop-drop, drop-paste, length-paste, paste, take-length, take-paste
 use Rattle.numbers.specs.Signs.{bang, line-feed, space}
 use Rattle.lists.specs.Front.{front}
 use Rattle.lists.specs.Texts.{codes}
+pub use Rattle.printing.specs.Printing.{Begins, Puts}
 use Rattle.printing.specs.Printing.{decimal, numbered, refused-answer, refused-fields, refused-line, spaced}
 use Rattle.printing.proofs.Digits.{few-digits}
-
--- the buffer d with xs from the place `at` on is l, and r lies behind them
-abbrev pub Puts : List ℕ → ℕ → List ℕ → List ℕ → ℕ → Type 0
-Puts d at xs l r = (r ≡ at + length xs) × (l ≡ paste d at xs (length xs))
 
 pub puts-long : (d : List ℕ) (at : ℕ) (xs l : List ℕ) (r : ℕ) → at + length xs ≤ length d → Puts d at xs l r → length l ≡ length d
 puts-long d at xs l r room p = ap length (p .1) ∙ length-paste d at xs (length xs) room (le-refl (length xs))
@@ -53,9 +50,6 @@ abbrev pub line-end : List ℕ
 line-end = line-feed ∷ []
 
 -- at a buffer's start
-abbrev pub Begins : List ℕ → List ℕ → List ℕ → ℕ → Type 0
-Begins d xs l r = (r ≡ length xs) × (l ≡ paste d 0 xs (length xs))
-
 pub begins : (d xs l : List ℕ) (r : ℕ) → Puts d 0 xs l r → Begins d xs l r
 begins d xs l r p = (p .0 ∙ zero-add (length xs), p .1)
 

@@ -1,10 +1,21 @@
 -- What the programs print of numbers and refusals. Assumes nothing.
 use Prim.Native.Nat.{ℕ, zero, suc, _+_, _/_, _%_}
+use mathlib.Core.Path.{_≡_}
 use mathlib.Core.List.{List, [], _∷_, _++_}
 use mathlib.Core.Bool.{cond}
 use lib.Dec.{ltb}
+use lib.ListN.{length}
+use lib.Seq.{paste}
 use Rattle.numbers.specs.Signs.{bang, line-feed, space}
 use Rattle.lists.specs.Texts.{codes}
+
+-- ---- a text is put into a buffer d: from the place `at` on the buffer has it, everywhere else what it had, and so it is l; r is the place behind the text
+abbrev pub Puts : List ℕ → ℕ → List ℕ → List ℕ → ℕ → Type 0
+Puts d at text l r = (r ≡ at + length text) × (l ≡ paste d at text (length text))
+
+-- the same at the buffer's start, where the place behind the text is its length
+abbrev pub Begins : List ℕ → List ℕ → List ℕ → ℕ → Type 0
+Begins d text l r = (r ≡ length text) × (l ≡ paste d 0 text (length text))
 
 -- ---- a number in decimal digits, k of them at most
 unfoldable pub spelled : ℕ → ℕ → List ℕ

@@ -2,9 +2,8 @@
 ghost use mathlib.Core.Path.{_≡_};
 ghost use Prim.Native.Nat.{_+_, _≤_};
 ghost use lib.ListN.{length};
-ghost use lib.Seq.{paste};
-ghost use Rattle.printing.specs.Printing.{decimal, numbered, refused-answer, refused-fields, refused-line, spaced};
-use packing::put_bytes;
+ghost use Rattle.printing.specs.Printing.{Begins, Puts, decimal, numbered, refused-answer, refused-fields, refused-line, spaced};
+use copying::put_bytes;
 
 // How many decimal digits a number has.
 fn places(n: u32) -> usize
@@ -22,7 +21,7 @@ fn places(n: u32) -> usize
 // A number in decimal digits, from a place on, and the place behind it.
 pub fn put_number(out: &mut [u8], at: usize, n: u32) -> usize
     requires { ⌜ at + 10 ≤ length (now out) ⌝ }
-    ensures { λ r. ⌜ (r ≡ at + length (decimal n)) × (now (out .exit) ≡ paste (now (out .entry)) at (decimal n) (length (decimal n))) ⌝ }
+    ensures { λ r. ⌜ Puts (now (out .entry)) at (decimal n) (now (out .exit)) r ⌝ }
 {
     let end = at + places(n);
     let mut i = end;
@@ -38,7 +37,7 @@ pub fn put_number(out: &mut [u8], at: usize, n: u32) -> usize
 // Bytes from a place on, and the place behind them.
 pub fn put_text(out: &mut [u8], at: usize, text: &[u8]) -> usize
     requires { ⌜ at + length (now text) ≤ length (now out) ⌝ }
-    ensures { λ r. ⌜ (r ≡ at + length (now (text .entry))) × (now (out .exit) ≡ paste (now (out .entry)) at (now (text .entry)) (length (now (text .entry)))) ⌝ }
+    ensures { λ r. ⌜ Puts (now (out .entry)) at (now (text .entry)) (now (out .exit)) r ⌝ }
 {
     put_bytes(out, at, text);
     at + text.len()
@@ -47,7 +46,7 @@ pub fn put_text(out: &mut [u8], at: usize, text: &[u8]) -> usize
 // `!` and a refusal's number.
 pub fn put_refused_fields(out: &mut [u8], at: usize, no: u32) -> usize
     requires { ⌜ at + 12 ≤ length (now out) ⌝ }
-    ensures { λ r. ⌜ (r ≡ at + length (refused-fields no)) × (now (out .exit) ≡ paste (now (out .entry)) at (refused-fields no) (length (refused-fields no))) ⌝ }
+    ensures { λ r. ⌜ Puts (now (out .entry)) at (refused-fields no) (now (out .exit)) r ⌝ }
 {
     let from = put_text(out, at, b"! ");
     put_number(out, from, no)
@@ -56,7 +55,7 @@ pub fn put_refused_fields(out: &mut [u8], at: usize, no: u32) -> usize
 // `refused`, a refusal's number and the end of the line, at the start of a buffer.
 pub fn put_refused_line(out: &mut [u8], no: u32) -> usize
     requires { ⌜ 19 ≤ length (now out) ⌝ }
-    ensures { λ r. ⌜ (r ≡ length (refused-line no)) × (now (out .exit) ≡ paste (now (out .entry)) 0 (refused-line no) (length (refused-line no))) ⌝ }
+    ensures { λ r. ⌜ Begins (now (out .entry)) (refused-line no) (now (out .exit)) r ⌝ }
 {
     let from = put_text(out, 0, b"refused ");
     let end = put_number(out, from, no);
@@ -66,7 +65,7 @@ pub fn put_refused_line(out: &mut [u8], no: u32) -> usize
 // A word, a blank and a number, from a place on, and the place behind them.
 pub fn put_spaced(out: &mut [u8], at: usize, word: &[u8], n: u32) -> usize
     requires { ⌜ at + length (now word) + 11 ≤ length (now out) ⌝ }
-    ensures { λ r. ⌜ (r ≡ at + length (spaced (now (word .entry)) n)) × (now (out .exit) ≡ paste (now (out .entry)) at (spaced (now (word .entry)) n) (length (spaced (now (word .entry)) n))) ⌝ }
+    ensures { λ r. ⌜ Puts (now (out .entry)) at (spaced (now (word .entry)) n) (now (out .exit)) r ⌝ }
 {
     let a = put_text(out, at, word);
     let b = put_text(out, a, b" ");
@@ -76,7 +75,7 @@ pub fn put_spaced(out: &mut [u8], at: usize, word: &[u8], n: u32) -> usize
 // The same as a line, at the start of a buffer.
 pub fn put_numbered(out: &mut [u8], word: &[u8], n: u32) -> usize
     requires { ⌜ length (now word) + 12 ≤ length (now out) ⌝ }
-    ensures { λ r. ⌜ (r ≡ length (numbered (now (word .entry)) n)) × (now (out .exit) ≡ paste (now (out .entry)) 0 (numbered (now (word .entry)) n) (length (numbered (now (word .entry)) n))) ⌝ }
+    ensures { λ r. ⌜ Begins (now (out .entry)) (numbered (now (word .entry)) n) (now (out .exit)) r ⌝ }
 {
     let end = put_spaced(out, 0, word, n);
     put_text(out, end, b"\n")
@@ -85,7 +84,7 @@ pub fn put_numbered(out: &mut [u8], word: &[u8], n: u32) -> usize
 // `!` and a refusal's number as a line, at the start of a buffer.
 pub fn put_refused_answer(out: &mut [u8], no: u32) -> usize
     requires { ⌜ 13 ≤ length (now out) ⌝ }
-    ensures { λ r. ⌜ (r ≡ length (refused-answer no)) × (now (out .exit) ≡ paste (now (out .entry)) 0 (refused-answer no) (length (refused-answer no))) ⌝ }
+    ensures { λ r. ⌜ Begins (now (out .entry)) (refused-answer no) (now (out .exit)) r ⌝ }
 {
     let end = put_refused_fields(out, 0, no);
     put_text(out, end, b"\n")

@@ -3,4 +3,3 @@ pub mod Deciders
 pub mod Unmatched
 pub mod NameTests
 pub mod Answers
-mod Leading

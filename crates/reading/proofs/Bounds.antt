@@ -15,7 +15,7 @@ use Rattle.linker_script.specs.Finding.{Test, first-from, is}
 use Rattle.linker_script.proofs.Searches.{byte-within, first-within}
 use Rattle.tokens.specs.declared.TokenEnd.{TokenEnd}
 use Rattle.tokens.specs.declared.TokenEnd.the-variants.{To, Refused}
-use Rattle.tokens.specs.Tokens.{begins, stands, named, longer, name-in, name-end, end-at, to-semicolon, to-brace, brace-before, extern-end, bare-extern-end, bare-end, bare-skip}
+use Rattle.tokens.specs.Tokens.{begins, stands-at, named, longer, name-in, name-end, end-at, to-semicolon, to-brace, brace-before, extern-end, bare-extern-end, bare-end, bare-skip}
 use Rattle.matchers.specs.Matchers.{past-semicolon}
 
 -- ---- bytes and words
@@ -33,7 +33,7 @@ begins-within (x ∷ w) (b ∷ l) e = go (eqb b x) e (begins-within w l)
     go true h more = omega (arith, more h)
     go false h more = absurd (true≢false (sym h))
 
-pub word-stands : (w s : List ℕ) (p : ℕ) → 0 < length w → stands w s p ≡ true → p + length w ≤ length s
+pub word-stands : (w s : List ℕ) (p : ℕ) → 0 < length w → stands-at w s p ≡ true → p + length w ≤ length s
 word-stands w s p h e = omega (arith, begins-within w (drop p s) e, length-drop p s)
 
 -- ---- names

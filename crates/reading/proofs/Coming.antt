@@ -21,7 +21,7 @@ use Rattle.linker_script.specs.Skip.{skip}
 use Rattle.linker_script.proofs.Searches.{drop-next}
 use Rattle.tokens.specs.declared.TokenEnd.{TokenEnd}
 use Rattle.tokens.specs.declared.TokenEnd.the-variants as no
-use Rattle.tokens.specs.Tokens.{begins, stands, named, longer, name-in, name-end, to-semicolon, to-brace, to-either, extern-end, bare-extern-end, bare-end, bare-skip}
+use Rattle.tokens.specs.Tokens.{begins, stands-at, named, longer, name-in, name-end, to-semicolon, to-brace, to-either, extern-end, bare-extern-end, bare-end, bare-skip}
 use Rattle.tokens.proofs.Ends.{and-both, bare-either, bare-extern-01}
 use Rattle.cursors.specs.declared.Cursor.{Cursor}
 use Rattle.cursors.specs.declared.Event.{Event}
@@ -48,9 +48,9 @@ begins-byte (x ∷ w) (b ∷ l) (suc i) e h = begins-byte w l i (and-both (eqb b
 
 -- two words that differ in a byte do not stand at one place
 differ : (v w s : List ℕ) (p i : ℕ) → i < length v → i < length w → (getD v i 0 ≡ getD w i 0 → ⊥) → Word v s p → No-word w s p
-differ v w s p i h k n e = go (stands w s p) refl
+differ v w s p i h k n e = go (stands-at w s p) refl
   where
-    go : (t : Bool) → stands w s p ≡ t → stands w s p ≡ false
+    go : (t : Bool) → stands-at w s p ≡ t → stands-at w s p ≡ false
     go true f = absurd (n (sym (begins-byte v (drop p s) i e h) ∙ begins-byte w (drop p s) i f k))
     go false f = f
 
@@ -121,7 +121,7 @@ pub data Rest (s : List ℕ) (c : Cursor) : Rule → ℕ → Step → Type 0 whe
   end-rest : {p : ℕ} → Rest s c end p (ending s p)
   list-rest : {p : ℕ} → Rest s c matchers p (list-at c s p)
   matcher-rest : {k : Token} {p : ℕ} {t : Step} (inner : ℕ) → Rest s c (token k) p t
-      → Rest s c (matcher k) p (cond (stands extern-word s p) (extern-at c s inner p) t)
+      → Rest s c (matcher k) p (cond (stands-at extern-word s p) (extern-at c s inner p) t)
   block-rest : {k : Token} {p : ℕ} (place : ℕ) → usual k ≡ true → Rest s c (block k) p (extern-inside c s place p (token-end k s p))
   token-rest : {k : Token} {p : ℕ} (place : ℕ) → usual k ≡ true → Rest s c (token k) p (line-to c s place p (token-end k s p))
   bare-rest : {p : ℕ} (place : ℕ) → p ≡ 0 → Rest s c (token bare-token) p (bare-line c s place (bare-end s))

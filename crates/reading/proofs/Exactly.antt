@@ -22,7 +22,7 @@ use Rattle.linker_script.proofs.Searches.{first-within}
 use Rattle.tokens.specs.declared.TokenEnd.{TokenEnd}
 use Rattle.tokens.specs.declared.TokenEnd.the-variants.{To}
 use Rattle.tokens.specs.declared.TokenEnd.the-variants as no
-use Rattle.tokens.specs.Tokens.{stands, name-end, end-at, to-semicolon, to-brace, bare-end, bare-skip}
+use Rattle.tokens.specs.Tokens.{stands-at, name-end, end-at, to-semicolon, to-brace, bare-end, bare-skip}
 use Rattle.cursors.specs.declared.Cursor.{Cursor}
 use Rattle.cursors.specs.declared.Event.{Event}
 use Rattle.cursors.specs.declared.Event.the-variants.{Extern}
@@ -175,12 +175,12 @@ module _ (s : List ℕ) (c : Cursor) where
 
   -- matchers
   matcher-says : (k : Token) (inner p : ℕ) {t : Step} → (Comes s c (token k) p → Says t) → Comes s c (matcher k) p
-      → Says (cond (stands extern-word s p) (extern-at c s inner p) t)
+      → Says (cond (stands-at extern-word s p) (extern-at c s inner p) t)
   unfolding extern-at extern-open
   matcher-says k inner p f w =
-      on-cond (stands extern-word s p)
-      (λ e. on-cond (stands cxx-word s (p + 7)) (λ a. opens 1 (p + 12) (behind-cxx w e a))
-      (λ a. on-cond (stands c-word s (p + 7)) (λ b. opens 0 (p + 10) (behind-c w e b))
+      on-cond (stands-at extern-word s p)
+      (λ e. on-cond (stands-at cxx-word s (p + 7)) (λ a. opens 1 (p + 12) (behind-cxx w e a))
+      (λ a. on-cond (stands-at c-word s (p + 7)) (λ b. opens 0 (p + 10) (behind-c w e b))
       (λ b. refuses (four (language w e a b)))))
       (λ e. f (of-matcher w e))
     where
@@ -200,8 +200,8 @@ module _ (s : List ℕ) (c : Cursor) where
   rest-says (opening-rest {p = p} e d) w = opening-says p e d w
   rest-says (body-rest {p = p} inner x) w =
       on-cond (eqb (getD s p 0) closing-brace) (λ e. rest-says x (behind-body w (eqb-true (getD s p 0) closing-brace e)))
-      (λ e. on-cond (stands global-word s p) (λ _. goes)
-      (λ a. on-cond (stands local-word s p) (λ _. goes)
+      (λ e. on-cond (stands-at global-word s p) (λ _. goes)
+      (λ a. on-cond (stands-at local-word s p) (λ _. goes)
       (λ b. plain-says inner (c .place) p (of-body w (eqb-false (getD s p 0) closing-brace e) a b))))
   rest-says (parent-rest {p = p} d) w = parent-says p d w
   rest-says (semicolon-rest {p = p}) w =
@@ -210,13 +210,13 @@ module _ (s : List ℕ) (c : Cursor) where
       (λ e. refuses (two (no-semicolon w (eqb-false (getD s p 0) semicolon e))))
   rest-says (end-rest {p = p}) w = end-says p w
   rest-says (list-rest {p = p}) w =
-      on-cond (stands close-word s p)
+      on-cond (stands-at close-word s p)
       (λ e. skip-says (λ q v. end-says q v) (p + 2) (behind-list w e))
       (λ e. plain-says in-list-extern in-list p (of-list w e))
   rest-says (matcher-rest {k = k} {p = p} inner x) w = matcher-says k inner p (λ v. rest-says x v) w
   rest-says (block-rest {k = k} {p = p} place u) w =
-      on-cond (stands close-word s p) (λ e. skip-says (λ q v. goes) (p + 2) (behind-block w e))
-      (λ e. on-cond (stands extern-word s p) (λ f. refuses (four (within-extern w f)))
+      on-cond (stands-at close-word s p) (λ e. skip-says (λ q v. goes) (p + 2) (behind-block w e))
+      (λ e. on-cond (stands-at extern-word s p) (λ f. refuses (four (within-extern w f)))
       (λ f. token-says k (c .place) p u (of-block w e f)))
   rest-says (token-rest {k = k} {p = p} place u) w = token-says k place p u w
   rest-says (bare-rest {p = p} place y) w = bare-says place p y w

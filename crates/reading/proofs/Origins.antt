@@ -18,11 +18,11 @@ use Rattle.linker_script.specs.declared.Skipped.the-variants.{At, Open}
 use Rattle.linker_script.specs.Finding.{first-from, is}
 use Rattle.linker_script.specs.Skip.{skip}
 use Rattle.linker_script.proofs.Searches.{first-within}
-use Rattle.linker_script.proofs.Skipping.{Stopped, skip-stops}
+use Rattle.comments.proofs.Skipping.{Stopped, skip-stops}
 use Rattle.tokens.specs.declared.TokenEnd.{TokenEnd}
 use Rattle.tokens.specs.declared.TokenEnd.the-variants.{To}
 use Rattle.tokens.specs.declared.TokenEnd.the-variants as token
-use Rattle.tokens.specs.Tokens.{stands, named, longer, name-in, name-end, to-semicolon, extern-end}
+use Rattle.tokens.specs.Tokens.{stands-at, named, longer, name-in, name-end, to-semicolon, extern-end}
 use Rattle.cursors.specs.declared.Cursor.{Cursor}
 use Rattle.cursors.specs.declared.Event.{Event}
 use Rattle.cursors.specs.declared.Event.the-variants.{Node, Body, Section, Extern, Closed, Line, Parent}
@@ -120,15 +120,15 @@ module _ (s : List ℕ) (c : Cursor) where
       extern-at-comes : (p : ℕ) → Comes s c (extern-at c s place p)
       unfolding extern-at
       extern-at-comes p =
-          on-cond (stands cxx-word s (p + 7)) (λ _. extern-open-comes 1 (p + 12))
-          (λ _. on-cond (stands c-word s (p + 7)) (λ _. extern-open-comes 0 (p + 10)) (λ _. refused))
+          on-cond (stands-at cxx-word s (p + 7)) (λ _. extern-open-comes 1 (p + 12))
+          (λ _. on-cond (stands-at c-word s (p + 7)) (λ _. extern-open-comes 0 (p + 10)) (λ _. refused))
 
     module _ (few : c .place < at-symbol) (h : block-place (c .place) ≡ true) (k : block-place place ≡ false) where
       extern-inside-comes : (p : ℕ) (e : TokenEnd) → Comes s c (extern-inside c s place p e)
       unfolding extern-inside
       extern-inside-comes p e =
-          on-cond (stands close-word s p) (λ _. on-skipping (p + 2) (λ q _. goes (closed h k) n))
-          (λ _. on-cond (stands extern-word s p) (λ _. refused) (λ _. line-to-comes (c .place) p e refl (record { few = few; same = refl })))
+          on-cond (stands-at close-word s p) (λ _. on-skipping (p + 2) (λ q _. goes (closed h k) n))
+          (λ _. on-cond (stands-at extern-word s p) (λ _. refused) (λ _. line-to-comes (c .place) p e refl (record { few = few; same = refl })))
 
       in-extern-comes : Comes s c (in-extern c s place)
       unfolding in-extern
@@ -139,7 +139,7 @@ module _ (s : List ℕ) (c : Cursor) where
         → Comes s c (matcher c s inner place p)
     unfolding matcher
     matcher-comes inner place p x m y n =
-        on-cond (stands extern-word s p) (λ _. extern-at-comes inner m h x p)
+        on-cond (stands-at extern-word s p) (λ _. extern-at-comes inner m h x p)
         (λ _. line-to-comes place p (to-semicolon s p) (y ∙ sym h) n)
 
     opening-at-comes : (place : ℕ) → block-place place ≡ false → Near c place → Comes s c (opening-at c s place)
@@ -150,7 +150,7 @@ module _ (s : List ℕ) (c : Cursor) where
     list-at-comes : (p : ℕ) → Near c in-list → Near c in-list-extern → Comes s c (list-at c s p)
     unfolding list-at
     list-at-comes p n m =
-        on-cond (stands close-word s p) (λ _. on-skipping (p + 2) (λ q _. on-ending q))
+        on-cond (stands-at close-word s p) (λ _. on-skipping (p + 2) (λ q _. on-ending q))
         (λ _. matcher-comes in-list-extern in-list p refl m refl n)
 
     -- ---- a script
@@ -197,8 +197,8 @@ module _ (s : List ℕ) (c : Cursor) where
       inside-body-comes : (inner p : ℕ) → block-place inner ≡ true → inner < at-list → Comes s c (inside-body c s inner p)
       unfolding inside-body
       inside-body-comes inner p x m =
-          on-cond (stands global-word s p) (λ _. goes (section l h) (in-script (c .place) l))
-          (λ _. on-cond (stands local-word s p) (λ _. goes (section l h) (in-script (c .place) l))
+          on-cond (stands-at global-word s p) (λ _. goes (section l h) (in-script (c .place) l))
+          (λ _. on-cond (stands-at local-word s p) (λ _. goes (section l h) (in-script (c .place) l))
           (λ _. matcher-comes inner (c .place) p x (in-script inner m) h (in-script (c .place) l)))
 
       body-at-comes : (p : ℕ) → Comes s c (body-at c s p)

@@ -22,7 +22,7 @@ use Rattle.linker_script.proofs.Trimming.{trim-few}
 use Rattle.tokens.specs.declared.TokenEnd.{TokenEnd}
 use Rattle.tokens.specs.declared.TokenEnd.the-variants.{To}
 use Rattle.tokens.specs.declared.TokenEnd.the-variants as token
-use Rattle.tokens.specs.Tokens.{stands, name-end, to-semicolon, extern-end, bare-extern-end, bare-end, trimmed}
+use Rattle.tokens.specs.Tokens.{stands-at, name-end, to-semicolon, extern-end, bare-extern-end, bare-end, trimmed}
 use Rattle.cursors.specs.declared.Cursor.{Cursor}
 use Rattle.cursors.specs.declared.Event.{Event}
 use Rattle.cursors.specs.declared.Event.the-variants.{Node, Body, Section, Extern, Closed, Line, Parent}
@@ -98,14 +98,14 @@ module _ (s : List ℕ) where
     extern-at-keeps : (place p : ℕ) → Keeps s (extern-at c s place p)
     unfolding extern-at
     extern-at-keeps place p =
-        on-cond (stands cxx-word s (p + 7)) (λ _. extern-open-keeps place 1 (p + 12) (omega arith))
-        (on-cond (stands c-word s (p + 7)) (λ _. extern-open-keeps place 0 (p + 10) (omega arith)) refused)
+        on-cond (stands-at cxx-word s (p + 7)) (λ _. extern-open-keeps place 1 (p + 12) (omega arith))
+        (on-cond (stands-at c-word s (p + 7)) (λ _. extern-open-keeps place 0 (p + 10) (omega arith)) refused)
 
     extern-inside-keeps : (place p : ℕ) (e : TokenEnd) → Ends s p e → Keeps s (extern-inside c s place p e)
     unfolding extern-inside
     extern-inside-keeps place p e h =
-        on-cond (stands close-word s p) (λ _. on-skipping (p + 2) (λ q. goes closed (record { section = m .section; language = omega arith })))
-        (on-cond (stands extern-word s p) (λ _. refused) (line-to-keeps (c .place) p e h))
+        on-cond (stands-at close-word s p) (λ _. on-skipping (p + 2) (λ q. goes closed (record { section = m .section; language = omega arith })))
+        (on-cond (stands-at extern-word s p) (λ _. refused) (line-to-keeps (c .place) p e h))
 
     in-extern-keeps : (place : ℕ) → Keeps s (in-extern c s place)
     unfolding in-extern
@@ -118,7 +118,7 @@ module _ (s : List ℕ) where
     matcher-keeps : (inner place p : ℕ) → Keeps s (matcher c s inner place p)
     unfolding matcher
     matcher-keeps inner place p =
-        on-cond (stands extern-word s p) (λ _. extern-at-keeps inner p) (line-to-keeps place p (to-semicolon s p) (semicolon-ends s p))
+        on-cond (stands-at extern-word s p) (λ _. extern-at-keeps inner p) (line-to-keeps place p (to-semicolon s p) (semicolon-ends s p))
 
     bare-line-keeps : (place : ℕ) (e : TokenEnd) → Keeps s (bare-line c s place e)
     unfolding bare-line
@@ -127,7 +127,7 @@ module _ (s : List ℕ) where
 
     bare-matcher-keeps : (inner place : ℕ) → Keeps s (bare-matcher c s inner place)
     unfolding bare-matcher
-    bare-matcher-keeps inner place = on-cond (stands extern-word s 0) (λ _. extern-at-keeps inner 0) (bare-line-keeps place (bare-end s))
+    bare-matcher-keeps inner place = on-cond (stands-at extern-word s 0) (λ _. extern-at-keeps inner 0) (bare-line-keeps place (bare-end s))
 
     -- ---- nodes
     name-to-keeps : (p : ℕ) → Keeps s (name-to c p (name-end s p))
@@ -177,8 +177,8 @@ module _ (s : List ℕ) where
     inside-body-keeps : (inner p : ℕ) → Keeps s (inside-body c s inner p)
     unfolding inside-body
     inside-body-keeps inner p =
-        on-cond (stands global-word s p) (λ _. goes section in-global)
-        (on-cond (stands local-word s p) (λ _. goes section in-local) (matcher-keeps c m inner (c .place) p))
+        on-cond (stands-at global-word s p) (λ _. goes section in-global)
+        (on-cond (stands-at local-word s p) (λ _. goes section in-local) (matcher-keeps c m inner (c .place) p))
 
     body-at-keeps : (p : ℕ) → Keeps s (body-at c s p)
     unfolding body-at
@@ -190,7 +190,7 @@ module _ (s : List ℕ) where
 
     list-at-keeps : (p : ℕ) → Keeps s (list-at c s p)
     unfolding list-at
-    list-at-keeps p = on-cond (stands close-word s p) (λ _. on-skipping (p + 2) (λ q. on-ending q)) (matcher-keeps c m in-list-extern in-list p)
+    list-at-keeps p = on-cond (stands-at close-word s p) (λ _. on-skipping (p + 2) (λ q. on-ending q)) (matcher-keeps c m in-list-extern in-list p)
 
     -- ---- the step at each place
     next-script-keeps : Keeps s (next-script s c)

@@ -20,12 +20,12 @@ use Rattle.linker_script.specs.declared.Skipped.the-variants.{At, Open}
 use Rattle.linker_script.specs.Finding.{first-from, is}
 use Rattle.linker_script.specs.Skip.{skip}
 use Rattle.linker_script.proofs.Searches.{first-within}
-use Rattle.linker_script.proofs.Skipping.{skip-onward, skip-within}
-use Rattle.linker_script.proofs.Unclosed.{unclosed-within}
+use Rattle.comments.proofs.Skipping.{skip-onward, skip-within}
+use Rattle.comments.proofs.Unclosed.{unclosed-within}
 use Rattle.tokens.specs.declared.TokenEnd.{TokenEnd}
 use Rattle.tokens.specs.declared.TokenEnd.the-variants.{To}
 use Rattle.tokens.specs.declared.TokenEnd.the-variants as token
-use Rattle.tokens.specs.Tokens.{stands, name-end, to-semicolon, extern-end, bare-extern-end, bare-end, bare-skip}
+use Rattle.tokens.specs.Tokens.{stands-at, name-end, to-semicolon, extern-end, bare-extern-end, bare-end, bare-skip}
 use Rattle.cursors.specs.declared.Cursor.{Cursor}
 use Rattle.cursors.specs.declared.Event.{Event}
 use Rattle.cursors.specs.declared.Step.{Step}
@@ -131,26 +131,26 @@ module _ (s : List ℕ) (c : Cursor) where
 
   module _ (place p : ℕ) (b : symbol-start place ≡ false) (r : Reached s c p) where
     -- the word of a language stands behind `extern `
-    language-fits : (w : List ℕ) (n language : ℕ) → 0 < length w → n ≡ 7 + length w → stands w s (p + 7) ≡ true
+    language-fits : (w : List ℕ) (n language : ℕ) → 0 < length w → n ≡ 7 + length w → stands-at w s (p + 7) ≡ true
         → Fits s c (extern-open c s place language (p + n))
     language-fits w n language h z e = extern-open-fits place (p + n) b (behind p n r (omega (arith, word-stands w s (p + 7) h e))) language
 
     extern-at-fits : Fits s c (extern-at c s place p)
     unfolding extern-at
     extern-at-fits =
-        on-cond (stands cxx-word s (p + 7)) (language-fits cxx-word 12 1 (omega arith) refl)
-        (λ _. on-cond (stands c-word s (p + 7)) (language-fits c-word 10 0 (omega arith) refl)
+        on-cond (stands-at cxx-word s (p + 7)) (language-fits cxx-word 12 1 (omega arith) refl)
+        (λ _. on-cond (stands-at c-word s (p + 7)) (language-fits c-word 10 0 (omega arith) refl)
         (λ _. refuse bad-extern p refl r))
 
     -- the cursor stands in the block
     extern-inside-fits : symbol-start (c .place) ≡ false → (e : TokenEnd) → Ends s p e → Fits s c (extern-inside c s place p e)
     unfolding extern-inside
     extern-inside-fits i e h =
-        on-cond (stands close-word s p)
+        on-cond (stands-at close-word s p)
         (λ k.
         let n = word-stands close-word s p (omega arith) k in
         on-skipping (p + 2) (behind p 2 r n) (λ q w t. go-on p r (omega (arith, w .onward)) (w .within n) refl b))
-        (λ _. on-cond (stands extern-word s p) (λ _. refuse bad-extern p refl r)
+        (λ _. on-cond (stands-at extern-word s p) (λ _. refuse bad-extern p refl r)
         (λ _. line-to-fits (c .place) p i r e h))
 
   module _ (place : ℕ) (b : symbol-start place ≡ false) (i : symbol-start (c .place) ≡ false) where
@@ -166,7 +166,7 @@ module _ (s : List ℕ) (c : Cursor) where
     matcher-fits : (p : ℕ) → Reached s c p → Fits s c (matcher c s inner place p)
     unfolding matcher
     matcher-fits p r =
-        on-cond (stands extern-word s p)
+        on-cond (stands-at extern-word s p)
         (λ _. extern-at-fits inner p a r)
         (λ _. line-to-fits place p b r (to-semicolon s p) (semicolon-ends s p))
 
@@ -186,7 +186,7 @@ module _ (s : List ℕ) (c : Cursor) where
 
       bare-matcher-fits : Fits s c (bare-matcher c s inner place)
       unfolding bare-matcher
-      bare-matcher-fits = on-cond (stands extern-word s 0) (λ _. extern-at-fits inner 0 a r) (λ _. bare-line-fits (bare-end s) refl)
+      bare-matcher-fits = on-cond (stands-at extern-word s 0) (λ _. extern-at-fits inner 0 a r) (λ _. bare-line-fits (bare-end s) refl)
 
   -- ---- nodes
   module _ (p : ℕ) (r : Reached s c p) where
@@ -236,8 +236,8 @@ module _ (s : List ℕ) (c : Cursor) where
     inside-body-fits : (inner : ℕ) → symbol-start inner ≡ false → Fits s c (inside-body c s inner p)
     unfolding inside-body
     inside-body-fits inner a =
-        on-cond (stands global-word s p) (λ e. go-on p r (omega arith) (word-stands global-word s p (omega arith) e) refl i)
-        (λ _. on-cond (stands local-word s p) (λ e. go-on p r (omega arith) (word-stands local-word s p (omega arith) e) refl i)
+        on-cond (stands-at global-word s p) (λ e. go-on p r (omega arith) (word-stands global-word s p (omega arith) e) refl i)
+        (λ _. on-cond (stands-at local-word s p) (λ e. go-on p r (omega arith) (word-stands local-word s p (omega arith) e) refl i)
         (λ _. matcher-fits inner (c .place) a i p r))
 
     -- at a `}`, and else
@@ -258,7 +258,7 @@ module _ (s : List ℕ) (c : Cursor) where
     list-at-fits : Fits s c (list-at c s p)
     unfolding list-at
     list-at-fits =
-        on-cond (stands close-word s p)
+        on-cond (stands-at close-word s p)
         (λ e. on-skipping (p + 2) (behind p 2 r (word-stands close-word s p (omega arith) e)) (λ q _ t. on-ending q t))
         (λ _. matcher-fits in-list-extern in-list refl refl p r)
 

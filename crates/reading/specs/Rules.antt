@@ -12,7 +12,7 @@ use Rattle.linker_script.specs.declared.Found.{Found}
 use Rattle.linker_script.specs.declared.Found.the-variants.{Here, Nowhere}
 use Rattle.linker_script.specs.Finding.{are, closes, first-from, is}
 use Rattle.linker_script.specs.Skip.{blank}
-use Rattle.tokens.specs.Tokens.{stands, named, no-semicolon-before}
+use Rattle.tokens.specs.Tokens.{stands-at, named, no-semicolon-before}
 use Rattle.cursors.specs.declared.Cursor.{Cursor}
 use Rattle.matchers.specs.Matchers.{extern-word, cxx-word, c-word, close-word}
 use Rattle.reading.specs.Places.{at-script, at-node, at-body, in-body, in-body-extern, in-sole, in-sole-extern, at-list, in-list, in-list-extern, at-symbol, in-symbol-extern, at-bare, in-bare-extern}
@@ -31,10 +31,10 @@ No-pair a b s p = (q : ℕ) → p ≤ q → Byte a s q → Byte b s (q + 1) → 
 
 -- a word stands at p, or doesn't
 abbrev pub Word : List ℕ → List ℕ → ℕ → Type 0
-Word w s p = stands w s p ≡ true
+Word w s p = stands-at w s p ≡ true
 
 abbrev pub No-word : List ℕ → List ℕ → ℕ → Type 0
-No-word w s p = stands w s p ≡ false
+No-word w s p = stands-at w s p ≡ false
 
 -- a byte of a name stands at p
 pub record Name-byte (s : List ℕ) (p : ℕ) : Type 0 where
@@ -54,9 +54,9 @@ pub data Token : Type 0 where
   bare-extern-token : Token
 
 -- whether something was found
-abbrev pub left : Found → Bool
-left (Here q) = true
-left Nowhere = false
+abbrev pub found-any : Found → Bool
+found-any (Here q) = true
+found-any Nowhere = false
 
 -- whether the token at p goes to `}`, else to `;`: "when the remaining text has no `};`, or has one with no `;` before it"; "An extern block there differs in
 -- one point: with no `};` left, tokens go to `;`."
@@ -64,7 +64,7 @@ abbrev pub to-closing : Token → List ℕ → ℕ → Bool
 to-closing plain-token s p = false
 to-closing extern-token s p = no-semicolon-before (first-from closes s p) (first-from (is semicolon) s p)
 to-closing bare-token s p = true
-to-closing bare-extern-token s p = left (first-from closes s p) && no-semicolon-before (first-from closes s p) (first-from (is semicolon) s p)
+to-closing bare-extern-token s p = found-any (first-from closes s p) && no-semicolon-before (first-from closes s p) (first-from (is semicolon) s p)
 
 pub data Rule : Type 0 where
   -- "skip", and then a rule

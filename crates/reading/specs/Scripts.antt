@@ -11,7 +11,7 @@ use Rattle.numbers.specs.Signs.{closing-brace, opening-brace, semicolon}
 use Rattle.linker_script.specs.declared.Found.{Found}
 use Rattle.linker_script.specs.declared.Found.the-variants.{Here, Nowhere}
 use Rattle.linker_script.specs.Finding.{first-from, is}
-use Rattle.tokens.specs.Tokens.{stands, name-end}
+use Rattle.tokens.specs.Tokens.{stands-at, name-end}
 use Rattle.cursors.specs.declared.Cursor.{Cursor}
 use Rattle.cursors.specs.declared.Event.the-variants.{Node, Body, Section, Parent}
 use Rattle.cursors.specs.declared.Step.{Step}
@@ -59,8 +59,8 @@ sole-end s p = skipping s p (λ q. expecting semicolon s q (λ r. skipping s r (
 -- at the place p, where no `}` stands; an extern block goes on at `inner`
 unfoldable pub inside-body : Cursor → List ℕ → ℕ → ℕ → Step
 inside-body c s inner p =
-    cond (stands global-word s p) (Go (Section 0) (moved (in-section c 0) (c .place) (p + 7)))
-    (cond (stands local-word s p) (Go (Section 1) (moved (in-section c 1) (c .place) (p + 6)))
+    cond (stands-at global-word s p) (Go (Section 0) (moved (in-section c 0) (c .place) (p + 7)))
+    (cond (stands-at local-word s p) (Go (Section 1) (moved (in-section c 1) (c .place) (p + 6)))
     (matcher c s inner (c .place) p))
 
 unfoldable pub body-at : Cursor → List ℕ → ℕ → Step
@@ -71,7 +71,7 @@ sole-at c s p = cond (eqb (getD s p 0) closing-brace) (sole-end s (p + 1)) (insi
 
 -- ---- "Export list: skip, `{`, matchers, `};` with nothing between, skip, end. Section words mean nothing there."
 unfoldable pub list-at : Cursor → List ℕ → ℕ → Step
-list-at c s p = cond (stands close-word s p) (skipping s (p + 2) (λ r. ending s r)) (matcher c s in-list-extern in-list p)
+list-at c s p = cond (stands-at close-word s p) (skipping s (p + 2) (λ r. ending s r)) (matcher c s in-list-extern in-list p)
 
 -- a body or a list opens: "skip, `{`"
 unfoldable pub opening-at : Cursor → List ℕ → ℕ → Step

@@ -23,7 +23,7 @@ use Rattle.reading.specs.Scripts.{next}
 use Rattle.reading.specs.Events.{Outcome, accepted, refused, ends, on-step, reading-from, reading}
 use Rattle.reading.proofs.Refusals.{standing-refuses}
 use Rattle.reading.proofs.Onward.{Standing, start-stands, next-stands, next-onward, reading-step}
-use Rattle.reading_rows.specs.Rows.{row, rows, place-of, outcome-told, told, events-told, rows-fitting, events-rows}
+use Rattle.reading_rows.specs.Rows.{row, event-rows, place-of, outcome-told, reading-told, events-told, rows-fitting, events-rows}
 
 -- ---- a test decides
 module _ (t : Bool) (x y r : ℕ) where
@@ -47,15 +47,15 @@ length-row Closed = refl
 length-row (Line x l p n) = refl
 length-row (Parent p n) = refl
 
-length-rows : (es : List Event) → length (rows es) ≡ 5 * length es
-unfolding rows
+length-rows : (es : List Event) → length (event-rows es) ≡ 5 * length es
+unfolding event-rows
 length-rows [] = refl
-length-rows (e ∷ es) = length-append (row e) (rows es) ∙ omega (arith, length-row e, length-rows es)
+length-rows (e ∷ es) = length-append (row e) (event-rows es) ∙ omega (arith, length-row e, length-rows es)
 
-rows-more : (es : List Event) (e : Event) → rows (es ++ e ∷ []) ≡ rows es ++ row e
-unfolding rows
+rows-more : (es : List Event) (e : Event) → event-rows (es ++ e ∷ []) ≡ event-rows es ++ row e
+unfolding event-rows
 rows-more [] e = append-nil (row e)
-rows-more (x ∷ es) e = rw (rows-more es e) (sym (append-assoc (row x) (rows es) (row e)))
+rows-more (x ∷ es) e = rw (rows-more es e) (sym (append-assoc (row x) (event-rows es) (row e)))
 
 -- the row that was put is that of e
 pub row-put : (l l′ : List ℕ) (i : ℕ) (e f : Event) → e ≡ f → l′ ≡ sets l i (row f) → l′ ≡ sets l i (row e)
@@ -68,13 +68,13 @@ pub record Tabled (place : ℕ) (s d l : List ℕ) (n : ℕ) (c : Cursor) : Type
   pub fits : n ≤ length d
   pub few : length done ≤ c .at
   pub long : length l ≡ length d
-  pub list : l ≡ front (rows done) d
+  pub list : l ≡ front (event-rows done) d
   pub stands : Standing s c
   pub events : reading place s .events ≡ done ++ reading-from s c .events
   pub outcome : reading place s .outcome ≡ reading-from s c .outcome
 
 pub tabled-start : (place : ℕ) (s d : List ℕ) (c : Cursor) → c ≡ start place s → Tabled place s d d 0 c
-unfolding rows reading
+unfolding event-rows reading
 tabled-start place s d c e = record {
   done = [];
   count = refl;
@@ -100,8 +100,8 @@ module _ (place : ℕ) (s d l : List ℕ) (n : ℕ) (c : Cursor) (z : Tabled pla
     room-enough : length (z .done) ≤ length d / 5
     room-enough = omega (arith, z .count, z .fits)
 
-    all-told : outcome-told o (n / 5) ≡ told (reading place s) (length d / 5)
-    unfolding told
+    all-told : outcome-told o (n / 5) ≡ reading-told (reading place s) (length d / 5)
+    unfolding reading-told
     all-told =
         let k : n / 5 ≡ length (z .done) = omega (arith, z .count) in
         rw (all, z .outcome, e, le-leb (length (z .done)) (length d / 5) room-enough, k)
@@ -111,7 +111,7 @@ module _ (place : ℕ) (s d l : List ℕ) (n : ℕ) (c : Cursor) (z : Tabled pla
     all-rows = rw (all, take-all (length d / 5) (z .done) room-enough) (z .list)
 
   module _ (h : t ≡ End) where
-    pub end-told : 256 * (n / 5) ≡ told (reading place s) (length d / 5)
+    pub end-told : 256 * (n / 5) ≡ reading-told (reading place s) (length d / 5)
     unfolding outcome-told
     end-told = all-told accepted (step ∙ rw h)
 
@@ -122,7 +122,7 @@ module _ (place : ℕ) (s d l : List ℕ) (n : ℕ) (c : Cursor) (z : Tabled pla
     end-fits m = omega (arith, z .count, z .few, z .stands .within)
 
   module _ (x p : ℕ) (h : t ≡ Refused x p) where
-    pub refused-told : x + 256 * p ≡ told (reading place s) (length d / 5)
+    pub refused-told : x + 256 * p ≡ reading-told (reading place s) (length d / 5)
     unfolding outcome-told
     refused-told = all-told (refused x p) (step ∙ rw h)
 
@@ -148,8 +148,8 @@ module _ (place : ℕ) (s d l : List ℕ) (n : ℕ) (c : Cursor) (z : Tabled pla
       room : length (z .done) ≡ length d / 5
       room = omega (arith, z .count, z .fits, z .long)
 
-      pub room-told : no-room ≡ told (reading place s) (length d / 5)
-      unfolding told
+      pub room-told : no-room ≡ reading-told (reading place s) (length d / 5)
+      unfolding reading-told
       room-told =
           let w : length d / 5 < length (reading place s .events) = rw (goes, length-append) (omega (arith, room)) in
           rw (lt-leb (length (reading place s .events)) (length d / 5) w)
@@ -162,15 +162,15 @@ module _ (place : ℕ) (s d l : List ℕ) (n : ℕ) (c : Cursor) (z : Tabled pla
     pub tabled-more : 5 ≤ length l - n → (l′ : List ℕ) → l′ ≡ sets l n (row e) → Tabled place s d l′ (n + 5) k
     tabled-more r l′ q =
         let y : next s c ≡ Go e k = sym a ∙ h in
-        let m : n ≡ length (rows (z .done)) = z .count ∙ sym (length-rows (z .done)) in
-        let w : length (rows (z .done)) + length (row e) ≤ length d = omega (arith, m, length-row e, z .long, z .fits) in
+        let m : n ≡ length (event-rows (z .done)) = z .count ∙ sym (length-rows (z .done)) in
+        let w : length (event-rows (z .done)) + length (row e) ≤ length d = omega (arith, m, length-row e, z .long, z .fits) in
         record {
           done = z .done ++ e ∷ [];
           count = simp length-append (omega (arith, z .count));
           fits = omega (arith, z .long, z .fits);
           few = simp length-append (omega (arith, z .few, next-onward s c k e (z .stands .fresh) y .onward));
           long = rw q (length-sets l n (row e) ∙ z .long);
-          list = q ∙ rw (z .list, m, front-run (rows (z .done)) d (row e) w, rows-more);
+          list = q ∙ rw (z .list, m, front-run (event-rows (z .done)) d (row e) w, rows-more);
           stands = next-stands s c k e (z .stands) y;
           events = goes ∙ sym (append-assoc (z .done) (e ∷ []) (reading-from s k .events));
           outcome = z .outcome ∙ rw (step, h);
@@ -192,7 +192,7 @@ module _ (source : ℕ) (s d : List ℕ) where
 
   -- p is what `source_place` answers
   module _ (h : length s ≤ script-limit) (p : ℕ) (e : p ≡ place-of source) where
-    pub within-told : (r : ℕ) → r ≡ told (reading p s) (length d / 5) → r ≡ events-told source s (length d)
+    pub within-told : (r : ℕ) → r ≡ reading-told (reading p s) (length d / 5) → r ≡ events-told source s (length d)
     unfolding events-told
     within-told r q = rw (le-ltb script-limit (length s) h, ← e) q
 

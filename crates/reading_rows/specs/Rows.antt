@@ -22,9 +22,9 @@ row Closed = 5 ∷ 0 ∷ 0 ∷ 0 ∷ 0 ∷ []
 row (Line x l p n) = 6 ∷ x ∷ l ∷ p ∷ n ∷ []
 row (Parent p n) = 7 ∷ p ∷ n ∷ 0 ∷ 0 ∷ []
 
-unfoldable pub rows : List Event → List ℕ
-rows [] = []
-rows (e ∷ es) = row e ++ rows es
+unfoldable pub event-rows : List Event → List ℕ
+event-rows [] = []
+event-rows (e ∷ es) = row e ++ event-rows es
 
 -- 0 a version script, 1 an export list, 2 a text of `add_symbol`, any other one without semicolon
 unfoldable pub place-of : ℕ → ℕ
@@ -35,16 +35,16 @@ unfoldable pub outcome-told : Outcome → ℕ → ℕ
 outcome-told accepted n = 256 * n
 outcome-told (refused x p) n = x + 256 * p
 
-unfoldable pub told : Reading → ℕ → ℕ
-told r room = cond (leb (length (r .events)) room) (outcome-told (r .outcome) (length (r .events))) no-room
+unfoldable pub reading-told : Reading → ℕ → ℕ
+reading-told r room = cond (leb (length (r .events)) room) (outcome-told (r .outcome) (length (r .events))) no-room
 
 -- into a buffer of `room` numbers; a text over the largest limit is not looked at
 unfoldable pub events-told : ℕ → List ℕ → ℕ → ℕ
-events-told source s room = cond (ltb script-limit (length s)) too-long (told (reading (place-of source) s) (room / 5))
+events-told source s room = cond (ltb script-limit (length s)) too-long (reading-told (reading (place-of source) s) (room / 5))
 
 -- the rows that fit, of `room` rows, stand at the front of the buffer
 unfoldable pub rows-fitting : ℕ → List ℕ → ℕ → List ℕ
-rows-fitting place s room = rows (take room (reading place s .events))
+rows-fitting place s room = event-rows (take room (reading place s .events))
 
 unfoldable pub events-rows : ℕ → List ℕ → List ℕ → List ℕ
 events-rows source s d = cond (ltb script-limit (length s)) d (front (rows-fitting (place-of source) s (length d / 5)) d)

@@ -7,7 +7,7 @@ ghost use lib.Seq.{sets};
 ghost use Rattle.numbers.specs.Limits.{script-limit};
 ghost use Rattle.lists.specs.Front.{front};
 ghost use Rattle.reading.specs.Events.{reading};
-ghost use Rattle.reading_rows.specs.Rows.{events-rows, events-told, place-of, row, rows-fitting, told};
+ghost use Rattle.reading_rows.specs.Rows.{events-rows, events-told, place-of, row, rows-fitting, reading-told};
 use cursors::Event;
 use cursors::Step;
 use cursors::start_at;
@@ -79,7 +79,7 @@ fn put_row(rows: &mut [u64], at: usize, e: Event)
 // The events of a text within the largest limit, as rows.
 fn write_events(place: u32, text: &[u8], rows: &mut [u64]) -> u64
     requires { ⌜ length (now text) ≤ script-limit ⌝ }
-    ensures { λ r. ⌜ (r ≡ told (reading place (now (text .entry))) (length (now (rows .entry)) / 5))
+    ensures { λ r. ⌜ (r ≡ reading-told (reading place (now (text .entry))) (length (now (rows .entry)) / 5))
         × (now (rows .exit) ≡ front (rows-fitting place (now (text .entry)) (length (now (rows .entry)) / 5)) (now (rows .entry))) ⌝ }
 {
     let mut c = start_at(place, text);

@@ -1,37 +1,21 @@
 -- A line that has room stands at the front of its buffer, and where it might have none nothing is written. Assumes nothing.
-use Prim.Native.Nat.{ℕ, _+_, _-_, _<_, _≤_}
-use mathlib.Core.Path.{_≡_, sym, _∙_}
+use Prim.Native.Nat.{ℕ, _+_, _<_, _≤_}
+use mathlib.Core.Path.{_≡_, _∙_}
 use mathlib.Core.List.{List}
 use mathlib.Core.Bool.{true}
-use mathlib.Core.Option.{Option, some, none}
-use native.Mathlib.Omega.{arith}
+use mathlib.Core.Option.{Option}
 use borrow.Author.Tests.{le-leb, lt-leb}
-use mir.Syntax.{w64}
-use mir.Val.{Fits}
 use lib.Dec.{leb}
-use lib.ListN.{length, take, drop, length-drop, length-take}
-use lib.Seq.{length-take-le, take-all}
+use lib.ListN.{length}
 use Rattle.lists.specs.Front.{front}
-use Rattle.linker_script.specs.declared.Found.{Found}
-use Rattle.linker_script.specs.declared.Found.the-variants.{Here, Nowhere}
-use Rattle.linker_script.specs.Finding.{first-from, is}
-use Rattle.linker_script.proofs.Searches.{first-within}
 use Rattle.book.specs.Books.{Book}
-use Rattle.version_script.specs.declared.Count.{Count}
-use Rattle.version_script.specs.declared.Count.the-variants as count
-use Rattle.ranking.specs.Matching.{name-of}
-use Rattle.lookups.specs.declared.answers.Version.{Version}
-use Rattle.lookups.specs.declared.answers.Locality.{Locality}
-use Rattle.lookups.specs.Lookups.{locality-asked, version-asked}
-use Rattle.version_script.specs.Questions.{counted, parent-count, version-count}
-use Rattle.input.specs.Splitting.{at-sign, name-part, wanted-part}
-use Rattle.printing.specs.Printing.{refused-line}
-use Rattle.rendering.specs.Lines.{asked-line, counts-answered, counts-line, line-left, line-told, symbol-answered, symbol-line}
-use Rattle.printing.proofs.Pieces.{Begins, begins-front}
-
--- what is answered of a line, and what is left in the buffer d
-abbrev pub Rendered : ℕ → List ℕ → List ℕ → List ℕ → ℕ → Type 0
-Rendered name line d l r = (r ≡ line-told name line (length d)) × (l ≡ line-left name line d)
+use Rattle.counting.specs.declared.Count.{Count}
+use Rattle.counting.specs.declared.Count.the-variants as count
+use Rattle.counting.specs.Questions.{counted, parent-count, version-count}
+use Rattle.printing.specs.Printing.{Begins, refused-line}
+pub use Rattle.rendering.specs.Lines.{Rendered}
+use Rattle.rendering.specs.Lines.{counts-answered, counts-line, line-left, line-told}
+use Rattle.printing.proofs.Pieces.{begins-front}
 
 pub no-room : (name : ℕ) (line d : List ℕ) → length d < name + 48 → Rendered name line d d 0
 unfolding line-told line-left
@@ -43,76 +27,23 @@ has-room name line d l r h p =
     (rw (le-leb (name + 48) (length d) h) (p .0), rw (le-leb (name + 48) (length d) h) (begins-front d line l r p))
 
 -- ---- the script's line, and the counts
-module _ (d l : List ℕ) (r : ℕ) (room : 48 ≤ length d) where
+module _ (d : List ℕ) {l : List ℕ} {r : ℕ} (room : 48 ≤ length d) where
   pub refused-rendered : (n : ℕ) → Begins d (refused-line n) l r → Rendered 0 (refused-line n) d l r
   refused-rendered n p = has-room 0 (refused-line n) d l r room p
 
-  module _ (w : Option Book) (x : Count) (e : x ≡ counted version-count w) where
-    pub first-refused : (n : ℕ) → x ≡ count.Refused n → Begins d (refused-line n) l r → Rendered 0 (counts-answered w) d l r
+  module _ (w : Option Book) {x : Count} (e : x ≡ counted version-count w) where
+    pub first-refused : {n : ℕ} → x ≡ count.Refused n → Begins d (refused-line n) l r → Rendered 0 (counts-answered w) d l r
     unfolding counts-answered counts-line
-    first-refused n f p = rw (← e, f) (has-room 0 (refused-line n) d l r room p)
+    first-refused {n} f p = rw (← e, f) (has-room 0 (refused-line n) d l r room p)
 
-    module _ (n : ℕ) (f : x ≡ count.Counted n) (y : Count) (g : y ≡ counted parent-count w) where
-      pub second-refused : (m : ℕ) → y ≡ count.Refused m → Begins d (refused-line m) l r → Rendered 0 (counts-answered w) d l r
+    module _ {n : ℕ} (f : x ≡ count.Counted n) {y : Count} (g : y ≡ counted parent-count w) where
+      pub second-refused : {m : ℕ} → y ≡ count.Refused m → Begins d (refused-line m) l r → Rendered 0 (counts-answered w) d l r
       unfolding counts-answered counts-line
-      second-refused m h p = rw (← e, f, ← g, h) (has-room 0 (refused-line m) d l r room p)
+      second-refused {m} h p = rw (← e, f, ← g, h) (has-room 0 (refused-line m) d l r room p)
 
-      pub both-counted : (m : ℕ) → y ≡ count.Counted m → Begins d (counts-line (count.Counted n) (count.Counted m)) l r → Rendered 0 (counts-answered w) d l r
+      pub both-counted : {m : ℕ} → y ≡ count.Counted m → Begins d (counts-line (count.Counted n) (count.Counted m)) l r → Rendered 0 (counts-answered w) d l r
       unfolding counts-answered
-      both-counted m h p = rw (← e, f, ← g, h) (has-room 0 (counts-line (count.Counted n) (count.Counted m)) d l r room p)
-
--- ---- a symbol's line
-pub asked-put : (d name : List ℕ) (w : Option Book) (wanted : Option (List ℕ)) (v : Version) (s : Locality) (l : List ℕ) (r : ℕ)
-    → v ≡ version-asked w (name-of name name) wanted → s ≡ locality-asked w (name-of name name) → Begins d (symbol-line name v s) l r
-    → Begins d (asked-line w name wanted) l r
-unfolding asked-line
-asked-put d name w wanted v s l r e f p = rw (← e, ← f) p
-
--- at its first `@`
-module _ (line d : List ℕ) (x : Found) (e : x ≡ first-from (is at-sign) line 0) where
-  pub plain-put : (w : Option Book) (l : List ℕ) (r : ℕ) → x ≡ Nowhere → Begins d (asked-line w line none) l r → Begins d (symbol-answered w line) l r
-  unfolding symbol-answered name-part wanted-part
-  plain-put w l r f p = rw (← e, f) p
-
-  module _ (p : ℕ) (f : x ≡ Here p) where
-    at-within : p + 1 ≤ length line
-    at-within = omega (arith, first-within (is at-sign) line 0 p (sym e ∙ f) .within)
-
-    pub version-fits : Fits w64 (length line) → Fits w64 (p + 1)
-    version-fits n = omega (arith, at-within)
-
-    pub version-starts : p + 1 ≤ length line
-    version-starts = at-within
-
-    pub name-count : p ≡ length (take p line)
-    name-count = sym (length-take-le p line (omega (arith, at-within)))
-
-    pub part-room : length line + 48 ≤ length d → length (take p line) + 48 ≤ length d
-    part-room h = omega (arith, length-take p line)
-
-    pub split-put : (w : Option Book) (l : List ℕ) (r : ℕ)
-        → Begins d (asked-line w (take p line) (some (take (length line - (p + 1)) (drop (p + 1) line)))) l r → Begins d (symbol-answered w line) l r
-    unfolding symbol-answered name-part wanted-part
-    split-put w l r q = rw (← e, f) (rw (take-all (length line - (p + 1)) (drop (p + 1) line) (omega (arith, length-drop (p + 1) line))) at q)
-
--- where the room is asked for first
-module _ (line d : List ℕ) (room : 48 ≤ length d) where
-  pub short-line : (w : Option Book) → length d - 48 < length line → Rendered (length line) (symbol-answered w line) d d 0
-  short-line w h = no-room (length line) (symbol-answered w line) d (omega arith)
-
-  module _ (fits : length line ≤ length d - 48) (x : Found) (e : x ≡ first-from (is at-sign) line 0) where
-    pub plain-line : (w : Option Book) (l : List ℕ) (r : ℕ) → x ≡ Nowhere → Begins d (asked-line w line none) l r
-        → Rendered (length line) (symbol-answered w line) d l r
-    plain-line w l r f p = has-room (length line) (symbol-answered w line) d l r (omega arith) (plain-put line d x e w l r f p)
-
-    module _ (p : ℕ) (f : x ≡ Here p) where
-      pub name-room : length (take p line) + 48 ≤ length d
-      name-room = part-room line d x e p f (omega arith)
-
-      pub split-line : (w : Option Book) (l : List ℕ) (r : ℕ)
-          → Begins d (asked-line w (take p line) (some (take (length line - (p + 1)) (drop (p + 1) line)))) l r
-          → Rendered (length line) (symbol-answered w line) d l r
-      split-line w l r q = has-room (length line) (symbol-answered w line) d l r (omega arith) (split-put line d x e p f w l r q)
+      both-counted {m} h p = rw (← e, f, ← g, h) (has-room 0 (counts-line (count.Counted n) (count.Counted m)) d l r room p)
 
 -- where there is room
 pub rendered-some : (name : ℕ) (line d l : List ℕ) (r : ℕ) → name + 48 ≤ length d → Rendered name line d l r → (r ≡ length line) × (l ≡ front line d)

@@ -1,5 +1,6 @@
 -- The lines that verlist prints, as 01 has them, and how they stand in a lent buffer. A number in decimal, `! N` and `refused N` are printing's. Assumes nothing.
 use Prim.Native.Nat.{ℕ, _+_}
+use mathlib.Core.Path.{_≡_}
 use mathlib.Core.List.{List, [], _∷_, _++_}
 use mathlib.Core.Bool.{cond}
 use mathlib.Core.Option.{Option}
@@ -10,13 +11,13 @@ use Rattle.lists.specs.Front.{front}
 use Rattle.lists.specs.Texts.{codes}
 use Rattle.book.specs.Books.{Book}
 use Rattle.ranking.specs.Matching.{name-of}
-use Rattle.version_script.specs.declared.Count.{Count}
-use Rattle.version_script.specs.declared.Count.the-variants as count
+use Rattle.counting.specs.declared.Count.{Count}
+use Rattle.counting.specs.declared.Count.the-variants as count
 use Rattle.lookups.specs.declared.answers.Version.{Version}
 use Rattle.lookups.specs.declared.answers.Version.the-variants as version
 use Rattle.lookups.specs.declared.answers.Locality.{Locality}
 use Rattle.lookups.specs.declared.answers.Locality.the-variants as locality
-use Rattle.version_script.specs.Questions.{counted, parent-count, version-count}
+use Rattle.counting.specs.Questions.{counted, parent-count, version-count}
 use Rattle.lookups.specs.Lookups.{locality-asked, version-asked}
 use Rattle.printing.specs.Printing.{decimal, refused-fields, refused-line}
 use Rattle.input.specs.Splitting.{name-part, wanted-part}
@@ -71,3 +72,7 @@ line-told name line room = cond (leb (name + tail-room) room) (length line) 0
 
 unfoldable pub line-left : ℕ → List ℕ → List ℕ → List ℕ
 line-left name line out = cond (leb (name + tail-room) (length out)) (front line out) out
+
+-- both: the line behind a name of that length was asked for in the buffer d, which is l then, and r is answered
+abbrev pub Rendered : ℕ → List ℕ → List ℕ → List ℕ → ℕ → Type 0
+Rendered name line d l r = (r ≡ line-told name line (length d)) × (l ≡ line-left name line d)

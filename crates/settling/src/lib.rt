@@ -13,10 +13,10 @@ use book::Counts;
 use book::EDIT_WIDTH;
 use book::LINE_WIDTH;
 use book::STRUCK;
+use copying::move_down;
+use copying::put_four;
 use packing::clear_bytes;
 use packing::clear_numbers;
-use packing::move_down;
-use packing::put_four;
 
 // Whether none of the first n lines is struck.
 fn none_struck(lines: &[u32], pool: &[u8], n: usize) -> bool

@@ -1,17 +1,16 @@
--- Pieces put into a buffer one behind the other, and how much room they take: counts, a line's fields, a line. Assumes nothing.
+-- Pieces put into a buffer one behind the other, and how much room they take; and the counts. Assumes nothing.
 use Prim.Native.Nat.{ℕ, _+_, _≤_}
-use mathlib.Core.Path.{_≡_, _∙_}
-use mathlib.Core.List.{List, [], _∷_, _++_}
+use mathlib.Core.Path.{_≡_, subst, _∙_}
+use mathlib.Core.List.{List, [], _∷_, _++_, append-assoc}
 use native.Mathlib.Omega.{arith}
 use lib.ListN.{length, length-append}
 use Rattle.numbers.specs.Signs.{space}
 use Rattle.lists.specs.Texts.{codes}
 use Rattle.book.specs.declared.Counts.{Counts}
-use Rattle.book.specs.Books.{Line}
-use Rattle.printing.specs.Printing.{decimal, spaced}
+use Rattle.printing.specs.Printing.{Begins, Puts, decimal, spaced}
 use Rattle.printing.proofs.Digits.{few-digits}
-use Rattle.printing.proofs.Pieces.{Begins, Puts, begins, few-spaced, line-end, puts-both, puts-long}
-use Rattle.showing.specs.Shown.{counts-shown, fields-shown, line-shown, shown-room}
+use Rattle.printing.proofs.Pieces.{begins, few-spaced, line-end, puts-both, puts-long}
+use Rattle.showing.specs.Shown.{counts-shown, shown-room}
 
 -- xs, m bytes at most, was put where there was room for it
 pub record Placed (d : List ℕ) (at m : ℕ) (xs l : List ℕ) (r : ℕ) : Type 0 where
@@ -46,6 +45,19 @@ module _ {d d₁ d₂ : List ℕ} {at m n e r : ℕ} {xs ys : List ℕ} where
         long = q .long ∙ p .long;
       }
 
+-- what stands, and a word and a number behind it
+module _ {d l : List ℕ} {at m e : ℕ} {xs : List ℕ} (p : Placed d at m xs l e) where
+  pub room-behind : (k : ℕ) → at + m + k + 11 ≤ length d → e + k + 11 ≤ length l
+  room-behind k h = omega (arith, p .put .0, p .few, p .long)
+
+  pub spaced-behind : (word : List ℕ) (n : ℕ) (l′ : List ℕ) (r : ℕ) → at + m + length word + 11 ≤ length d → Puts l e (spaced word n) l′ r
+      → Placed d at (m + (length word + 11)) (xs ++ spaced word n) l′ r
+  spaced-behind word n l′ r h q = behind p (spaced-placed l e word n l′ r (room-behind (length word) h) q)
+
+-- six pieces, however they are taken together
+pub six : (a b c d e f : List ℕ) → ((((a ++ b) ++ c) ++ d) ++ e) ++ f ≡ a ++ (b ++ (c ++ (d ++ (e ++ f))))
+six a b c d e f = simp append-assoc
+
 -- ---- `counts`
 abbrev pub kind-word : List ℕ
 kind-word = 107 ∷ 105 ∷ 110 ∷ 100 ∷ []
@@ -69,137 +81,43 @@ pub room-of : (c : Counts) (d : List ℕ) → shown-room c ≤ length d → 128 
 unfolding shown-room
 room-of c d h = omega arith
 
-module _ (d : List ℕ) (c : Counts) (room : 128 ≤ length d) where
-  module _ (d₁ : List ℕ) (e₁ : ℕ) (p₁ : Puts d 0 (spaced kind-word (c .kind)) d₁ e₁) where
-    kind-placed : Placed d 0 (4 + 11) (spaced kind-word (c .kind)) d₁ e₁
-    kind-placed = spaced-placed d 0 kind-word (c .kind) d₁ e₁ (omega (arith, room)) p₁
+-- the counts as far as to one of them
+module _ (c : Counts) where
+  abbrev pub to-kind : List ℕ
+  to-kind = spaced kind-word (c .kind)
 
-    pub nodes-room : e₁ + 6 + 11 ≤ length d₁
-    nodes-room = let q₁ = kind-placed in omega (arith, room)
+  abbrev pub to-nodes : List ℕ
+  to-nodes = to-kind ++ spaced (space ∷ nodes-word) (c .nodes)
 
-    module _ (d₂ : List ℕ) (e₂ : ℕ) (p₂ : Puts d₁ e₁ (spaced (space ∷ nodes-word) (c .nodes)) d₂ e₂) where
-      nodes-placed : Placed d₁ e₁ (6 + 11) (spaced (space ∷ nodes-word) (c .nodes)) d₂ e₂
-      nodes-placed = spaced-placed d₁ e₁ (space ∷ nodes-word) (c .nodes) d₂ e₂ nodes-room p₂
+  abbrev pub to-names : List ℕ
+  to-names = to-nodes ++ spaced (space ∷ names-word) (c .names)
 
-      pub names-room : e₂ + 6 + 11 ≤ length d₂
-      names-room = let q₁ = kind-placed in let q₂ = nodes-placed in omega (arith, room)
+  abbrev pub to-lines : List ℕ
+  to-lines = to-names ++ spaced (space ∷ lines-word) (c .lines)
 
-      module _ (d₃ : List ℕ) (e₃ : ℕ) (p₃ : Puts d₂ e₂ (spaced (space ∷ names-word) (c .names)) d₃ e₃) where
-        names-placed : Placed d₂ e₂ (6 + 11) (spaced (space ∷ names-word) (c .names)) d₃ e₃
-        names-placed = spaced-placed d₂ e₂ (space ∷ names-word) (c .names) d₃ e₃ names-room p₃
+  abbrev pub to-pool : List ℕ
+  to-pool = to-lines ++ spaced (space ∷ pool-word) (c .pool)
 
-        pub lines-room : e₃ + 6 + 11 ≤ length d₃
-        lines-room = let q₁ = kind-placed in let q₂ = nodes-placed in let q₃ = names-placed in omega (arith, room)
+  abbrev pub to-edits : List ℕ
+  to-edits = to-pool ++ spaced (space ∷ edits-word) (c .edits)
 
-        module _ (d₄ : List ℕ) (e₄ : ℕ) (p₄ : Puts d₃ e₃ (spaced (space ∷ lines-word) (c .lines)) d₄ e₄) where
-          lines-placed : Placed d₃ e₃ (6 + 11) (spaced (space ∷ lines-word) (c .lines)) d₄ e₄
-          lines-placed = spaced-placed d₃ e₃ (space ∷ lines-word) (c .lines) d₄ e₄ lines-room p₄
+-- all of them, and the line's end
+module _ {d l : List ℕ} {e : ℕ} (c : Counts) (room : 128 ≤ length d) (p : Placed d 0 99 (to-edits c) l e) where
+  pub end-room : e + 1 ≤ length l
+  end-room = omega (arith, p .put .0, p .few, p .long, room)
 
-          pub pool-room : e₄ + 5 + 11 ≤ length d₄
-          pool-room = let q₁ = kind-placed in let q₂ = nodes-placed in let q₃ = names-placed in let q₄ = lines-placed in omega (arith, room)
+  module _ (l′ : List ℕ) (r : ℕ) (q : Puts l e line-end l′ r) where
+    all-placed : Placed d 0 100 (to-edits c ++ line-end) l′ r
+    all-placed = behind p (text-placed l e line-end l′ r end-room q)
 
-          module _ (d₅ : List ℕ) (e₅ : ℕ) (p₅ : Puts d₄ e₄ (spaced (space ∷ pool-word) (c .pool)) d₅ e₅) where
-            pool-placed : Placed d₄ e₄ (5 + 11) (spaced (space ∷ pool-word) (c .pool)) d₅ e₅
-            pool-placed = spaced-placed d₄ e₄ (space ∷ pool-word) (c .pool) d₅ e₅ pool-room p₅
+    pub counts-put : Begins d (counts-shown c) l′ r
+    unfolding counts-shown codes
+    counts-put =
+        let z : to-edits c ++ line-end ≡ counts-shown c =
+        append-assoc (to-pool c) (spaced (space ∷ edits-word) (c .edits)) line-end
+        ∙ six (to-kind c) (spaced (space ∷ nodes-word) (c .nodes)) (spaced (space ∷ names-word) (c .names)) (spaced (space ∷ lines-word) (c .lines))
+        (spaced (space ∷ pool-word) (c .pool)) (spaced (space ∷ edits-word) (c .edits) ++ line-end) in
+        begins d (counts-shown c) l′ r (subst (λ (m : List ℕ). Puts d 0 m l′ r) z (all-placed .put))
 
-            pub edits-room : e₅ + 6 + 11 ≤ length d₅
-            edits-room = let q₁ = kind-placed in let q₂ = nodes-placed in let q₃ = names-placed in let q₄ = lines-placed in let q₅ = pool-placed in omega (arith, room)
-
-            module _ (d₆ : List ℕ) (e₆ : ℕ) (p₆ : Puts d₅ e₅ (spaced (space ∷ edits-word) (c .edits)) d₆ e₆) where
-              edits-placed : Placed d₅ e₅ (6 + 11) (spaced (space ∷ edits-word) (c .edits)) d₆ e₆
-              edits-placed = spaced-placed d₅ e₅ (space ∷ edits-word) (c .edits) d₆ e₆ edits-room p₆
-
-              pub end-room : e₆ + 1 ≤ length d₆
-              end-room = let q₁ = kind-placed in let q₂ = nodes-placed in let q₃ = names-placed in let q₄ = lines-placed in let q₅ = pool-placed in let q₆ = edits-placed in omega (arith, room)
-
-              module _ (d₇ : List ℕ) (r : ℕ) (p₇ : Puts d₆ e₆ line-end d₇ r) where
-                counts-placed : Placed d 0 100 (counts-shown c) d₇ r
-                unfolding counts-shown codes
-                counts-placed =
-                    behind kind-placed (behind nodes-placed (behind names-placed (behind lines-placed (behind pool-placed
-                    (behind edits-placed (text-placed d₆ e₆ line-end d₇ r end-room p₇))))))
-
-                pub counts-put : Begins d (counts-shown c) d₇ r
-                counts-put = begins d (counts-shown c) d₇ r (counts-placed .put)
-
-                pub counts-long : length d₇ ≡ length d
-                counts-long = counts-placed .long
-
--- ---- a line
-pub few-fields : (x : Line) → length (fields-shown x) ≤ 66
-unfolding fields-shown
-few-fields x =
-    let a = few-spaced [] (x .node) in
-    let b = few-spaced [] (x .class) in
-    let c = few-spaced [] (x .section) in
-    let d = few-spaced [] (x .language) in
-    let e = few-spaced [] (x .struck) in
-    let f = few-spaced [] (length (x .bytes)) in
-    simp length-append (omega arith)
-
-pub few-line : (i : ℕ) (x : Line) → length (line-shown i x) ≤ 78 + length (x .bytes)
-unfolding line-shown
-few-line i x =
-    let f = few-digits i in
-    let g = few-fields x in
-    simp length-append (omega arith)
-
--- its fields, each behind the one before it
-module _ (d : List ℕ) (at : ℕ) (x : Line) (room : at + 66 ≤ length d) where
-  module _ (d₁ : List ℕ) (e₁ : ℕ) (p₁ : Puts d at (spaced [] (x .node)) d₁ e₁) where
-    node-placed : Placed d at (0 + 11) (spaced [] (x .node)) d₁ e₁
-    node-placed = spaced-placed d at [] (x .node) d₁ e₁ (omega (arith, room)) p₁
-
-    pub class-room : e₁ + 0 + 11 ≤ length d₁
-    class-room = let q₁ = node-placed in omega (arith, room)
-
-    module _ (d₂ : List ℕ) (e₂ : ℕ) (p₂ : Puts d₁ e₁ (spaced [] (x .class)) d₂ e₂) where
-      class-placed : Placed d₁ e₁ (0 + 11) (spaced [] (x .class)) d₂ e₂
-      class-placed = spaced-placed d₁ e₁ [] (x .class) d₂ e₂ class-room p₂
-
-      pub section-room : e₂ + 0 + 11 ≤ length d₂
-      section-room = let q₁ = node-placed in let q₂ = class-placed in omega (arith, room)
-
-      module _ (d₃ : List ℕ) (e₃ : ℕ) (p₃ : Puts d₂ e₂ (spaced [] (x .section)) d₃ e₃) where
-        section-placed : Placed d₂ e₂ (0 + 11) (spaced [] (x .section)) d₃ e₃
-        section-placed = spaced-placed d₂ e₂ [] (x .section) d₃ e₃ section-room p₃
-
-        pub language-room : e₃ + 0 + 11 ≤ length d₃
-        language-room = let q₁ = node-placed in let q₂ = class-placed in let q₃ = section-placed in omega (arith, room)
-
-        module _ (d₄ : List ℕ) (e₄ : ℕ) (p₄ : Puts d₃ e₃ (spaced [] (x .language)) d₄ e₄) where
-          language-placed : Placed d₃ e₃ (0 + 11) (spaced [] (x .language)) d₄ e₄
-          language-placed = spaced-placed d₃ e₃ [] (x .language) d₄ e₄ language-room p₄
-
-          pub struck-room : e₄ + 0 + 11 ≤ length d₄
-          struck-room = let q₁ = node-placed in let q₂ = class-placed in let q₃ = section-placed in let q₄ = language-placed in omega (arith, room)
-
-          module _ (d₅ : List ℕ) (e₅ : ℕ) (p₅ : Puts d₄ e₄ (spaced [] (x .struck)) d₅ e₅) where
-            struck-placed : Placed d₄ e₄ (0 + 11) (spaced [] (x .struck)) d₅ e₅
-            struck-placed = spaced-placed d₄ e₄ [] (x .struck) d₅ e₅ struck-room p₅
-
-            pub length-room : e₅ + 0 + 11 ≤ length d₅
-            length-room = let q₁ = node-placed in let q₂ = class-placed in let q₃ = section-placed in let q₄ = language-placed in let q₅ = struck-placed in omega (arith, room)
-
-            pub fields-put : (d₆ : List ℕ) (r : ℕ) → Puts d₅ e₅ (spaced [] (length (x .bytes))) d₆ r → Puts d at (fields-shown x) d₆ r
-            unfolding fields-shown
-            fields-put d₆ r p₆ =
-                let q₆ = spaced-placed d₅ e₅ [] (length (x .bytes)) d₆ r length-room p₆ in
-                behind node-placed (behind class-placed (behind section-placed (behind language-placed (behind struck-placed q₆)))) .put
-
-module _ (d : List ℕ) (at : ℕ) (x : Line) where
-  module _ (i : ℕ) (d₁ d₂ d₃ d₄ d₅ : List ℕ) (e₁ e₂ e₃ e₄ r : ℕ) where
-    pub line-put : at + 78 + length (x .bytes) ≤ length d
-        → Puts d at (decimal i) d₁ e₁
-        → Puts d₁ e₁ (fields-shown x) d₂ e₂
-        → Puts d₂ e₂ (space ∷ []) d₃ e₃
-        → Puts d₃ e₃ (x .bytes) d₄ e₄
-        → Puts d₄ e₄ line-end d₅ r → Puts d at (line-shown i x) d₅ r
-    unfolding line-shown
-    line-put room p₁ p₂ p₃ p₄ p₅ =
-        let q₁ = number-placed d at i d₁ e₁ (omega arith) p₁ in
-        let q₂ = placed d₁ e₁ 66 (fields-shown x) d₂ e₂ (few-fields x) (omega arith) p₂ in
-        let q₃ = text-placed d₂ e₂ (space ∷ []) d₃ e₃ (omega arith) p₃ in
-        let q₄ = text-placed d₃ e₃ (x .bytes) d₄ e₄ (omega arith) p₄ in
-        let q₅ = text-placed d₄ e₄ line-end d₅ r (omega arith) p₅ in
-        behind q₁ (behind q₂ (behind q₃ (behind q₄ q₅))) .put
+    pub counts-long : length l′ ≡ length d
+    counts-long = all-placed .long

@@ -121,7 +121,7 @@ fn compile_glob_pattern(edition: Edition, class: Class, token: &[u8], out: &mut 
     ensures { λ r. ⌜ (r ≡ keep-answer (keep-glob edition class (now (token .entry))) (length (now (out .entry))))
         × (now (out .exit) ≡ keep-buffer (keep-glob edition class (now (token .entry))) (now (out .entry))) ⌝ }
 {
-    let no = pattern::refusal::pattern_refusal(edition, token, true);
+    let no = pattern_check::pattern_refusal(edition, token, true);
     if no != 0 {
         return Stored::Refused(no);
     }

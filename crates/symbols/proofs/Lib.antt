@@ -1,2 +1,1 @@
-mod AddedEvents
-mod AddedTexts
+mod AskedSymbol

@@ -10,25 +10,25 @@ use lib.ListN.{length, getD, take, drop, length-drop, drop-of-length-le}
 use lib.Seq.{length-take-le, take-all, take-nil}
 use Rattle.linker_script.specs.Trim.{trim-end}
 use Rattle.linker_script.proofs.Searches.{drop-next}
-use Rattle.tokens.specs.Tokens.{begins, stands, named, name-in, name-end, trimmed}
+use Rattle.tokens.specs.Tokens.{begins, stands-at, named, name-in, name-end, trimmed}
 
 -- ---- the loop of `try_take`: what is left of the word and of the text decides
-module _ (w s : List ℕ) (at i j : ℕ) (inv : stands w s at ≡ begins (drop i w) (drop j s)) where
-  pub word-ends : length w ≤ i → true ≡ stands w s at
+module _ (w s : List ℕ) (at i j : ℕ) (inv : stands-at w s at ≡ begins (drop i w) (drop j s)) where
+  pub word-ends : length w ≤ i → true ≡ stands-at w s at
   unfolding begins
   word-ends h = sym (inv ∙ rw (drop-of-length-le w h))
 
   module _ (h : i < length w) where
-    pub text-ends : length s ≤ j → false ≡ stands w s at
+    pub text-ends : length s ≤ j → false ≡ stands-at w s at
     unfolding begins
     text-ends k = sym (inv ∙ rw (drop-next w i h, drop-of-length-le s k))
 
     module _ (k : j < length s) where
-      pub byte-differs : (getD s j 0 ≡ getD w i 0 → ⊥) → false ≡ stands w s at
+      pub byte-differs : (getD s j 0 ≡ getD w i 0 → ⊥) → false ≡ stands-at w s at
       unfolding begins
       byte-differs n = sym (inv ∙ rw (drop-next w i h, drop-next s j k, ne-eqb (getD s j 0) (getD w i 0) n))
 
-      pub byte-same : getD s j 0 ≡ getD w i 0 → stands w s at ≡ begins (drop (i + 1) w) (drop (j + 1) s)
+      pub byte-same : getD s j 0 ≡ getD w i 0 → stands-at w s at ≡ begins (drop (i + 1) w) (drop (j + 1) s)
       unfolding begins
       byte-same e = inv ∙ rw (drop-next w i h, drop-next s j k, eq-eqb (getD s j 0) (getD w i 0) e)
 
@@ -43,7 +43,7 @@ begins-few (x ∷ w) (b ∷ l) e = go (eqb b x) e (begins-few w l)
     go true k ih = omega (arith, ih k)
     go false k ih = let z : _≡_ {A = ℕ} 0 1 = cc in absurd (omega arith)
 
-pub stands-within : (w s : List ℕ) (p : ℕ) → 0 < length w → stands w s p ≡ true → p + length w ≤ length s
+pub stands-within : (w s : List ℕ) (p : ℕ) → 0 < length w → stands-at w s p ≡ true → p + length w ≤ length s
 stands-within w s p h e = omega (arith, begins-few w (drop p s) e, length-drop p s)
 
 -- ---- the loop of `parse_token`: the name from i on decides

@@ -20,8 +20,8 @@ begins (x ∷ w) [] = false
 begins (x ∷ w) (b ∷ l) = eqb b x && begins w l
 
 -- whether the word w stands at the place p
-abbrev pub stands : List ℕ → List ℕ → ℕ → Bool
-stands w s p = begins w (drop p s)
+abbrev pub stands-at : List ℕ → List ℕ → ℕ → Bool
+stands-at w s p = begins w (drop p s)
 
 -- "one or more bytes outside space ( ) { } LF tab"
 unfoldable pub named : ℕ → Bool

@@ -2,13 +2,13 @@
 ghost use mathlib.Core.Path.{_≡_};
 ghost use Prim.Native.Nat.{_+_, _<_, _≤_};
 ghost use lib.ListN.{length};
-ghost use Rattle.tokens.specs.Tokens.{stands, name-end, to-semicolon, to-brace, extern-end, bare-extern-end, bare-end, bare-skip};
+ghost use Rattle.tokens.specs.Tokens.{stands-at, name-end, to-semicolon, to-brace, extern-end, bare-extern-end, bare-end, bare-skip};
 use crate::names::is_named;
 use linker_script::Found;
 use linker_script::byte_at;
-use linker_script::find;
 use numbers::UNCLOSED;
 use numbers::UNREADABLE;
+use searching::find;
 
 pub mod names;
 
@@ -20,7 +20,7 @@ pub enum TokenEnd {
 
 // Whether the word w stands at a place of s: what `try_take` asks before it takes.
 pub fn try_take(s: &[u8], w: &[u8], at: usize) -> bool
-    ensures { λ r. ⌜ r ≡ stands (now (w .entry)) (now (s .entry)) at ⌝ }
+    ensures { λ r. ⌜ r ≡ stands-at (now (w .entry)) (now (s .entry)) at ⌝ }
 {
     let mut i = 0;
     let mut j = at;
@@ -56,9 +56,9 @@ pub fn to_semicolon(s: &[u8], at: usize) -> TokenEnd
     ensures { λ r. ⌜ r ≡ to-semicolon (now (s .entry)) at ⌝ }
 {
     match find(s, b';', at) {
-        Found::Here(q) => {
-            if at < q {
-                return TokenEnd::To(q);
+        Found::Here(semicolon) => {
+            if at < semicolon {
+                return TokenEnd::To(semicolon);
             }
             TokenEnd::Refused(UNREADABLE)
         }

@@ -1,21 +1,32 @@
 // The release desk: edits of a trial book and questions to it. Standard input (65,536 bytes at most): a version script, or with the argument `export` an export
 // list, a line `%%`, then one command a line. What is printed for a command is rendered by `desk::run_line`; a text that is refused prints `refused` and the number
-// alone. Standard error says what `! N` means, and of a text that is refused where and why.
+// alone. Standard error says what `! N` means, and of a text that is refused where and why. The commands are run in their order, each on what the one before it
+// left, and none of them lacks room for what it prints: rounds has the definitions and the theorem.
+ghost use mathlib.Core.Path.{_≡_};
+ghost use mathlib.Core.List.{[]};
+ghost use mathlib.Core.Bool.{cond};
+ghost use Prim.Native.Nat.{_≤_};
+ghost use lib.ListN.{length};
+ghost use Rattle.input.specs.Splitting.{input-limit, lines-in};
+ghost use Rattle.reading.specs.Places.{at-list, at-script};
+ghost use Rattle.book.specs.Layout.{five};
+ghost use Rattle.rounds.specs.Rounds.{Desk-rooms, Reached, desk-left, line-lent, lines-lent};
 use book::Counts;
-use commands::Numeral;
-use commands::line_end;
-use commands::number_at;
 use desk::run_line;
 use input::positions::position_of;
 use input::splitting::find_mark;
 use libc::STDERR_FILENO;
 use libc::STDIN_FILENO;
 use libc::STDOUT_FILENO;
+use line_parts::Numeral;
+use line_parts::line_end;
+use line_parts::number_at;
 use linker_script::Found;
 use linker_script::byte_at;
 use numbers::TOO_LONG;
-use opening::Opened;
 use packing::same_bytes;
+use reading::scripts::AT_LIST;
+use reading::scripts::AT_SCRIPT;
 use rendering::render_refused;
 
 // The longest input.
@@ -67,7 +78,7 @@ fn say_known() {
     say(b"ask NAME[@VERSION], counts, lines and dump\n");
 }
 
-// A command's line: what it prints, and the counts behind it.
+// A command's line, which has room for what it prints; the counts behind it.
 fn run_command(
     c: Counts,
     nodes: &[u32],
@@ -77,14 +88,14 @@ fn run_command(
     journal: &mut [u32],
     line: &[u8],
     out: &mut [u8; 1048576],
-) -> Counts {
+) -> Counts
+    requires { ⌜ Reached (record { counts = c; buffers = five (now nodes) (now names) (now lines) (now pool) (now journal) }) × (length (now line) ≤ input-limit) ⌝ }
+    ensures { λ r. ⌜ record { counts = r; buffers = five (now (nodes .entry)) (now (names .entry)) (now (lines .exit)) (now (pool .exit)) (now (journal .exit)) }
+        ≡ line-lent (record { counts = c; buffers = five (now (nodes .entry)) (now (names .entry)) (now (lines .entry)) (now (pool .entry)) (now (journal .entry)) }) (now (line .entry)) ⌝ }
+{
     let ran = run_line(c, nodes, names, lines, pool, journal, line, out);
     let printed = front(out, ran.length);
     io::write_all(STDOUT_FILENO, printed);
-    if ran.refusal != 0 {
-        say(b"trial_desk: ");
-        meanings::say_meaning(ran.refusal);
-    }
     if !ran.known {
         say_known();
     }
@@ -102,7 +113,11 @@ fn run_commands(
     journal: &mut [u32],
     commands: &[u8],
     out: &mut [u8; 1048576],
-) {
+) -> Counts
+    requires { ⌜ Reached (record { counts = opened; buffers = five (now nodes) (now names) (now lines) (now pool) (now journal) }) × (length (now commands) ≤ input-limit) ⌝ }
+    ensures { λ r. ⌜ record { counts = r; buffers = five (now (nodes .entry)) (now (names .entry)) (now (lines .exit)) (now (pool .exit)) (now (journal .exit)) }
+        ≡ lines-lent (record { counts = opened; buffers = five (now (nodes .entry)) (now (names .entry)) (now (lines .entry)) (now (pool .entry)) (now (journal .entry)) }) (lines-in [] (now (commands .entry))) ⌝ }
+{
     let mut c = opened;
     let mut at = 0;
     while at < commands.len() {
@@ -119,21 +134,17 @@ fn run_commands(
         );
         at = end + 1;
     }
+    c
 }
 
-fn open(
-    export: bool,
-    text: &[u8],
-    nodes: &mut [u32],
-    names: &mut [u8],
-    lines: &mut [u32],
-    pool: &mut [u8],
-    journal: &mut [u32],
-) -> Opened {
+// Where a text begins in the grammar: as an export list, or as a version script.
+fn place_of(export: bool) -> u32
+    ensures { λ r. ⌜ r ≡ cond export at-list at-script ⌝ }
+{
     if export {
-        return export_list::open(text, nodes, names, lines, pool, journal);
+        return AT_LIST;
     }
-    version_script::open(text, nodes, names, lines, pool, journal)
+    AT_SCRIPT
 }
 
 fn work(
@@ -146,8 +157,13 @@ fn work(
     pool: &mut [u8],
     journal: &mut [u32],
     out: &mut [u8; 1048576],
-) {
-    let opened = open(export, text, nodes, names, lines, pool, journal);
+)
+    requires { ⌜ Desk-rooms (five (now nodes) (now names) (now lines) (now pool) (now journal)) × (length (now commands) ≤ input-limit) ⌝ }
+    ensures { λ _. ⌜ five (now (nodes .exit)) (now (names .exit)) (now (lines .exit)) (now (pool .exit)) (now (journal .exit))
+        ≡ desk-left (cond export at-list at-script) (five (now (nodes .entry)) (now (names .entry)) (now (lines .entry)) (now (pool .entry)) (now (journal .entry))) (now (text .entry)) (now (commands .entry)) ⌝ }
+{
+    let place = place_of(export);
+    let opened = opening::open(place, text, nodes, names, lines, pool, journal);
     if opened.refusal != 0 {
         return refuse(text, opened.refusal, opened.place, out);
     }
@@ -164,7 +180,9 @@ fn work(
 }
 
 // "Room: 1,024 nodes, 4,096 lines, 65,536 bytes each of names and pool, 1,024 edits". `out` has the room that `run_line` asks for with these and the longest line.
-fn sit(export: bool, text: &[u8], commands: &[u8], out: &mut [u8; 1048576]) {
+fn sit(export: bool, text: &[u8], commands: &[u8], out: &mut [u8; 1048576])
+    requires { ⌜ length (now commands) ≤ input-limit ⌝ }
+{
     let mut nodes = [0u32; 3072];
     let mut names = [0u8; 65536];
     let mut lines = [0u32; 16384];

@@ -1,5 +1,5 @@
--- The latest edit taken back: that a journal that fits lets it be taken back, the layout behind it, and the exits of `undo_latest`. The Bool that is named x
--- is whether the buffers hold a book, and the code asked whether they do not. Assumes nothing.
+-- The latest edit taken back: that a journal that fits lets it be taken back, the layout behind it, what `take_back_latest` asks of a book, and the exits of
+-- `undo_latest`. The Bool that is named x is whether the buffers hold a book, and the code asked whether they do not. Assumes nothing.
 use Prim.Native.Nat.{ℕ, suc, _+_, _-_, _*_, _≤_, _<_}
 use mathlib.Core.Path.{_≡_, refl, sym, ap, _∙_}
 use mathlib.Core.List.{List, [], _∷_, _++_}
@@ -27,9 +27,10 @@ use Rattle.book.proofs.Views.{Layout, no-bytes}
 use Rattle.changes.specs.declared.Edited.the-variants as answer
 use Rattle.changes.specs.Changes.{to}
 use Rattle.changes.specs.Trial.{latest, undo-asked, without-latest}
+use Rattle.taking_back.specs.Latest.{Undoable, counts-back, journal-back, line-told, lines-back, pool-back, start-of, what-told}
 use Rattle.changes.proofs.Answers.{Answers, Shown, layout-answers, refusal-answers, shown}
 use Rattle.changes.proofs.Marking.{marked-ok}
-use Rattle.undoing.proofs.Marks.{line-code, line-ranged, line-right, line-room, line-within}
+use Rattle.changes.proofs.Marks.{line-code, line-ranged, line-right, line-room, line-within}
 
 -- ---- lists of edits
 -- where the latest edit can't be taken back, no journal that ends with it can
@@ -221,18 +222,18 @@ module _ (c : Counts) (n m l p j : List ℕ) (x : Bool) (e : x ≡ holds c (five
         refusal-answers (five n m l p j) _ nothing-to-undo (rw (here .viewed, eq-eqb _ _ q))
 
     module _ (z : c .edits ≡ 0 → ⊥) where
-      pub undo-row : 2 * (c .edits - 1) + 2 ≤ length j
+      undo-row : 2 * (c .edits - 1) + 2 ≤ length j
       undo-row = row-there c (five n m l p j) _ (here .layout) (here .fitting) z
 
       module _ (i : ℕ) (k : i ≡ getD j (2 * (c .edits - 1) + 1) 0) where
         module _ (g : getD j (2 * (c .edits - 1)) 0 ≡ add) where
-          pub undo-add-room : (4 * i + 4 ≤ length l) × (getD l (4 * i + 2) 0 ≤ c .pool) × (c .pool ≤ length p)
+          undo-add-room : (4 * i + 4 ≤ length l) × (getD l (4 * i + 2) 0 ≤ c .pool) × (c .pool ≤ length p)
           undo-add-room = add-room c (five n m l p j) _ (here .layout) (here .fitting) z i k g
 
-          pub undo-add-some : 1 ≤ c .lines
+          undo-add-some : 1 ≤ c .lines
           undo-add-some = omega (arith, added-at c (five n m l p j) _ (here .layout) (here .fitting) z i k g)
 
-          pub undo-added : (s : ℕ) (l′ p′ j′ : List ℕ) → j′ ≡ paste j (2 * (c .edits - 1)) (0 ∷ 0 ∷ []) 2
+          undo-added : (s : ℕ) (l′ p′ j′ : List ℕ) → j′ ≡ paste j (2 * (c .edits - 1)) (0 ∷ 0 ∷ []) 2
               → (s ≡ getD l (4 * i + 2) 0) × (l′ ≡ paste l (4 * i) (zeros 4) 4) × (p′ ≡ paste p s (zeros (c .pool - s)) (c .pool - s))
               → Answers (answer.Done (record { kind = c .kind; nodes = c .nodes; names = c .names; lines = c .lines - 1; pool = s; edits = c .edits - 1 }))
               (five n m l p j) (five n m l′ p′ j′) (undo-asked (view c (five n m l p j)))
@@ -252,10 +253,10 @@ module _ (c : Counts) (n m l p j : List ℕ) (x : Bool) (e : x ≡ holds c (five
               })
 
         module _ (g : getD j (2 * (c .edits - 1)) 0 ≡ add → ⊥) where
-          pub undo-strike-room : (4 * i + 4 ≤ length l) × (32 ≤ getD l (4 * i + 1) 0)
+          undo-strike-room : (4 * i + 4 ≤ length l) × (32 ≤ getD l (4 * i + 1) 0)
           undo-strike-room = strike-room c (five n m l p j) _ (here .layout) (here .fitting) z i k g
 
-          pub undo-struck : (l′ j′ : List ℕ) → j′ ≡ paste j (2 * (c .edits - 1)) (0 ∷ 0 ∷ []) 2 → l′ ≡ set l (4 * i + 1) (getD l (4 * i + 1) 0 - 32)
+          undo-struck : (l′ j′ : List ℕ) → j′ ≡ paste j (2 * (c .edits - 1)) (0 ∷ 0 ∷ []) 2 → l′ ≡ set l (4 * i + 1) (getD l (4 * i + 1) 0 - 32)
               → Answers (answer.Done (record { kind = c .kind; nodes = c .nodes; names = c .names; lines = c .lines; pool = c .pool; edits = c .edits - 1 }))
               (five n m l p j) (five n m l′ p j′) (undo-asked (view c (five n m l p j)))
           undo-struck l′ j′ ej el =
@@ -269,3 +270,26 @@ module _ (c : Counts) (n m l p j : List ℕ) (x : Bool) (e : x ≡ holds c (five
                 pool = refl;
                 journal = ap length ej ∙ length-paste j (2 * (c .edits - 1)) (0 ∷ 0 ∷ []) 2 undo-row (omega arith);
               })
+
+      -- what takes it back
+      pub undo-able : Undoable c l p j
+      undo-able = record {
+        some-edit = omega (arith, z);
+        row = undo-row;
+        of-add = λ g. let r = undo-add-room (line-told c j) refl g in (r .0, r .1, r .2, undo-add-some (line-told c j) refl g);
+        of-strike = λ g. undo-strike-room (line-told c j) refl g;
+      }
+
+      -- and what that comes to
+      module _ (r : Counts) (l′ p′ j′ : List ℕ) (a : (r ≡ counts-back c l j) × (l′ ≡ lines-back c l j) × (p′ ≡ pool-back c l p j) × (j′ ≡ journal-back c j)) where
+        undo-by : (t : Bool) → eqb (what-told c j) add ≡ t → Answers (answer.Done r) (five n m l p j) (five n m l′ p′ j′) (undo-asked (view c (five n m l p j)))
+        unfolding counts-back lines-back pool-back journal-back
+        undo-by true k =
+            let q = undo-added (line-told c j) refl (eqb-true _ _ k) (start-of l (line-told c j)) l′ p′ j′ (a .3) (refl, a .1 ∙ rw k refl, a .2 ∙ rw k refl) in
+            (ap answer.Done (a .0 ∙ rw k refl) ∙ q .0, q .1)
+        undo-by false k =
+            let q = undo-struck (line-told c j) refl (eqb-false _ _ k) l′ j′ (a .3) (a .1 ∙ rw k refl) in
+            (ap answer.Done (a .0 ∙ rw k refl) ∙ q .0, ap (λ (b : List ℕ). five n m l′ b j′) (a .2 ∙ rw k refl) ∙ q .1)
+
+        pub undo-done : Answers (answer.Done r) (five n m l p j) (five n m l′ p′ j′) (undo-asked (view c (five n m l p j)))
+        undo-done = undo-by (eqb (what-told c j) add) refl

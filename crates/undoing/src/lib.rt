@@ -1,50 +1,16 @@
 // "undo takes back the latest edit not yet undone": a core that takes the counts by value, and `undo`, to which they are lent. A refusal changes nothing.
-// Definitions: changes/specs/Trial.antt, from document 01, 'The book'. Both ask first whether the buffers hold a book (14).
+// Definitions: changes/specs/Trial.antt, from document 01, 'The book'. Both ask first whether the buffers hold a book (14); what they do then is the crate `taking_back`.
 ghost use mathlib.Core.Path.{_≡_};
-ghost use Prim.Native.Nat.{_+_, _-_, _*_, _≤_};
-ghost use lib.ListN.{length, getD, set};
-ghost use lib.Seq.{paste};
-ghost use Rattle.packing.specs.Padding.{zeros};
 ghost use Rattle.book.specs.Layout.{five};
 ghost use Rattle.book.specs.View.{view};
 ghost use Rattle.changes.specs.Changes.{after, counts-after, edit-refusal, edited};
 ghost use Rattle.changes.specs.Trial.{undo-asked};
 use book::Counts;
-use book::EDIT_WIDTH;
-use book::LINE_WIDTH;
-use book::STRUCK;
 use book_check::is_book;
-use changes::ADD;
 use changes::Edited;
 use numbers::NO_BOOK;
 use numbers::NOTHING_TO_UNDO;
-use packing::clear_bytes;
-use packing::clear_numbers;
-use packing::put_two;
-
-// An add taken back: its row and its bytes are zero again. Where its bytes started is answered.
-fn undo_add(lines: &mut [u32], pool: &mut [u8], line: usize, end: usize) -> u32
-    requires { ⌜ (4 * line + 4 ≤ length (now lines)) × (getD (now lines) (4 * line + 2) 0 ≤ end) × (end ≤ length (now pool)) ⌝ }
-    ensures { λ r. ⌜ (r ≡ getD (now (lines .entry)) (4 * line + 2) 0)
-        × (now (lines .exit) ≡ paste (now (lines .entry)) (4 * line) (zeros 4) 4)
-        × (now (pool .exit) ≡ paste (now (pool .entry)) r (zeros (end - r)) (end - r)) ⌝ }
-{
-    let at = LINE_WIDTH * line;
-    let start = lines[at + 2];
-    let from = start as usize;
-    clear_bytes(&mut pool[from..end]);
-    clear_numbers(&mut lines[at..at + LINE_WIDTH]);
-    start
-}
-
-// A strike taken back: the line stands again.
-fn undo_strike(lines: &mut [u32], line: usize)
-    requires { ⌜ (4 * line + 4 ≤ length (now lines)) × (32 ≤ getD (now lines) (4 * line + 1) 0) ⌝ }
-    ensures { λ _. ⌜ now (lines .exit) ≡ set (now (lines .entry)) (4 * line + 1) (getD (now (lines .entry)) (4 * line + 1) 0 - 32) ⌝ }
-{
-    let at = LINE_WIDTH * line + 1;
-    lines[at] = lines[at] - STRUCK;
-}
+use taking_back::take_back_latest;
 
 // The latest edit taken back, of a book whose counts are passed by value.
 pub fn undo_latest(
@@ -65,30 +31,7 @@ pub fn undo_latest(
     if c.edits == 0 {
         return Edited::Refused(NOTHING_TO_UNDO);
     }
-    let at = EDIT_WIDTH * ((c.edits - 1) as usize);
-    let what = journal[at];
-    let line = journal[at + 1] as usize;
-    put_two(journal, at, 0, 0);
-    if what == ADD {
-        let start = undo_add(lines, pool, line, c.pool as usize);
-        return Edited::Done(Counts {
-            kind: c.kind,
-            nodes: c.nodes,
-            names: c.names,
-            lines: c.lines - 1,
-            pool: start,
-            edits: c.edits - 1,
-        });
-    }
-    undo_strike(lines, line);
-    Edited::Done(Counts {
-        kind: c.kind,
-        nodes: c.nodes,
-        names: c.names,
-        lines: c.lines,
-        pool: c.pool,
-        edits: c.edits - 1,
-    })
+    Edited::Done(take_back_latest(c, lines, pool, journal))
 }
 
 // What undo makes of the counts, and the number that it answers.

@@ -1,4 +1,5 @@
--- What checks a book, opens a text into one and asks it leaves one answer and one end state: book, node_check, line_check, journal_check, book_check, building, opening, ranking, lookups, version_script, export_list. Assumes nothing.
+-- What checks a book, opens a text into one and asks it leaves one answer and one end state: book, node_check, line_check, journal_check, book_check, building,
+-- opening, ranking, deciding, lookups, version_lookup, locality_lookup, version_script, counting, export_list. Assumes nothing.
 use mathlib.Core.Path.{refl}
 use Rattle.uniqueness.specs.Unique.{Unique}
 use Rattle.uniqueness.proofs.Same.{_▹_, same}
@@ -15,17 +16,18 @@ use Rattle.building.proofs.take_extern
 use Rattle.building.proofs.take_closed
 use Rattle.opening.proofs.open as opening-open
 use Rattle.ranking.proofs.rank_of
-use Rattle.ranking.proofs.find_match
+use Rattle.deciding.proofs.find_match
 use Rattle.ranking.proofs.names.name_refusal
-use Rattle.lookups.proofs.version_in_book
-use Rattle.lookups.proofs.version_for_symbol
-use Rattle.lookups.proofs.locality_in_book
-use Rattle.lookups.proofs.locality
+use Rattle.version_lookup.proofs.version_in_book
+use Rattle.version_lookup.proofs.version_for_symbol
+use Rattle.locality_lookup.proofs.locality_in_book
+use Rattle.locality_lookup.proofs.locality
 use Rattle.lookups.proofs.index.VersionIndex.from_node
+use Rattle.lookups.proofs.wanted.wanted_version
 use Rattle.version_script.proofs.open as version-script-open
-use Rattle.version_script.proofs.counts.version_count
-use Rattle.version_script.proofs.counts.parent_count
-use Rattle.version_script.proofs.counts.version_node
+use Rattle.counting.proofs.version_count
+use Rattle.counting.proofs.parent_count
+use Rattle.counting.proofs.version_node
 use Rattle.export_list.proofs.open as export-list-open
 use Rattle.export_list.proofs.lookups.contains
 
@@ -78,27 +80,33 @@ opening-open-unique κs a x y v w p q =
 pub rank-of-unique : Unique rank_of.ended rank_of.Reads.Post
 rank-of-unique κs a x y v w p q = (same p q, refl)
 
-pub find-match-unique : Unique find_match.ended find_match.Reads.Post
-find-match-unique κs a x y v w p q = (same p q, refl)
-
 pub name-refusal-unique : Unique name_refusal.ended name_refusal.Reads.Post
 name-refusal-unique κs a x y v w p q = (same p q, refl)
 
+-- ---- deciding
+pub find-match-unique : Unique find_match.ended find_match.Reads.Post
+find-match-unique κs a x y v w p q = (same p q, refl)
+
 -- ---- lookups
+pub from-node-unique : Unique from_node.ended from_node.Reads.Post
+from-node-unique κs a x y v w p q = (same p q, refl)
+
+pub wanted-version-unique : Unique wanted_version.ended wanted_version.Reads.Post
+wanted-version-unique κs a x y v w p q = (same p q, refl)
+
+-- ---- version_lookup
 pub version-in-book-unique : Unique version_in_book.ended version_in_book.Reads.Post
 version-in-book-unique κs a x y v w p q = (same p q, refl)
 
 pub version-for-symbol-unique : Unique version_for_symbol.ended version_for_symbol.Reads.Post
 version-for-symbol-unique κs a x y v w p q = (same p q, refl)
 
+-- ---- locality_lookup
 pub locality-in-book-unique : Unique locality_in_book.ended locality_in_book.Reads.Post
 locality-in-book-unique κs a x y v w p q = (same p q, refl)
 
 pub locality-unique : Unique locality.ended locality.Reads.Post
 locality-unique κs a x y v w p q = (same p q, refl)
-
-pub from-node-unique : Unique from_node.ended from_node.Reads.Post
-from-node-unique κs a x y v w p q = (same p q, refl)
 
 -- ---- version_script
 pub version-script-open-unique : Unique version-script-open.ended version-script-open.Reads.Post
@@ -106,6 +114,7 @@ version-script-open-unique κs a x y v w p q =
     let b = same (p .1) (q .1) in
     (same (p .0) (q .0), λ i. tt ▹ b i .nodes ▹ b i .names ▹ b i .lines ▹ b i .pool ▹ b i .journal ▹ tt)
 
+-- ---- counting
 pub version-count-unique : Unique version_count.ended version_count.Reads.Post
 version-count-unique κs a x y v w p q = (same p q, refl)
 

@@ -1,4 +1,4 @@
--- What writes into lent buffers leaves one answer and one end state: packing, rooms, printing. Assumes nothing.
+-- What writes into lent buffers leaves one answer and one end state: packing, copying, rooms, printing. Assumes nothing.
 use Prim.Native.Nat.{ℕ, _+_, _≤_, _<_}
 use mathlib.Core.Path.{_≡_, refl}
 use mathlib.Core.List.{List}
@@ -16,11 +16,11 @@ use Rattle.packing.proofs.clear_numbers
 use Rattle.packing.proofs.zero_bytes
 use Rattle.packing.proofs.zero_numbers
 use Rattle.packing.proofs.same_bytes
-use Rattle.packing.proofs.put_bytes
-use Rattle.packing.proofs.move_down
-use Rattle.packing.proofs.put_two
-use Rattle.packing.proofs.put_three
-use Rattle.packing.proofs.put_four
+use Rattle.copying.proofs.put_bytes
+use Rattle.copying.proofs.move_down
+use Rattle.copying.proofs.put_two
+use Rattle.copying.proofs.put_three
+use Rattle.copying.proofs.put_four
 use Rattle.rooms.proofs.has_row
 use Rattle.rooms.proofs.has_edit
 use Rattle.rooms.proofs.pool_end
@@ -49,6 +49,7 @@ zero-numbers-unique κs a x y v w p q = (same p q, refl)
 pub same-bytes-unique : Unique same_bytes.ended same_bytes.Reads.Post
 same-bytes-unique κs a x y v w p q = (same p q, refl)
 
+-- ---- copying
 pub put-bytes-unique : Unique put_bytes.ended put_bytes.Reads.Post
 put-bytes-unique κs a x y v w p q = (refl, λ i. same p q i ▹ tt ▹ tt ▹ tt)
 

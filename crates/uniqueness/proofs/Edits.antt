@@ -1,13 +1,18 @@
--- What changes a trial book leaves one answer and one end state: adding, settling, symbols, undoing, trial. Assumes nothing.
+-- What changes a trial book leaves one answer and one end state: adding, settling, clearing, symbol_events, symbol_lines, symbols, taking_back, undoing, trial_adds, trial_strikes, trial_settles. Assumes nothing.
+use mathlib.Core.Path.{refl}
 use Rattle.uniqueness.specs.Unique.{Unique}
 use Rattle.uniqueness.proofs.Same.{_▹_, same}
 use Rattle.adding.proofs.append
 use Rattle.settling.proofs.settle_lines
+use Rattle.symbol_events.proofs.add_event
+use Rattle.clearing.proofs.take_back
+use Rattle.symbol_lines.proofs.add_lines
 use Rattle.symbols.proofs.add_symbol
+use Rattle.taking_back.proofs.take_back_latest
 use Rattle.undoing.proofs.undo_latest
-use Rattle.trial.proofs.add
-use Rattle.trial.proofs.strike
-use Rattle.trial.proofs.settle
+use Rattle.trial_adds.proofs.add
+use Rattle.trial_strikes.proofs.strike
+use Rattle.trial_settles.proofs.settle
 
 -- ---- adding
 pub append-unique : Unique append.ended append.Reads.Post
@@ -21,11 +26,29 @@ settle-lines-unique κs a x y v w p q =
     let b = same (p .1) (q .1) in
     (same (p .0) (q .0), λ i. tt ▹ tt ▹ tt ▹ b i .lines ▹ b i .pool ▹ b i .journal ▹ tt)
 
--- ---- symbols
+-- ---- clearing, symbol_events, symbol_lines, symbols
+pub add-event-unique : Unique add_event.ended add_event.Reads.Post
+add-event-unique κs a x y v w p q =
+    let b = same (p .1) (q .1) in
+    (same (p .0) (q .0), λ i. tt ▹ tt ▹ tt ▹ b i .lines ▹ b i .pool ▹ b i .journal ▹ tt ▹ tt ▹ tt)
+
+pub take-back-unique : Unique take_back.ended take_back.Reads.Post
+take-back-unique κs a x y v w p q = (refl, λ i. tt ▹ tt ▹ same (p .0) (q .0) i ▹ same (p .1) (q .1) i ▹ same (p .2) (q .2) i ▹ tt)
+
+pub add-lines-unique : Unique add_lines.ended add_lines.Reads.Post
+add-lines-unique κs a x y v w p q =
+    let b = same (p .1) (q .1) in
+    (same (p .0) (q .0), λ i. tt ▹ tt ▹ tt ▹ b i .lines ▹ b i .pool ▹ b i .journal ▹ tt ▹ tt ▹ tt)
+
 pub add-symbol-unique : Unique add_symbol.ended add_symbol.Reads.Post
 add-symbol-unique κs a x y v w p q =
     let b = same (p .1) (q .1) in
     (same (p .0) (q .0), λ i. tt ▹ tt ▹ tt ▹ b i .lines ▹ b i .pool ▹ b i .journal ▹ tt ▹ tt ▹ tt)
+
+-- ---- taking_back
+pub take-back-latest-unique : Unique take_back_latest.ended take_back_latest.Reads.Post
+take-back-latest-unique κs a x y v w p q =
+    (same (p .0) (q .0), λ i. tt ▹ same (p .1) (q .1) i ▹ same (p .2) (q .2) i ▹ same (p .3) (q .3) i ▹ tt)
 
 -- ---- undoing
 pub undo-latest-unique : Unique undo_latest.ended undo_latest.Reads.Post
@@ -33,7 +56,7 @@ undo-latest-unique κs a x y v w p q =
     let b = same (p .1) (q .1) in
     (same (p .0) (q .0), λ i. tt ▹ tt ▹ tt ▹ b i .lines ▹ b i .pool ▹ b i .journal ▹ tt)
 
--- ---- trial
+-- ---- trial_adds, trial_strikes, trial_settles
 pub add-unique : Unique add.ended add.Reads.Post
 add-unique κs a x y v w p q =
     let b = same (p .1) (q .1) in

@@ -4,6 +4,7 @@ pub mod Matching
 pub mod Buffers
 pub mod Books
 pub mod Edits
+pub mod Lent
 pub mod Calls
 pub mod Lines
 pub mod Walked

@@ -1,24 +1,27 @@
--- What prints leaves one answer and one end state: rendering, listing, showing, answering, desk. Assumes nothing.
+-- What prints leaves one answer and one end state: rendering, listing, showing, answering, additions, corrections, asking, desk_edits, desk_questions, desk. Assumes nothing.
 use mathlib.Core.Path.{refl}
 use Rattle.answering.specs.Answers.{Runs}
 use Rattle.uniqueness.specs.Unique.{Unique}
 use Rattle.uniqueness.proofs.Same.{_▹_, same}
 use Rattle.rendering.proofs.render_refused
 use Rattle.rendering.proofs.render_counts
-use Rattle.rendering.proofs.put_symbol_line
-use Rattle.rendering.proofs.render_symbol
+use Rattle.rendering_symbols.proofs.put_symbol_line
+use Rattle.rendering_symbols.proofs.render_symbol
+use Rattle.listing_symbols.proofs.render_symbols
 use Rattle.listing.proofs.listed.render_listing
 use Rattle.showing.proofs.shown_room
 use Rattle.showing.proofs.show_counts
-use Rattle.showing.proofs.show_lines
-use Rattle.showing.proofs.show_dump
+use Rattle.showing_lines.proofs.show_lines
+use Rattle.dumping.proofs.show_dump
 use Rattle.answering.proofs.printed
-use Rattle.answering.proofs.run_add
-use Rattle.answering.proofs.run_strike
-use Rattle.answering.proofs.run_undo
-use Rattle.answering.proofs.run_settle
-use Rattle.answering.proofs.run_symbol
-use Rattle.answering.proofs.run_ask
+use Rattle.additions.proofs.run_add
+use Rattle.additions.proofs.run_symbol
+use Rattle.corrections.proofs.run_strike
+use Rattle.corrections.proofs.run_undo
+use Rattle.corrections.proofs.run_settle
+use Rattle.asking.proofs.run_ask
+use Rattle.desk_edits.proofs.run_edit
+use Rattle.desk_questions.proofs.run_question
 use Rattle.desk.proofs.run_line
 
 -- ---- rendering
@@ -35,6 +38,9 @@ pub render-symbol-unique : Unique render_symbol.ended render_symbol.Reads.Post
 render-symbol-unique κs a x y v w p q = (same (p .0) (q .0), λ i. tt ▹ tt ▹ tt ▹ tt ▹ tt ▹ tt ▹ tt ▹ same (p .1) (q .1) i ▹ tt)
 
 -- ---- listing
+pub render-symbols-unique : Unique render_symbols.ended render_symbols.Reads.Post
+render-symbols-unique κs a x y v w p q = (same (p .0) (q .0), λ i. tt ▹ tt ▹ tt ▹ tt ▹ tt ▹ tt ▹ tt ▹ tt ▹ same (p .1) (q .1) i ▹ tt)
+
 pub render-listing-unique : Unique render_listing.ended render_listing.Reads.Post
 render-listing-unique κs a x y v w p q =
     let b = same (p .2) (q .2) in
@@ -57,12 +63,20 @@ show-dump-unique κs a x y v w p q = (same (p .0) (q .0), λ i. tt ▹ tt ▹ tt
 pub printed-unique : Unique printed.ended printed.Reads.Post
 printed-unique κs a x y v w p q = (same p q, refl)
 
+-- ---- additions
 pub run-add-unique : Unique run_add.ended run_add.Reads.Post
 unfolding Runs
 run-add-unique κs a x y v w p q =
     let b = same (p .2) (q .2) in
     (same (p .0) (q .0), λ i. tt ▹ tt ▹ tt ▹ b i .lines ▹ b i .pool ▹ b i .journal ▹ tt ▹ tt ▹ tt ▹ tt ▹ same (p .1) (q .1) i ▹ tt)
 
+pub run-symbol-unique : Unique run_symbol.ended run_symbol.Reads.Post
+unfolding Runs
+run-symbol-unique κs a x y v w p q =
+    let b = same (p .2) (q .2) in
+    (same (p .0) (q .0), λ i. tt ▹ tt ▹ tt ▹ b i .lines ▹ b i .pool ▹ b i .journal ▹ tt ▹ tt ▹ same (p .1) (q .1) i ▹ tt)
+
+-- ---- corrections
 pub run-strike-unique : Unique run_strike.ended run_strike.Reads.Post
 unfolding Runs
 run-strike-unique κs a x y v w p q =
@@ -81,15 +95,22 @@ run-settle-unique κs a x y v w p q =
     let b = same (p .2) (q .2) in
     (same (p .0) (q .0), λ i. tt ▹ tt ▹ tt ▹ b i .lines ▹ b i .pool ▹ b i .journal ▹ same (p .1) (q .1) i ▹ tt)
 
-pub run-symbol-unique : Unique run_symbol.ended run_symbol.Reads.Post
-unfolding Runs
-run-symbol-unique κs a x y v w p q =
-    let b = same (p .2) (q .2) in
-    (same (p .0) (q .0), λ i. tt ▹ tt ▹ tt ▹ b i .lines ▹ b i .pool ▹ b i .journal ▹ tt ▹ tt ▹ same (p .1) (q .1) i ▹ tt)
-
+-- ---- asking
 pub run-ask-unique : Unique run_ask.ended run_ask.Reads.Post
 unfolding Runs
 run-ask-unique κs a x y v w p q = (same (p .0) (q .0), λ i. tt ▹ tt ▹ tt ▹ tt ▹ tt ▹ tt ▹ tt ▹ same (p .1) (q .1) i ▹ tt)
+
+-- ---- desk_edits
+pub run-edit-unique : Unique run_edit.ended run_edit.Reads.Post
+unfolding Runs
+run-edit-unique κs a x y v w p q =
+    let b = same (p .2) (q .2) in
+    (same (p .0) (q .0), λ i. tt ▹ tt ▹ tt ▹ b i .lines ▹ b i .pool ▹ b i .journal ▹ tt ▹ tt ▹ same (p .1) (q .1) i ▹ tt)
+
+-- ---- desk_questions
+pub run-question-unique : Unique run_question.ended run_question.Reads.Post
+unfolding Runs
+run-question-unique κs a x y v w p q = (same (p .0) (q .0), λ i. tt ▹ tt ▹ tt ▹ tt ▹ tt ▹ tt ▹ tt ▹ tt ▹ same (p .1) (q .1) i ▹ tt)
 
 -- ---- desk
 pub run-line-unique : Unique run_line.ended run_line.Reads.Post

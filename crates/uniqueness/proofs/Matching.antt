@@ -1,9 +1,12 @@
--- What stores a token and matches a name leaves one answer and one end state: pattern, classes, storing, glob_match. Assumes nothing.
+-- What stores a token and matches a name leaves one answer and one end state: pattern, matching, pattern_check, classes, storing, glob_match. Assumes nothing.
 use mathlib.Core.Path.{refl}
 use Rattle.uniqueness.specs.Unique.{Unique}
 use Rattle.uniqueness.proofs.Same.{_▹_, same}
-use Rattle.pattern.proofs.matching.match_name
-use Rattle.pattern.proofs.refusal.pattern_refusal
+use Rattle.pattern.proofs.bracket.mark_at
+use Rattle.pattern.proofs.bracket.between_length
+use Rattle.pattern.proofs.bracket.bracket_takes
+use Rattle.matching.proofs.match_name
+use Rattle.pattern_check.proofs.pattern_refusal
 use Rattle.classes.proofs.class_number
 use Rattle.classes.proofs.analyze_glob_pattern
 use Rattle.classes.proofs.is_quoted
@@ -18,9 +21,20 @@ use Rattle.glob_match.proofs.exports.glob_match_matches
 use Rattle.glob_match.proofs.exports.glob_match_tried
 
 -- ---- pattern
+pub mark-at-unique : Unique mark_at.ended mark_at.Reads.Post
+mark-at-unique κs a x y v w p q = (same p q, refl)
+
+pub between-length-unique : Unique between_length.ended between_length.Reads.Post
+between-length-unique κs a x y v w p q = (same p q, refl)
+
+pub bracket-takes-unique : Unique bracket_takes.ended bracket_takes.Reads.Post
+bracket-takes-unique κs a x y v w p q = (same p q, refl)
+
+-- ---- matching
 pub match-name-unique : Unique match_name.ended match_name.Reads.Post
 match-name-unique κs a x y v w p q = (same p q, refl)
 
+-- ---- pattern_check
 pub pattern-refusal-unique : Unique pattern_refusal.ended pattern_refusal.Reads.Post
 pattern-refusal-unique κs a x y v w p q = (same p q, refl)
 

@@ -1,4 +1,5 @@
--- What reads a text leaves one answer and one end state: linker_script, utf8, tokens, cursors, matchers, reading, reading_rows, input, commands. Assumes nothing.
+-- What reads a text leaves one answer and one end state: linker_script, searching, comments, utf8, tokens, cursors, matchers, reading, reading_rows, input,
+-- commands. Assumes nothing.
 use Prim.Native.Nat.{ℕ, _≤_}
 use mathlib.Core.Path.{_≡_, refl, sym, ap, _∙_}
 use mathlib.Core.List.{List}
@@ -9,12 +10,12 @@ use Rattle.linker_script.specs.Trim.{trim-end}
 use Rattle.uniqueness.specs.Unique.{Unique, Unique-as}
 use Rattle.uniqueness.proofs.Same.{_▹_, same}
 use Rattle.linker_script.proofs.byte_at
-use Rattle.linker_script.proofs.find
-use Rattle.linker_script.proofs.find_pair
 use Rattle.linker_script.proofs.last_close
-use Rattle.linker_script.proofs.skip_comments_and_whitespace
 use Rattle.linker_script.proofs.trimmed_length
 use Rattle.linker_script.proofs.trim_ascii_end
+use Rattle.searching.proofs.find
+use Rattle.comments.proofs.find_pair
+use Rattle.comments.proofs.skip_comments_and_whitespace
 use Rattle.utf8.proofs.character_at
 use Rattle.utf8.proofs.is_utf8
 use Rattle.tokens.proofs.try_take
@@ -38,26 +39,17 @@ use Rattle.reading_rows.proofs.reading_events
 use Rattle.input.proofs.positions.position_of
 use Rattle.input.proofs.splitting.find_mark
 use Rattle.input.proofs.splitting.find_at
-use Rattle.commands.proofs.number_at
+use Rattle.line_parts.proofs.number_at
+use Rattle.line_parts.proofs.tail
+use Rattle.line_parts.proofs.line_end
 use Rattle.commands.proofs.command_of
-use Rattle.commands.proofs.tail
-use Rattle.commands.proofs.line_end
 
 -- ---- linker_script
 pub byte-at-unique : Unique byte_at.ended byte_at.Reads.Post
 byte-at-unique κs a x y v w p q = (same p q, refl)
 
-pub find-unique : Unique find.ended find.Reads.Post
-find-unique κs a x y v w p q = (same p q, refl)
-
-pub find-pair-unique : Unique find_pair.ended find_pair.Reads.Post
-find-pair-unique κs a x y v w p q = (same p q, refl)
-
 pub last-close-unique : Unique last_close.ended last_close.Reads.Post
 last-close-unique κs a x y v w p q = (same p q, refl)
-
-pub skip-comments-and-whitespace-unique : Unique skip_comments_and_whitespace.ended skip_comments_and_whitespace.Reads.Post
-skip-comments-and-whitespace-unique κs a x y v w p q = (same p q, refl)
 
 -- its promise is of the part of the text that it leaves, which is as long as it says
 trimmed-long : (s : List ℕ) (r : ℕ) → (r ≤ length s) × (take r s ≡ trim-end s) → r ≡ length (trim-end s)
@@ -69,6 +61,17 @@ trimmed-length-unique κs a x y v w p q = (same (trimmed-long (now (a .0)) x p) 
 -- where the slice lies, and what it holds
 pub trim-ascii-end-unique : Unique-as trim_ascii_end.ended (λ κs. (ℕ × ℕ) × List ℕ) (λ κs r. (r .ptr, now r)) trim_ascii_end.Reads.Post
 trim-ascii-end-unique κs a x y v w p q = (λ i. (same (p .1) (q .1) i, same (p .0) (q .0) i), refl)
+
+-- ---- searching
+pub find-unique : Unique find.ended find.Reads.Post
+find-unique κs a x y v w p q = (same p q, refl)
+
+-- ---- comments
+pub find-pair-unique : Unique find_pair.ended find_pair.Reads.Post
+find-pair-unique κs a x y v w p q = (same p q, refl)
+
+pub skip-comments-and-whitespace-unique : Unique skip_comments_and_whitespace.ended skip_comments_and_whitespace.Reads.Post
+skip-comments-and-whitespace-unique κs a x y v w p q = (same p q, refl)
 
 -- ---- utf8
 pub character-at-unique : Unique character_at.ended character_at.Reads.Post
@@ -146,12 +149,9 @@ find-mark-unique κs a x y v w p q = (same p q, refl)
 pub find-at-unique : Unique find_at.ended find_at.Reads.Post
 find-at-unique κs a x y v w p q = (same p q, refl)
 
--- ---- commands
+-- ---- line_parts
 pub number-at-unique : Unique number_at.ended number_at.Reads.Post
 number-at-unique κs a x y v w p q = (same p q, refl)
-
-pub command-of-unique : Unique command_of.ended command_of.Reads.Post
-command-of-unique κs a x y v w p q = (same p q, refl)
 
 -- what the slice holds; where it lies is not promised
 pub tail-unique : Unique-as tail.ended (λ κs. List ℕ) (λ κs r. now r) tail.Reads.Post
@@ -159,3 +159,7 @@ tail-unique κs a x y v w p q = (same p q, refl)
 
 pub line-end-unique : Unique line_end.ended line_end.Reads.Post
 line-end-unique κs a x y v w p q = (same p q, refl)
+
+-- ---- commands
+pub command-of-unique : Unique command_of.ended command_of.Reads.Post
+command-of-unique κs a x y v w p q = (same p q, refl)

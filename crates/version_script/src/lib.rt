@@ -1,25 +1,11 @@
-// version_script.rs, the book's side: a version script opened into lent buffers, its counts and its nodes. Definitions: specs/Questions.antt, from document 01,
-// 'Ranking'; the opening's are those of the crate `opening`. Every question asks first whether the buffers hold a book (14).
+// version_script.rs, the book's side: a version script opened into lent buffers. Definitions: those of the crate `opening`. Its counts and its nodes are asked in
+// counting.
 ghost use mathlib.Core.Path.{_≡_};
 ghost use Rattle.reading.specs.Places.{at-script};
 ghost use Rattle.book.specs.Layout.{five};
 ghost use Rattle.opening.specs.Opening.{left, opening, told};
 use opening::Opened;
 use reading::scripts::AT_SCRIPT;
-
-pub mod counts;
-
-// A count, or the number that says no.
-pub enum Count {
-    Counted(u32),
-    Refused(u32),
-}
-
-// A node: where its name starts among the names, how long it is, and its parent's number or 0; or the number that says no.
-pub enum NodeAnswer {
-    Node { start: u32, len: u32, parent: u32 },
-    Refused(u32),
-}
 
 // A version script, opened into lent buffers.
 pub fn open(

@@ -41,54 +41,43 @@ same-length c = search needs
 
 returns-2 : tie.Need-returns-2
 returns-2 c =
-    let at-put-refused-line = c .before .before in
-    let at-no = at-put-refused-line .before .before .before in
-    let at-version-count = at-no .before .before in
-    let at-if1 = at-version-count .before in
-    let at-args = at-if1 .before .before .before .before .before .before .before in
-    let p = at-put-refused-line .put-refused-line in
-    let a = at-args .args in
-    first-refused (a .out .now) (p .last .0) (p .result) (at-if1 .if1 .left)
-    (view (a .c) (five (a .nodes .now) (a .names .now) (a .lines .now) (a .pool .now) (a .journal .now)))
-    _ (at-version-count .version-count .ensures) _ (at-no .no .given .1) (p .ensures)
+    let p = c .before .before in
+    let n = p .before .before .before in
+    let v = n .before .before in
+    let i = v .before in
+    let a = i .before .before .before .before .before .before .before .args in
+    first-refused (a .out .now) (i .if1 .left) (view (a .c) (five (a .nodes .now) (a .names .now) (a .lines .now) (a .pool .now) (a .journal .now))) (v .version-count .ensures) (n .no .given .1)
+    (p .put-refused-line .ensures)
 
 same-length-2 : tie.Need-same-length-2
 same-length-2 c = search needs
 
 returns-3 : tie.Need-returns-3
 returns-3 c =
-    let at-put-refused-line2 = c .before .before in
-    let at-no2 = at-put-refused-line2 .before .before .before in
-    let at-parent-count = at-no2 .before .before in
-    let at-n = at-parent-count .before .before in
-    let at-version-count = at-n .before .before in
-    let at-if1 = at-version-count .before in
-    let at-args = at-if1 .before .before .before .before .before .before .before in
-    let p = at-put-refused-line2 .put-refused-line2 in
-    let a = at-args .args in
-    second-refused (a .out .now) (p .last .0) (p .result) (at-if1 .if1 .left)
-    (view (a .c) (five (a .nodes .now) (a .names .now) (a .lines .now) (a .pool .now) (a .journal .now)))
-    _ (at-version-count .version-count .ensures) _ (at-n .n .given .1) _ (at-parent-count .parent-count .ensures) _
-    (at-no2 .no2 .given .1) (p .ensures)
+    let p = c .before .before in
+    let m = p .before .before .before in
+    let w = m .before .before in
+    let n = w .before .before in
+    let v = n .before .before in
+    let i = v .before in
+    let a = i .before .before .before .before .before .before .before .args in
+    second-refused (a .out .now) (i .if1 .left) (view (a .c) (five (a .nodes .now) (a .names .now) (a .lines .now) (a .pool .now) (a .journal .now))) (v .version-count .ensures) (n .n .given .1)
+    (w .parent-count .ensures) (m .no2 .given .1) (p .put-refused-line2 .ensures)
 
 same-length-3 : tie.Need-same-length-3
 same-length-3 c = search needs
 
 returns-4 : tie.Need-returns-4
 returns-4 c =
-    let at-put-counts-line = c .before .before in
-    let at-p = at-put-counts-line .before .before .before in
-    let at-parent-count = at-p .before .before in
-    let at-n = at-parent-count .before .before in
-    let at-version-count = at-n .before .before in
-    let at-if1 = at-version-count .before in
-    let at-args = at-if1 .before .before .before .before .before .before .before in
-    let p = at-put-counts-line .put-counts-line in
-    let a = at-args .args in
-    both-counted (a .out .now) (p .last .0) (p .result) (at-if1 .if1 .left)
-    (view (a .c) (five (a .nodes .now) (a .names .now) (a .lines .now) (a .pool .now) (a .journal .now)))
-    _ (at-version-count .version-count .ensures) _ (at-n .n .given .1) _ (at-parent-count .parent-count .ensures) _
-    (at-p .p .given .1) (p .ensures)
+    let p = c .before .before in
+    let m = p .before .before .before in
+    let w = m .before .before in
+    let n = w .before .before in
+    let v = n .before .before in
+    let i = v .before in
+    let a = i .before .before .before .before .before .before .before .args in
+    both-counted (a .out .now) (i .if1 .left) (view (a .c) (five (a .nodes .now) (a .names .now) (a .lines .now) (a .pool .now) (a .journal .now))) (v .version-count .ensures) (n .n .given .1)
+    (w .parent-count .ensures) (m .p .given .1) (p .put-counts-line .ensures)
 
 pub render-counts-spec : {M : Type 1} → statement M
 render-counts-spec =

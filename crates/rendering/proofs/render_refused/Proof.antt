@@ -15,11 +15,10 @@ same-length c = search needs
 
 returns-2 : tie.Need-returns-2
 returns-2 c =
-    let at-put-refused-line = c .before .before in
-    let at-if1 = at-put-refused-line .before .before in
-    let at-args = at-if1 .before .before in
-    refused-rendered (at-args .args .out .now) (at-put-refused-line .put-refused-line .last .0) (at-put-refused-line .put-refused-line .result)
-    (at-if1 .if1 .left) (at-args .args .no) (at-put-refused-line .put-refused-line .ensures)
+    let p = c .before .before in
+    let s = p .before .before in
+    let a = s .before .before .args in
+    refused-rendered (a .out .now) (s .if1 .left) (a .no) (p .put-refused-line .ensures)
 
 pub render-refused-spec : {M : Type 1} → statement M
 render-refused-spec = tie.close (tie.spec returns put-refused-line-requires same-length returns-2)

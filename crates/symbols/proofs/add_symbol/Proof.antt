@@ -1,6 +1,6 @@
--- `add_symbol` meets its contract, by the laws of AddedTexts. Assumes nothing.
+-- `add_symbol` meets its contract, by the laws of AskedSymbol. Assumes nothing.
 use borrow.Author.Needs.{needs}
-use Rattle.symbols.proofs.AddedTexts.{lines-asks, symbol-added, symbol-kind, symbol-long, symbol-no-book}
+use Rattle.symbols.proofs.AskedSymbol.{lines-asks, symbol-added, symbol-kind, symbol-long, symbol-no-book}
 use Rattle.symbols.proofs.add_symbol.Statement.{statement}
 use Rattle.symbols.proofs.add_symbol.Tie as tie
 

@@ -7,8 +7,8 @@ use Rattle.tokens.proofs.to_semicolon.Tie as tie
 find-requires : tie.Need-find-requires
 find-requires c κs = search needs
 
-enum-known-q : tie.Need-enum-known-q
-enum-known-q c = search needs
+enum-known-semicolon : tie.Need-enum-known-semicolon
+enum-known-semicolon c = search needs
 
 returns : tie.Need-returns
 returns c = search semicolon-behind
@@ -24,4 +24,4 @@ returns-3 c = search semicolon-missing
 
 pub to-semicolon-spec : {M : Type 1} → statement M
 to-semicolon-spec =
-    tie.close (tie.spec find-requires enum-known-q returns enum-told returns-2 returns-3)
+    tie.close (tie.spec find-requires enum-known-semicolon returns enum-told returns-2 returns-3)

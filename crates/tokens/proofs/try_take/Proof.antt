@@ -3,13 +3,13 @@ use Prim.Native.Nat.{_-_}
 use mathlib.Core.Path.{_≡_, refl}
 use borrow.Author.Needs.{needs}
 use lib.ListN.{length, drop}
-use Rattle.tokens.specs.Tokens.{begins, stands}
+use Rattle.tokens.specs.Tokens.{begins, stands-at}
 use Rattle.tokens.proofs.Words.{word-ends, text-ends, byte-differs, byte-same}
 use Rattle.tokens.proofs.try_take.Statement.{statement}
 use Rattle.tokens.proofs.try_take.Tie as tie
 
 abbrev Inv-loop : tie.InvT-loop
-Inv-loop s w at i₀ j₀ i j = stands w s at ≡ begins (drop i w) (drop j s)
+Inv-loop s w at i₀ j₀ i j = stands-at w s at ≡ begins (drop i w) (drop j s)
 
 abbrev μ-loop : tie.MeasureT-loop
 μ-loop s w at i₀ j₀ i j = length w - i

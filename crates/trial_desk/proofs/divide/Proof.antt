@@ -1,5 +1,7 @@
--- `divide` is safe and ends: the text before the mark lies within the input. Assumes nothing.
+-- `divide` is safe and ends: the text before the mark lies within the input, and so do the commands, which are no longer than it. Assumes nothing.
 use borrow.Author.Needs.{needs}
+use native.Mathlib.Omega.{arith}
+use lib.ListN.{length-drop, length-take}
 use Rattle.trial_desk.proofs.Parts.{text-count, text-within}
 use Rattle.trial_desk.proofs.divide.Statement.{statement}
 use Rattle.trial_desk.proofs.divide.Tie as tie
@@ -20,7 +22,10 @@ slice-aggregate-sit : tie.Need-slice-aggregate-sit
 slice-aggregate-sit c = search needs
 
 sit-requires : tie.Need-sit-requires
-sit-requires c κs = search needs
+sit-requires c κs =
+    let at-if1 = c .before .before .before .before .before in
+    let few = at-if1 .if1 .left in
+    simp length-take (omega (arith, few))
 
 enum-known-p : tie.Need-enum-known-p
 enum-known-p c = search needs
@@ -44,7 +49,10 @@ slice-aggregate-sit-3 : tie.Need-slice-aggregate-sit-3
 slice-aggregate-sit-3 c = search needs
 
 sit-requires-2 : tie.Need-sit-requires-2
-sit-requires-2 c κs = search needs
+sit-requires-2 c κs =
+    let at-if1 = c .before .before .before .before .before .before .before .before in
+    let few = at-if1 .if1 .left in
+    simp length-take (omega (arith, few))
 
 returns-2 : tie.Need-returns-2
 returns-2 c = search needs
@@ -66,7 +74,10 @@ part-sit-end : tie.Need-part-sit-end
 part-sit-end c = search needs
 
 sit-requires-3 : tie.Need-sit-requires-3
-sit-requires-3 c κs = search needs
+sit-requires-3 c κs =
+    let at-if1 = c .before .before .before .before .before .before .before .before in
+    let few = at-if1 .if1 .left in
+    simp (length-take, length-drop) (omega (arith, few))
 
 returns-3 : tie.Need-returns-3
 returns-3 c = search needs

@@ -1,9 +1,11 @@
--- `run_commands` is safe and ends: each turn goes behind a line. Assumes nothing.
+-- `run_commands` meets its contract: each turn runs a line and goes behind it, and what is left to run leads where all of the commands lead. Assumes nothing.
 use Prim.Native.Nat.{_-_}
-use mathlib.Core.Path.{_≡_}
+use mathlib.Core.Path.{_≡_, refl}
 use borrow.Author.Needs.{needs}
 use native.Mathlib.Omega.{arith}
-use lib.ListN.{length}
+use lib.ListN.{length, length-drop, length-take}
+use Rattle.book.specs.Layout.{five}
+use Rattle.rounds.proofs.Turns.{Turning, turns-begin, turns-end, turns-on}
 use Rattle.trial_desk.proofs.Parts.{line-within}
 use Rattle.trial_desk.proofs.run_commands.Statement.{statement}
 use Rattle.trial_desk.proofs.run_commands.Tie as tie
@@ -11,12 +13,16 @@ use Rattle.trial_desk.proofs.run_commands.Tie as tie
 abbrev Inv-loop : tie.InvT-loop
 Inv-loop nodes names lines₀ pool₀ journal₀ commands out₀ c₀ at₀ lines pool journal out c at =
     (length lines ≡ length lines₀) × (length pool ≡ length pool₀) × (length journal ≡ length journal₀)
+    × Turning (record { counts = c₀; buffers = five nodes names lines₀ pool₀ journal₀ }) commands
+    (record { counts = c; buffers = five nodes names lines pool journal }) at
 
 abbrev μ-loop : tie.MeasureT-loop
 μ-loop nodes names lines₀ pool₀ journal₀ commands out₀ c₀ at₀ lines pool journal out c at = length commands - at
 
 loop-holds : tie.Need-loop-holds Inv-loop μ-loop
-loop-holds c = search needs
+loop-holds c =
+    let s = c .before .before .before .before .before .before in
+    (refl, refl, refl, turns-begin _ (s .args .commands .now) (s .pre .0))
 
 line-end-requires : tie.Need-line-end-requires Inv-loop μ-loop
 line-end-requires c κs = search needs
@@ -46,7 +52,11 @@ part-run-command-end c =
     w .1
 
 run-command-requires : tie.Need-run-command-requires Inv-loop μ-loop
-run-command-requires c κs = search needs
+run-command-requires c κs =
+    let f = c .before .before .before .before .before in
+    let o = f .before .before in
+    let s = o .before .before .before .before .before .before .before in
+    (o .loop .inv .3 .reached, simp (length-take, length-drop) (omega (arith, s .pre .1)))
 
 add-at : tie.Need-add-at Inv-loop μ-loop
 add-at c =
@@ -66,7 +76,12 @@ loop-less c =
     omega (arith, w .0, w .1)
 
 loop-again : tie.Need-loop-again Inv-loop μ-loop
-loop-again c = search needs
+loop-again c =
+    let r = c .before .before .before .before .before .before in
+    let f = r .before .before .before .before .before .before in
+    let o = f .before .before in
+    let on = turns-on _ _ _ _ (o .loop .inv .3) (f .before .loop-test .taken) (f .line-end .result) (f .line-end .ensures) _ (r .run-command .ensures) in
+    (search needs, search needs, search needs, on)
 
 same-length : tie.Need-same-length Inv-loop μ-loop
 same-length c = search needs
@@ -78,7 +93,7 @@ same-length-3 : tie.Need-same-length-3 Inv-loop μ-loop
 same-length-3 c = search needs
 
 returns : tie.Need-returns Inv-loop μ-loop
-returns c = search needs
+returns c = turns-end _ _ _ _ (c .before .loop .inv .3) (c .loop-test .left)
 
 pub run-commands-spec : {M : Type 1} → statement M
 run-commands-spec =

@@ -1,4 +1,0 @@
-mod Lending
-mod Told
-mod OpeningExits
-mod EditExits

@@ -1,0 +1,64 @@
+-- `put_four` meets its contract: four stores are a paste. Assumes nothing.
+use native.Mathlib.Omega.{arith}
+use borrow.Author.Needs.{needs}
+use lib.ListN.{length-set}
+use Rattle.copying.proofs.Stores.{four-stored}
+use Rattle.copying.proofs.put_four.Statement.{statement}
+use Rattle.copying.proofs.put_four.Tie as tie
+
+mul-rows : tie.Need-mul-rows
+mul-rows c = search needs
+
+slice-write-rows : tie.Need-slice-write-rows
+slice-write-rows c = search needs
+
+add-rows : tie.Need-add-rows
+add-rows c = search needs
+
+mul-rows-2 : tie.Need-mul-rows-2
+mul-rows-2 c = search needs
+
+slice-write-rows-2 : tie.Need-slice-write-rows-2
+slice-write-rows-2 c = simp length-set (omega arith)
+
+add-rows-2 : tie.Need-add-rows-2
+add-rows-2 c = search needs
+
+mul-rows-3 : tie.Need-mul-rows-3
+mul-rows-3 c = search needs
+
+slice-write-rows-3 : tie.Need-slice-write-rows-3
+slice-write-rows-3 c = simp length-set (omega arith)
+
+add-rows-3 : tie.Need-add-rows-3
+add-rows-3 c = search needs
+
+mul-rows-4 : tie.Need-mul-rows-4
+mul-rows-4 c = search needs
+
+slice-write-rows-4 : tie.Need-slice-write-rows-4
+slice-write-rows-4 c = simp length-set (omega arith)
+
+same-length : tie.Need-same-length
+same-length c = search needs
+
+returns : tie.Need-returns
+returns c = search four-stored
+
+pub put-four-spec : {M : Type 1} → statement M
+put-four-spec =
+    tie.close
+    (tie.spec
+    mul-rows
+    slice-write-rows
+    add-rows
+    mul-rows-2
+    slice-write-rows-2
+    add-rows-2
+    mul-rows-3
+    slice-write-rows-3
+    add-rows-3
+    mul-rows-4
+    slice-write-rows-4
+    same-length
+    returns)

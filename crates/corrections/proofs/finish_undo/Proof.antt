@@ -1,0 +1,69 @@
+-- `finish_undo` meets its contract. Assumes nothing.
+use borrow.Author.Needs.{needs}
+use Rattle.answering.proofs.Answered.{done-finishes, refused-finishes}
+use Rattle.corrections.proofs.Undone.{undone-begins}
+use Rattle.answering.specs.Answers.{undone}
+use Rattle.corrections.proofs.finish_undo.Statement.{statement}
+use Rattle.corrections.proofs.finish_undo.Tie as tie
+
+enum-known-r : tie.Need-enum-known-r
+enum-known-r c = search needs
+
+put-refused-answer-requires : tie.Need-put-refused-answer-requires
+put-refused-answer-requires c κs = search needs
+
+printed-requires : tie.Need-printed-requires
+printed-requires c κs = search needs
+
+enum-known-r-2 : tie.Need-enum-known-r-2
+enum-known-r-2 c = search needs
+
+slice-aggregate-put-text : tie.Need-slice-aggregate-put-text
+slice-aggregate-put-text c = search needs
+
+put-text-requires : tie.Need-put-text-requires
+put-text-requires c κs = search needs
+
+printed-requires-2 : tie.Need-printed-requires-2
+printed-requires-2 c κs = search needs
+
+same-length : tie.Need-same-length
+same-length c = search needs
+
+returns : tie.Need-returns
+unfolding undone
+returns c =
+    let at-put-refused-answer = c .before .before .before in
+    let at-r = at-put-refused-answer .before .before .before in
+    let at-args = at-r .before .before .before in
+    let a = at-args .args in
+    refused-finishes (a .c) undone (a .r) (a .out .now) _ (at-put-refused-answer .put-refused-answer .result) _ _
+    (at-r .r .given .1) (at-put-refused-answer .put-refused-answer .ensures) (c .printed .ensures)
+
+same-length-2 : tie.Need-same-length-2
+same-length-2 c = search needs
+
+returns-2 : tie.Need-returns-2
+returns-2 c =
+    let at-put-text = c .before .before .before in
+    let at-r2 = at-put-text .before .before .before .before in
+    let at-args = at-r2 .before .before .before in
+    let a = at-args .args in
+    done-finishes (a .c) undone (a .r) (a .out .now) _ (at-put-text .put-text .result) _ _ (at-r2 .r2 .given .1)
+    (undone-begins _ (a .out .now) _ (at-put-text .put-text .result) (at-put-text .put-text .ensures)) (c .printed2 .ensures)
+
+pub finish-undo-spec : {M : Type 1} → statement M
+finish-undo-spec =
+    tie.close
+    (tie.spec
+    enum-known-r
+    put-refused-answer-requires
+    printed-requires
+    enum-known-r-2
+    slice-aggregate-put-text
+    put-text-requires
+    printed-requires-2
+    same-length
+    returns
+    same-length-2
+    returns-2)

@@ -1,0 +1,3 @@
+mod Behind
+pub mod Ends
+mod Numbers

@@ -1,0 +1,2 @@
+mod Asked
+mod Listing

@@ -1,0 +1,107 @@
+-- `known_version` meets its contract. The loop's invariant: the nodes from i on have other names. Assumes nothing.
+use borrow.Author.Needs.{needs}
+use native.Mathlib.Omega.{arith}
+use Rattle.lookups.proofs.LastNamed.{Backward, back-starts, back-row, back-found, back-more, back-ends}
+use Rattle.lookups.proofs.wanted.known_version.Statement.{statement}
+use Rattle.lookups.proofs.wanted.known_version.Tie as tie
+
+abbrev Inv-loop : tie.InvT-loop
+Inv-loop nodes names wanted i₀ i = Backward i₀ nodes names wanted i
+
+abbrev μ-loop : tie.MeasureT-loop
+μ-loop nodes names wanted i₀ i = i
+
+cast-i : tie.Need-cast-i Inv-loop μ-loop
+cast-i c = search needs
+
+loop-holds : tie.Need-loop-holds Inv-loop μ-loop
+loop-holds c = back-starts _ _ _ _ _ (c .before .before .before .before .pre .0)
+
+sub-i : tie.Need-sub-i Inv-loop μ-loop
+sub-i c = search needs
+
+mul-at : tie.Need-mul-at Inv-loop μ-loop
+mul-at c = search needs
+
+mul-start : tie.Need-mul-start Inv-loop μ-loop
+mul-start c = let d = c in let r = back-row _ _ _ _ _ (d .before .before .before .before .before .before .pre .0) _ (d .before .loop .inv) (d .loop-test .taken) in omega arith
+
+shared-slice-read-start : tie.Need-shared-slice-read-start Inv-loop μ-loop
+shared-slice-read-start c = let d = c .before in let r = back-row _ _ _ _ _ (d .before .before .before .before .before .before .pre .0) _ (d .before .loop .inv) (d .loop-test .taken) in omega arith
+
+cast-start : tie.Need-cast-start Inv-loop μ-loop
+cast-start c = let d = c .before in let r = back-row _ _ _ _ _ (d .before .before .before .before .before .before .pre .0) _ (d .before .loop .inv) (d .loop-test .taken) in omega arith
+
+add-end : tie.Need-add-end Inv-loop μ-loop
+add-end c = let d = c .before in let r = back-row _ _ _ _ _ (d .before .before .before .before .before .before .pre .0) _ (d .before .loop .inv) (d .loop-test .taken) in omega arith
+
+mul-end : tie.Need-mul-end Inv-loop μ-loop
+mul-end c = let d = c .before in let r = back-row _ _ _ _ _ (d .before .before .before .before .before .before .pre .0) _ (d .before .loop .inv) (d .loop-test .taken) in omega arith
+
+shared-slice-read-end : tie.Need-shared-slice-read-end Inv-loop μ-loop
+shared-slice-read-end c = let d = c .before .before in let r = back-row _ _ _ _ _ (d .before .before .before .before .before .before .pre .0) _ (d .before .loop .inv) (d .loop-test .taken) in omega arith
+
+cast-end : tie.Need-cast-end Inv-loop μ-loop
+cast-end c = let d = c .before .before in let r = back-row _ _ _ _ _ (d .before .before .before .before .before .before .pre .0) _ (d .before .loop .inv) (d .loop-test .taken) in omega arith
+
+add-end-2 : tie.Need-add-end-2 Inv-loop μ-loop
+add-end-2 c = let d = c .before .before in let r = back-row _ _ _ _ _ (d .before .before .before .before .before .before .pre .0) _ (d .before .loop .inv) (d .loop-test .taken) in omega arith
+
+sub-same-bytes : tie.Need-sub-same-bytes Inv-loop μ-loop
+sub-same-bytes c = search needs
+
+part-same-bytes-start : tie.Need-part-same-bytes-start Inv-loop μ-loop
+part-same-bytes-start c = search needs
+
+part-same-bytes-end : tie.Need-part-same-bytes-end Inv-loop μ-loop
+part-same-bytes-end c = let d = c .before .before in let r = back-row _ _ _ _ _ (d .before .before .before .before .before .before .pre .0) _ (d .before .loop .inv) (d .loop-test .taken) in omega arith
+
+same-bytes-requires : tie.Need-same-bytes-requires Inv-loop μ-loop
+same-bytes-requires c κs = search needs
+
+cast-t21 : tie.Need-cast-t21 Inv-loop μ-loop
+cast-t21 c = search needs
+
+from-node-requires : tie.Need-from-node-requires Inv-loop μ-loop
+from-node-requires c κs = search needs
+
+returns : tie.Need-returns Inv-loop μ-loop
+returns c = let d = c .before .before .before .before .before .before in back-found _ _ _ _ _ (d .before .before .before .before .before .before .pre .0) _ (d .before .loop .inv) (d .loop-test .taken) _ (c .before .before .same-bytes .ensures) (c .before .if1 .taken) _ (c .from-node .ensures)
+
+loop-less : tie.Need-loop-less Inv-loop μ-loop
+loop-less c = search needs
+
+loop-again : tie.Need-loop-again Inv-loop μ-loop
+loop-again c = let d = c .before .before .before .before .before in back-more _ _ _ _ _ (d .before .before .before .before .before .before .pre .0) _ (d .before .loop .inv) (d .loop-test .taken) _ (c .before .same-bytes .ensures) (c .if1 .left)
+
+returns-2 : tie.Need-returns-2 Inv-loop μ-loop
+returns-2 c = back-ends _ _ _ _ _ (c .before .before .before .before .before .before .pre .0) _ (c .before .loop .inv) (c .loop-test .left)
+
+pub known-version-spec : {M : Type 1} → statement M
+known-version-spec =
+    tie.close
+    (tie.spec
+    Inv-loop
+    μ-loop
+    cast-i
+    loop-holds
+    sub-i
+    mul-at
+    mul-start
+    shared-slice-read-start
+    cast-start
+    add-end
+    mul-end
+    shared-slice-read-end
+    cast-end
+    add-end-2
+    sub-same-bytes
+    part-same-bytes-start
+    part-same-bytes-end
+    same-bytes-requires
+    cast-t21
+    from-node-requires
+    returns
+    loop-less
+    loop-again
+    returns-2)

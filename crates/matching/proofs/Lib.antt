@@ -1,0 +1,3 @@
+mod ElementExits
+pub mod Latest
+mod Turns

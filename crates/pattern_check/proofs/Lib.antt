@@ -1,0 +1,4 @@
+mod Stored
+mod Negations
+mod Closings
+mod Refusals

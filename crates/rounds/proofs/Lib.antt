@@ -1,0 +1,4 @@
+pub mod Cuts
+pub mod Reaching
+pub mod Turns
+pub mod Beginnings

@@ -1,0 +1,46 @@
+-- The desk's lines, one a turn: what is left to run from a place of the commands on leads where all of them lead. Assumes nothing.
+use Prim.Native.Nat.{ℕ, _+_, _-_, _≤_, _<_}
+use mathlib.Core.Path.{_≡_, refl, sym, ap, _∙_}
+use mathlib.Core.List.{List, [], _∷_}
+use lib.ListN.{length, take, drop}
+use Rattle.input.specs.Splitting.{input-limit, lines-in}
+use Rattle.book.specs.declared.Counts.{Counts}
+use Rattle.book.specs.Layout.{Buffers}
+use Rattle.line_parts.specs.Parts.{line-end}
+use Rattle.histories.specs.Histories.{Lent}
+use Rattle.answering.specs.declared.Ran.{Ran}
+use Rattle.desk.specs.Desk.{line-leaves, line-ran}
+use Rattle.rounds.specs.Rounds.{Reached, line-lent, lines-lent, printing-room}
+use Rattle.input.proofs.Cuts.{no-lines-from}
+use Rattle.rounds.proofs.Cuts.{lines-from}
+use Rattle.rounds.proofs.Reaching.{no-line-lacks-room, reached-on}
+
+-- a line that is run in the room for printing leaves what `line-lent` says
+pub line-runs : (c : Counts) (b : Buffers) (l out : List ℕ) → Reached (record { counts = c; buffers = b }) → length l ≤ input-limit → printing-room ≤ length out
+    → (r : Ran) → r ≡ line-ran c b l out → (b′ : Buffers) → b′ ≡ line-leaves c b l out
+    → record { counts = r .counts; buffers = b′ } ≡ line-lent (record { counts = c; buffers = b }) l
+unfolding line-ran line-leaves
+line-runs c b l out t h o r e b′ f = rw (e, f, no-line-lacks-room (record { counts = c; buffers = b }) l out t h o)
+
+-- from y on, the commands s have been run up to the place at, and left x
+pub record Turning (y : Lent) (s : List ℕ) (x : Lent) (at : ℕ) : Type 0 where
+  pub reached : Reached x
+  pub leads : lines-lent x (lines-in [] (drop at s)) ≡ lines-lent y (lines-in [] s)
+
+pub turns-begin : (y : Lent) (s : List ℕ) → Reached y → Turning y s y 0
+turns-begin y s r = record { reached = r; leads = refl }
+
+pub turns-on : (y : Lent) (s : List ℕ) (x : Lent) (at : ℕ) → Turning y s x at → at < length s → (end : ℕ) → end ≡ line-end s at → (z : Lent)
+    → z ≡ line-lent x (take (end - at) (drop at s)) → Turning y s z (end + 1)
+unfolding lines-lent
+turns-on y s x at t h end e z f =
+    let l : List ℕ = take (end - at) (drop at s) in
+    let q : lines-in [] (drop at s) ≡ take (line-end s at - at) (drop at s) ∷ lines-in [] (drop (line-end s at + 1) s) = lines-from s at h in
+    record {
+      reached = rw f (reached-on x l (t .reached));
+      leads = rw (f, e) (ap (lines-lent x) (sym q) ∙ t .leads);
+    }
+
+pub turns-end : (y : Lent) (s : List ℕ) (x : Lent) (at : ℕ) → Turning y s x at → length s ≤ at → x ≡ lines-lent y (lines-in [] s)
+unfolding lines-lent
+turns-end y s x at t h = sym (ap (lines-lent x) (no-lines-from s at h)) ∙ t .leads

@@ -1,3 +1,0 @@
-mod Settling
-mod Strikes
-pub mod Adds

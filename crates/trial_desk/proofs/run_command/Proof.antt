@@ -1,0 +1,59 @@
+-- `run_command` meets its contract: the line has room, and so it is run. Assumes nothing.
+use Prim.Native.Nat.{_≤_}
+use borrow.Author.Needs.{needs}
+use native.Mathlib.Omega.{arith}
+use lib.ListN.{length}
+use Rattle.book.specs.Layout.{five}
+use Rattle.rounds.specs.Rounds.{printing-room}
+use Rattle.rounds.proofs.Turns.{line-runs}
+use Rattle.trial_desk.proofs.run_command.Statement.{statement}
+use Rattle.trial_desk.proofs.run_command.Tie as tie
+
+run-line-requires : tie.Need-run-line-requires
+run-line-requires c κs = search needs
+
+front-requires : tie.Need-front-requires
+front-requires c κs = search needs
+
+write-all-requires : tie.Need-write-all-requires
+write-all-requires c κs = search needs
+
+say-known-requires : tie.Need-say-known-requires
+say-known-requires c κs = search needs
+
+explain-requires : tie.Need-explain-requires
+explain-requires c κs = search needs
+
+same-length : tie.Need-same-length
+same-length c = search needs
+
+same-length-2 : tie.Need-same-length-2
+same-length-2 c = search needs
+
+same-length-3 : tie.Need-same-length-3
+same-length-3 c = search needs
+
+returns : tie.Need-returns
+returns c =
+    let at-run-line = c .before .before .before .before .before .before .before .before .before .before .before .before .before .before in
+    let at-args = at-run-line .before .before .before .before .before .before .before .before .before .before .before in
+    let a = at-args .args in
+    let g = at-args .good in
+    let w = at-run-line .run-line in
+    let room : printing-room ≤ length (a .out .now) = omega arith in
+    line-runs (a .c) (five (a .nodes .now) (a .names .now) (a .lines .now) (a .pool .now) (a .journal .now)) (a .line .now) (a .out .now)
+    (at-args .pre .0) (at-args .pre .1) room (w .result) (w .ensures .0) _ (w .ensures .2)
+
+pub run-command-spec : {M : Type 1} → statement M
+run-command-spec =
+    tie.close
+    (tie.spec
+    run-line-requires
+    front-requires
+    write-all-requires
+    say-known-requires
+    explain-requires
+    same-length
+    same-length-2
+    same-length-3
+    returns)

@@ -1,0 +1,112 @@
+-- `work` meets its contract: a text that is refused ends it, and behind one that is opened the commands are run. Assumes nothing.
+use mathlib.Core.Bool.{cond}
+use borrow.Author.Needs.{needs}
+use Rattle.reading.specs.Places.{at-list, at-script}
+use Rattle.book.specs.Layout.{five}
+use Rattle.rounds.proofs.Beginnings.{reached-first, refused-left, run-left}
+use Rattle.trial_desk.proofs.Choices.{chosen-opens, opens-there}
+use Rattle.trial_desk.proofs.work.Statement.{statement}
+use Rattle.trial_desk.proofs.work.Tie as tie
+
+place-of-requires : tie.Need-place-of-requires
+place-of-requires c κs = search needs
+
+open-requires : tie.Need-open-requires
+open-requires c κs = search needs
+
+refuse-requires : tie.Need-refuse-requires
+refuse-requires c κs = search needs
+
+same-length : tie.Need-same-length
+same-length c = search needs
+
+same-length-2 : tie.Need-same-length-2
+same-length-2 c = search needs
+
+same-length-3 : tie.Need-same-length-3
+same-length-3 c = search needs
+
+same-length-4 : tie.Need-same-length-4
+same-length-4 c = search needs
+
+same-length-5 : tie.Need-same-length-5
+same-length-5 c = search needs
+
+returns : tie.Need-returns
+returns c =
+    let at-if1 = c .before .before in
+    let at-open = at-if1 .before .before .before .before .before .before .before .before .before .before .before .before in
+    let at-place = at-open .before .before .before .before .before .before in
+    let at-args = at-place .before .before .before .before .before .before .before .before in
+    let a = at-args .args in
+    let w = at-open .«open» in
+    let b = five (a .nodes .now) (a .names .now) (a .lines .now) (a .pool .now) (a .journal .now) in
+    let o = opens-there _ (cond (a .export) at-list at-script) (at-place .place-of .ensures) b (a .text .now) (w .result) _ (w .ensures) in
+    refused-left (cond (a .export) at-list at-script) b (a .text .now) (a .commands .now)
+    (w .result) (o .0) _ (o .1) (at-if1 .if1 .taken)
+
+run-commands-requires : tie.Need-run-commands-requires
+run-commands-requires c κs =
+    let at-if1 = c .before .before .before .before .before .before in
+    let at-open = at-if1 .before .before .before .before .before .before .before .before .before .before .before .before in
+    let at-place = at-open .before .before .before .before .before .before in
+    let at-args = at-place .before .before .before .before .before .before .before .before in
+    let a = at-args .args in
+    let w = at-open .«open» in
+    let b = five (a .nodes .now) (a .names .now) (a .lines .now) (a .pool .now) (a .journal .now) in
+    let o = opens-there _ (cond (a .export) at-list at-script) (at-place .place-of .ensures) b (a .text .now) (w .result) _ (w .ensures) in (
+      reached-first (cond (a .export) at-list at-script) b (a .text .now) (a .commands .now)
+          (w .result) (o .0) _ (o .1) (at-if1 .if1 .left) (chosen-opens (a .export)) (at-args .pre .0),
+      at-args .pre .1,
+    )
+
+same-length-6 : tie.Need-same-length-6
+same-length-6 c = search needs
+
+same-length-7 : tie.Need-same-length-7
+same-length-7 c = search needs
+
+same-length-8 : tie.Need-same-length-8
+same-length-8 c = search needs
+
+same-length-9 : tie.Need-same-length-9
+same-length-9 c = search needs
+
+same-length-10 : tie.Need-same-length-10
+same-length-10 c = search needs
+
+returns-2 : tie.Need-returns-2
+returns-2 c =
+    let at-run-commands = c .before .before .before .before .before .before in
+    let at-if1 = at-run-commands .before .before .before .before .before .before .before in
+    let at-open = at-if1 .before .before .before .before .before .before .before .before .before .before .before .before in
+    let at-place = at-open .before .before .before .before .before .before in
+    let at-args = at-place .before .before .before .before .before .before .before .before in
+    let a = at-args .args in
+    let w = at-open .«open» in
+    let b = five (a .nodes .now) (a .names .now) (a .lines .now) (a .pool .now) (a .journal .now) in
+    let o = opens-there _ (cond (a .export) at-list at-script) (at-place .place-of .ensures) b (a .text .now) (w .result) _ (w .ensures) in
+    let r = at-run-commands .run-commands in
+    run-left (cond (a .export) at-list at-script) b (a .text .now) (a .commands .now)
+    (w .result) (o .0) _ (o .1) (at-if1 .if1 .left) (r .result) _ (r .ensures)
+
+pub work-spec : {M : Type 1} → statement M
+work-spec =
+    tie.close
+    (tie.spec
+    place-of-requires
+    open-requires
+    refuse-requires
+    same-length
+    same-length-2
+    same-length-3
+    same-length-4
+    same-length-5
+    returns
+    run-commands-requires
+    same-length-6
+    same-length-7
+    same-length-8
+    same-length-9
+    same-length-10
+    returns-2)

@@ -1,0 +1,31 @@
+// Settle, of the trial book. A refusal changes nothing. Definitions: changes/specs/Trial.antt (`settle-asked`), from document 01, 'The book'. It asks first
+// whether the buffers hold a book (14); what it does then is the crate `settling`.
+ghost use mathlib.Core.Path.{_≡_};
+ghost use Rattle.book.specs.Layout.{five};
+ghost use Rattle.book.specs.View.{view};
+ghost use Rattle.changes.specs.Changes.{after, edited};
+ghost use Rattle.changes.specs.Trial.{settle-asked};
+use book::Counts;
+use book_check::is_book;
+use changes::Edited;
+use numbers::NO_BOOK;
+use settling::settle_lines;
+
+// The struck lines are dropped, and the rest is packed.
+pub fn settle(
+    c: Counts,
+    nodes: &[u32],
+    names: &[u8],
+    lines: &mut [u32],
+    pool: &mut [u8],
+    journal: &mut [u32],
+) -> Edited
+    ensures { λ r. ⌜ (r ≡ edited (settle-asked (view c (five (now (nodes .entry)) (now (names .entry)) (now (lines .entry)) (now (pool .entry)) (now (journal .entry))))))
+        × (five (now (nodes .entry)) (now (names .entry)) (now (lines .exit)) (now (pool .exit)) (now (journal .exit))
+        ≡ after (five (now (nodes .entry)) (now (names .entry)) (now (lines .entry)) (now (pool .entry)) (now (journal .entry))) (settle-asked (view c (five (now (nodes .entry)) (now (names .entry)) (now (lines .entry)) (now (pool .entry)) (now (journal .entry)))))) ⌝ }
+{
+    if !is_book(c, nodes, names, lines, pool, journal) {
+        return Edited::Refused(NO_BOOK);
+    }
+    Edited::Done(settle_lines(c, nodes, names, lines, pool, journal))
+}

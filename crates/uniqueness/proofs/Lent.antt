@@ -1,0 +1,88 @@
+-- What answers for a lent book leaves one answer and one end state: lending, lent_openings, lent_questions, lent_edits. Assumes nothing.
+use mathlib.Core.Path.{refl}
+use Rattle.lending.specs.Calls.{Edits, Opens, Replies}
+use Rattle.uniqueness.specs.Unique.{Unique}
+use Rattle.uniqueness.proofs.Same.{_▹_, same}
+use Rattle.lending.proofs.counts_of
+use Rattle.lending.proofs.put_counts
+use Rattle.lending.proofs.answer
+use Rattle.lent_openings.proofs.open_lent
+use Rattle.lent_questions.proofs.version_count
+use Rattle.lent_questions.proofs.parent_count
+use Rattle.lent_questions.proofs.version_for_symbol
+use Rattle.lent_questions.proofs.locality
+use Rattle.lent_questions.proofs.contains
+use Rattle.lent_edits.proofs.add
+use Rattle.lent_edits.proofs.strike
+use Rattle.lent_edits.proofs.undo
+use Rattle.lent_edits.proofs.settle
+use Rattle.lent_edits.proofs.add_symbol
+
+-- ---- lending
+pub counts-of-unique : Unique counts_of.ended counts_of.Reads.Post
+counts-of-unique κs a x y v w p q = (same p q, refl)
+
+pub put-counts-unique : Unique put_counts.ended put_counts.Reads.Post
+put-counts-unique κs a x y v w p q = (refl, λ i. same p q i ▹ tt ▹ tt)
+
+pub answer-unique : Unique answer.ended answer.Reads.Post
+answer-unique κs a x y v w p q = (same (p .0) (q .0), λ i. tt ▹ tt ▹ same (p .1) (q .1) i ▹ tt)
+
+-- ---- lent_openings
+pub open-lent-unique : Unique open_lent.ended open_lent.Reads.Post
+unfolding Opens
+open-lent-unique κs a x y v w p q =
+    let b = same (p .2) (q .2) in
+    (same (p .0) (q .0), λ i. tt ▹ tt ▹ same (p .1) (q .1) i ▹ b i .nodes ▹ b i .names ▹ b i .lines ▹ b i .pool ▹ b i .journal ▹ tt)
+
+-- ---- lent_questions
+pub version-count-unique : Unique version_count.ended version_count.Reads.Post
+unfolding Replies
+version-count-unique κs a x y v w p q = (same (p .0) (q .0), λ i. tt ▹ tt ▹ tt ▹ tt ▹ tt ▹ tt ▹ same (p .1) (q .1) i ▹ tt)
+
+pub parent-count-unique : Unique parent_count.ended parent_count.Reads.Post
+unfolding Replies
+parent-count-unique κs a x y v w p q = (same (p .0) (q .0), λ i. tt ▹ tt ▹ tt ▹ tt ▹ tt ▹ tt ▹ same (p .1) (q .1) i ▹ tt)
+
+pub version-for-symbol-unique : Unique version_for_symbol.ended version_for_symbol.Reads.Post
+unfolding Replies
+version-for-symbol-unique κs a x y v w p q = (same (p .0) (q .0), λ i. tt ▹ tt ▹ tt ▹ tt ▹ tt ▹ tt ▹ tt ▹ tt ▹ tt ▹ tt ▹ same (p .1) (q .1) i ▹ tt)
+
+pub locality-unique : Unique locality.ended locality.Reads.Post
+unfolding Replies
+locality-unique κs a x y v w p q = (same (p .0) (q .0), λ i. tt ▹ tt ▹ tt ▹ tt ▹ tt ▹ tt ▹ tt ▹ tt ▹ same (p .1) (q .1) i ▹ tt)
+
+pub contains-unique : Unique contains.ended contains.Reads.Post
+unfolding Replies
+contains-unique κs a x y v w p q = (same (p .0) (q .0), λ i. tt ▹ tt ▹ tt ▹ tt ▹ tt ▹ tt ▹ tt ▹ tt ▹ same (p .1) (q .1) i ▹ tt)
+
+-- ---- lent_edits
+pub add-unique : Unique add.ended add.Reads.Post
+unfolding Edits
+add-unique κs a x y v w p q =
+    let b = same (p .2) (q .2) in
+    (same (p .0) (q .0), λ i. same (p .1) (q .1) i ▹ tt ▹ tt ▹ b i .lines ▹ b i .pool ▹ b i .journal ▹ tt ▹ tt ▹ tt ▹ tt ▹ tt)
+
+pub strike-unique : Unique strike.ended strike.Reads.Post
+unfolding Edits
+strike-unique κs a x y v w p q =
+    let b = same (p .2) (q .2) in
+    (same (p .0) (q .0), λ i. same (p .1) (q .1) i ▹ tt ▹ tt ▹ b i .lines ▹ tt ▹ b i .journal ▹ tt ▹ tt)
+
+pub undo-unique : Unique undo.ended undo.Reads.Post
+unfolding Edits
+undo-unique κs a x y v w p q =
+    let b = same (p .2) (q .2) in
+    (same (p .0) (q .0), λ i. same (p .1) (q .1) i ▹ tt ▹ tt ▹ b i .lines ▹ b i .pool ▹ b i .journal ▹ tt)
+
+pub settle-unique : Unique settle.ended settle.Reads.Post
+unfolding Edits
+settle-unique κs a x y v w p q =
+    let b = same (p .2) (q .2) in
+    (same (p .0) (q .0), λ i. same (p .1) (q .1) i ▹ tt ▹ tt ▹ b i .lines ▹ b i .pool ▹ b i .journal ▹ tt)
+
+pub add-symbol-unique : Unique add_symbol.ended add_symbol.Reads.Post
+unfolding Edits
+add-symbol-unique κs a x y v w p q =
+    let b = same (p .2) (q .2) in
+    (same (p .0) (q .0), λ i. same (p .1) (q .1) i ▹ tt ▹ tt ▹ b i .lines ▹ b i .pool ▹ b i .journal ▹ tt ▹ tt ▹ tt)
