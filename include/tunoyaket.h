@@ -26,10 +26,10 @@
  *
  * An opening answers 0, or the refusal's number + 256 * its place, an offset in the text; every
  * other call answers 0 or the refusal's number. A refused opening leaves all six buffers zero. Any
- * other refused call writes nothing. Where a call could be refused for several reasons, the order
- * is 14, 13, 11, 12, 1, 9, 10, then the order of reading; a token's own reasons come in the order
- * 1, 5, 6, 8. An opening starts with 1, the length of the counts (8) and the room for node 0
- * (8). */
+ * other refused call leaves every byte as it was. Where a call could be refused for several
+ * reasons, the order is 14, 13, 11, 12, 1, 9, 10, then the order of reading; a token's own reasons
+ * come in the order 1, 5, 6, 8. An opening starts with 1, the length of the counts (8) and the room
+ * for node 0 (8). */
 #ifndef TUNOYAKET_H
 #define TUNOYAKET_H
 
@@ -90,7 +90,9 @@ extern "C" {
 #define TUNO_COUNT_POOL_BYTES 4u
 #define TUNO_COUNT_EDITS 5u
 
-/* Kinds. Rust: one body without a name, exact globals and `local: *;`, as rustc writes it. */
+/* Kinds. Rust: one body without a name, with only exact names as globals, no extern block among
+ * them, and a bare `*` among its locals, as rustc writes it; whoever wrote it, it can't be edited.
+ * The same body with a name is Regular. */
 #define TUNO_KIND_REGULAR 0u
 #define TUNO_KIND_RUST 1u
 #define TUNO_KIND_EXPORT_LIST 2u
@@ -137,7 +139,8 @@ extern "C" {
 
 /* ---- Answers into out[0]. */
 
-/* The version index of a symbol: none, the global one, or that of a node. */
+/* The version index of a symbol: none, the global one, or that of a named node. Node 0 answers
+ * none: TUNO_VERSION_OF_NODE(0) is the global one, and not its answer. */
 #define TUNO_VERSION_NONE 0u
 #define TUNO_VERSION_GLOBAL 1u
 #define TUNO_VERSION_OF_NODE(node) ((node) + 1u)
@@ -162,8 +165,12 @@ extern "C" {
 
 /* ---- Rooms, as lengths. Whole rows count as room; any room is allowed, one that is too short is
  * refused with 8, and what lies past a limit stays zero. Every call reads all that it is lent, so
- * it takes longer in larger rooms. A book may be moved to other rooms: copy each buffer, with zeros
- * behind it, or without those that stand at its end. */
+ * it takes longer in larger rooms.
+ *
+ * A book may be moved to other rooms. It fills the first 3 * counts[1] numbers of `nodes`,
+ * counts[2] bytes of `names`, 4 * counts[3] numbers of `lines`, counts[4] bytes of `pool` and
+ * 2 * counts[5] numbers of `journal`. Copy at least these, zeros among them too, and fill what is
+ * longer with zeros. */
 
 /* Enough for every book within the limits. Names have no limit of their own: those of a script are
  * shorter than it. */
@@ -176,7 +183,8 @@ extern "C" {
 /* Enough for any text of so many bytes, so that 8 then means a limit: a named node takes four of
  * them at least, the last one's name alone one, and a line two. An opening needs no journal; each
  * edit needs a row of it, and an added line a row of `lines` and at most its token's bytes in
- * `pool`. */
+ * `pool`. For very short texts some of these are 0: `calloc(0, ..)` may give a null pointer, which
+ * may not be lent, so ask it for one element more. */
 #define TUNO_NODES_ROOM_FOR(bytes) (TUNO_NODE_WIDTH * (((bytes) + 3u) / 4u + 1u))
 #define TUNO_NAMES_ROOM_FOR(bytes) (bytes)
 #define TUNO_LINES_ROOM_FOR(bytes) (TUNO_LINE_WIDTH * ((bytes) / 2u))
@@ -207,8 +215,8 @@ uint64_t tuno_open_export_list(
 /* ---- Questions. Where nothing is refused the answer is written to out[0], and nothing else is; an
  * `out` of length 0 is refused with 8, last. */
 
-/* How many versions a script defines: 0 where only node 0 stands, and of the Rust kind, else all
- * nodes. Refusals: 14, 13 (export list), 8. */
+/* How many versions a script defines: 0 where it has no named node, as the Rust kind has none, else
+ * the number of its nodes, node 0 included. Refusals: 14, 13 (export list), 8. */
 uint32_t tuno_version_count(
     const uint32_t *counts, size_t counts_length,
     const uint32_t *nodes, size_t nodes_length,
@@ -228,10 +236,13 @@ uint32_t tuno_parent_count(
     const uint32_t *journal, size_t journal_length,
     uint32_t *out, size_t out_length);
 
-/* The version index of a symbol, 0 for none. Where `has_wanted` is not 0, `wanted` is the version
- * that the symbol asks for: the last node of that name, 1 where it is empty. C++ lines see the
- * demangled name, others the raw one. Refusals: 14, 13 (export list), 1 (a name or `wanted`), 9,
- * 10, 8. */
+/* The version index of a symbol. Where `has_wanted` is 0, `wanted` is not looked at, and the index
+ * is that of the node of the line that decides; it is 0 where no line matches and where node 0
+ * decides. C++ lines see the demangled name, others the raw one. Where `has_wanted` is not 0,
+ * `wanted` is the version that the symbol asks for: the index is that of the last node of this
+ * name, 1 where it is empty, whichever line decides. Of the Rust kind the index is always 0, with a
+ * wanted version too, and 10 is not given. Refusals: 14, 13 (export list), 1 (a name or `wanted`),
+ * 9, 10, 8. */
 uint32_t tuno_version_for_symbol(
     const uint32_t *counts, size_t counts_length,
     const uint32_t *nodes, size_t nodes_length,
@@ -245,8 +256,9 @@ uint32_t tuno_version_for_symbol(
     const uint8_t *wanted, size_t wanted_length,
     uint32_t *out, size_t out_length);
 
-/* The section of the line that decides on a symbol: 0 where no line matches, 1 global, 2 local.
- * Refusals: 14, 13 (export list), 1, 9, 8. */
+/* The section of the line that decides on a symbol: 0 where no line matches, 1 global, 2 local; of
+ * the Rust kind 1 for the names that it lists as globals, else 2. Refusals: 14, 13 (export list),
+ * 1, 9, 8. */
 uint32_t tuno_locality(
     const uint32_t *counts, size_t counts_length,
     const uint32_t *nodes, size_t nodes_length,
@@ -319,8 +331,11 @@ uint32_t tuno_settle(
     uint32_t *journal, size_t journal_length);
 
 /* Reads one matcher at the start of the text, ignores what is left, and adds its lines to an export
- * list, all or none, each as one edit. Where `without_semicolon` is not 0, a token outside extern
- * goes to the first `}`, or to the end. Refusals: 14, 13 (version script), 1, 2, 3, 4, 5, 6, 8. */
+ * list, all or none, each as one edit. Nothing is skipped before the matcher: a blank there belongs
+ * to the token. Where `without_semicolon` is not 0, a token outside extern goes to the first `}`,
+ * or to the end, a `;` included; in an extern block a token goes to its `;` where no `};` is left,
+ * so that `extern "C" { a; b` is refused with 2, and not with 3 as without the flag. Refusals: 14,
+ * 13 (version script), 1, 2, 3, 4, 5, 6, 8. */
 uint32_t tuno_add_symbol(
     uint32_t *counts, size_t counts_length,
     const uint32_t *nodes, size_t nodes_length,

@@ -1,5 +1,6 @@
 //! Links the proved library's archive: the one that `TUNOYAKET_C_ARCHIVE` names, else the one that
-//! `rt staticlib c_api` makes in this repository.
+//! `rt staticlib c_api` makes in this repository. A relative path is taken from this package's
+//! folder, whence cargo runs this: it does not tell where it was called.
 
 use std::env;
 use std::fs;
@@ -10,13 +11,12 @@ const DEFAULT: &str = "../../target/staticlib/libc_api.a";
 
 fn main() {
     println!("cargo:rerun-if-env-changed={VARIABLE}");
-    let archive = match env::var_os(VARIABLE) {
-        Some(given) => PathBuf::from(given),
-        None => PathBuf::from(given("CARGO_MANIFEST_DIR")).join(DEFAULT),
-    };
+    let named = env::var_os(VARIABLE).unwrap_or_else(|| DEFAULT.into());
+    let archive = PathBuf::from(given("CARGO_MANIFEST_DIR")).join(named);
     assert!(
         archive.is_file(),
-        "{} is not there: run `rt staticlib c_api` in the repository, or set {VARIABLE}",
+        "{} is not there: run `rt staticlib c_api` in the repository, or set {VARIABLE} to the \
+         archive's whole path, since a relative one is taken from the package's folder",
         archive.display()
     );
     println!("cargo:rerun-if-changed={}", archive.display());

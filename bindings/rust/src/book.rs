@@ -122,14 +122,16 @@ impl Book {
     /// The version of a symbol, by its raw name, its demangled one (the raw one again, where there
     /// is none) and the version that it wants.
     ///
-    /// Without a wanted version it is that of the line that decides. With one it is that of the
-    /// last node of this name.
+    /// Without a wanted version it is that of the line that decides: `None` where no line matches,
+    /// and where the line stands in node 0. With one it is that of the last node of this name,
+    /// [`GLOBAL`](VersionIndex::GLOBAL) where it is empty, whichever line decides. Of the Rust kind
+    /// it is always `None`: a wanted version is not looked up.
     ///
     /// # Errors
     ///
     /// [`Refusal::WrongKind`] on an export list; [`Refusal::TooLong`] of a raw name or a wanted
     /// version over 4,096 bytes or a demangled name over 65,536; [`Refusal::NameNotUtf8`];
-    /// [`Refusal::UnknownVersion`].
+    /// [`Refusal::UnknownVersion`], not of the Rust kind.
     ///
     /// ```
     /// use tunoyaket::{Book, NodeNumber, Refusal, VersionIndex};
@@ -143,6 +145,11 @@ impl Book {
     /// assert_eq!(book.version(b"f", b"f", Some(b"V2"))?, v2);
     /// assert_eq!(book.version(b"f", b"f", Some(b""))?, Some(VersionIndex::GLOBAL));
     /// assert_eq!(book.version(b"f", b"f", Some(b"V3")), Err(Refusal::UnknownVersion));
+    ///
+    /// let book = Book::version_script(b"{ f*; };")?;
+    /// assert_eq!(book.version(b"f", b"f", None)?, None);
+    /// let book = Book::version_script(b"{ f; local: *; };")?;
+    /// assert_eq!(book.version(b"f", b"f", Some(b"V3"))?, None);
     /// # Ok::<(), Refusal>(())
     /// ```
     pub fn version(
@@ -157,7 +164,8 @@ impl Book {
             .map_err(refused)
     }
 
-    /// The section of the line that decides on a symbol, or `None` where no line matches.
+    /// The section of the line that decides on a symbol, or `None` where no line matches. Of the
+    /// Rust kind the names that it lists are global, all others local.
     ///
     /// # Errors
     ///
@@ -298,14 +306,17 @@ impl Book {
     }
 
     /// Reads one matcher at the start of a text, a token or an extern block, and adds its lines to
-    /// an export list, all or none. Tells their numbers. What is left of the text is ignored.
+    /// an export list, all or none. Tells their numbers. What is left of the text is ignored; a
+    /// blank at its start belongs to the token.
+    ///
     /// `without_semicolon` says that a token outside extern goes to the first `}`, or to the end of
-    /// the text.
+    /// the text, a `;` included, and one in an extern block to its `;` where no `};` is left.
     ///
     /// # Errors
     ///
     /// [`Refusal::WrongKind`] on a version script; [`Refusal::TooLong`] of a text over 65,536
-    /// bytes; refusals 2 to 6 of what is read; [`Refusal::NoRoom`] at the limits.
+    /// bytes; refusals 2 to 6 of what is read; [`Refusal::NoRoom`] at the limits. None of them has
+    /// a [`Place`] here.
     ///
     /// ```
     /// use tunoyaket::Book;
@@ -382,16 +393,14 @@ impl Book {
         self.buffers.counts[3]
     }
 
-    /// An edit, tried again in larger rooms where they are too small for it. What is refused leaves
-    /// the rooms as they were, too.
+    /// An edit, tried again in larger rooms where they are too small for it. What it then does not
+    /// use is cut off again, so that what is refused leaves the rooms as they were, too.
     fn edit(&mut self, needs: Needs, call: impl Fn(&mut Buffers) -> u32) -> Answer<()> {
         let rooms = self.buffers.rooms();
         let mut number = call(&mut self.buffers);
         if number == NO_ROOM && self.buffers.grow(needs) {
             number = call(&mut self.buffers);
-        }
-        if number != 0 {
-            self.buffers.cut(rooms);
+            self.buffers.cut(rooms.enlarged(self.buffers.used()));
         }
         done(number)
     }
@@ -473,6 +482,18 @@ mod tests {
         assert!(these.lines.len() > those.lines.len() && padded(&these.lines, &those.lines));
         assert!(these.pool.len() > those.pool.len() && padded(&these.pool, &those.pool));
         assert!(!these.journal.is_empty() && padded(&these.journal, &those.journal));
+    }
+
+    #[test]
+    fn what_is_ignored_takes_no_room() {
+        let mut book = Book::export_list(b"{ f; };").unwrap();
+        let mut text = b"g;".to_vec();
+        text.resize(65_536, b';');
+        assert_eq!(book.add_symbol(&text, false), Ok(1..2));
+        assert_eq!(book.buffers.rooms(), book.buffers.used());
+        assert_eq!(book.add_symbol(&text, false), Ok(2..3));
+        let rooms = book.buffers.rooms();
+        assert_eq!((rooms.lines, rooms.pool, rooms.journal), (16, 4, 4));
     }
 
     #[test]

@@ -5,8 +5,7 @@
 //! says, on every input; this crate lends it memory. Every call ends with an answer or a numbered
 //! [`Refusal`], whatever the bytes.
 //!
-//! Which line gave `haze_month` its version, and what would the library export without the wildcard
-//! line?
+//! What version has `haze_month`, and what would the library export without the wildcard line?
 //!
 //! ```
 //! use tunoyaket::{Book, Section};
@@ -32,7 +31,8 @@
 //!
 //! The crate links the library's archive, for x86-64. `rt staticlib c_api` makes it in the
 //! repository, where it is looked for; the environment variable `TUNOYAKET_C_ARCHIVE` names another
-//! place. No other crate is needed.
+//! place, by its whole path: a relative one is taken from this crate's folder. `cargo doc` needs
+//! the archive too. No other crate is needed.
 
 #![deny(missing_docs)]
 #![deny(unsafe_code)]

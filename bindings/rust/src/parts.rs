@@ -5,8 +5,10 @@
 pub enum Kind {
     /// A version script.
     Regular,
-    /// A version script as rustc writes it: one body without a name, exact globals, and `local:
-    /// *;`. No symbol has a version under it, and it can't be edited.
+    /// A version script as rustc writes it: one body without a name, with only exact names as
+    /// globals, no extern block among them, and a bare `*` among its locals. No symbol has a
+    /// version under it, and it can't be edited. The same body with a name is
+    /// [`Regular`](Kind::Regular).
     Rust,
     /// An export list.
     ExportList,
@@ -73,7 +75,8 @@ impl VersionIndex {
     /// empty.
     pub const GLOBAL: VersionIndex = VersionIndex(1);
 
-    /// That of a node.
+    /// That of a named node. Of node 0 it is [`GLOBAL`](VersionIndex::GLOBAL), which is not what a
+    /// book answers: a symbol on which a line of node 0 decides has no version.
     ///
     /// # Panics
     ///
@@ -92,7 +95,7 @@ impl VersionIndex {
         self.0
     }
 
-    /// The named node that it is the version of.
+    /// The named node that it is the version of: none of [`GLOBAL`](VersionIndex::GLOBAL).
     pub fn node(self) -> Option<NodeNumber> {
         (self != VersionIndex::GLOBAL).then_some(NodeNumber(self.0 - 1))
     }

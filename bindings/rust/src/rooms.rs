@@ -1,5 +1,5 @@
 //! How large the buffers are. Zeros stand behind a book's contents, so a book is moved to other
-//! rooms by adding zeros or cutting them off.
+//! rooms by adding zeros behind them or cutting those off.
 
 use crate::calls::Buffers;
 
@@ -59,6 +59,24 @@ impl Rooms {
             journal: 0,
         }
         .at_most(most)
+    }
+
+    /// Where more is needed than is there: what is needed, and twice what is there at least, up to
+    /// the limits. No edit needs more nodes or names.
+    pub(crate) fn enlarged(self, needed: Rooms) -> Rooms {
+        let to = |room: usize, needed: usize, limit: usize| {
+            if needed <= room {
+                room
+            } else {
+                needed.max(2 * room).min(limit)
+            }
+        };
+        Rooms {
+            lines: to(self.lines, needed.lines, LINE_WIDTH * LINE_LIMIT),
+            pool: to(self.pool, needed.pool, POOL_LIMIT),
+            journal: to(self.journal, needed.journal, EDIT_WIDTH * EDIT_LIMIT),
+            ..self
+        }
     }
 
     fn at_most(self, most: Rooms) -> Rooms {
@@ -136,26 +154,18 @@ impl Buffers {
     /// Adds zeros where an edit could have too little room, up to the limits. Says whether there
     /// was such a place.
     pub(crate) fn grow(&mut self, needs: Needs) -> bool {
-        let used = self.used();
-        let lines = used.lines + LINE_WIDTH * needs.lines;
-        let pool = used.pool + needs.bytes;
-        let journal = used.journal + EDIT_WIDTH * needs.edits;
-        // not `||`, which would leave the others as they are
-        extend(&mut self.lines, lines, LINE_WIDTH * LINE_LIMIT)
-            | extend(&mut self.pool, pool, POOL_LIMIT)
-            | extend(&mut self.journal, journal, EDIT_WIDTH * EDIT_LIMIT)
+        let (rooms, used) = (self.rooms(), self.used());
+        let enlarged = rooms.enlarged(Rooms {
+            lines: used.lines + LINE_WIDTH * needs.lines,
+            pool: used.pool + needs.bytes,
+            journal: used.journal + EDIT_WIDTH * needs.edits,
+            ..used
+        });
+        self.lines.resize(enlarged.lines, 0);
+        self.pool.resize(enlarged.pool, 0);
+        self.journal.resize(enlarged.journal, 0);
+        enlarged != rooms
     }
-}
-
-/// Lengthens a buffer that is shorter than what is needed, to twice its length at least, and not
-/// over the limit.
-fn extend<T: Copy + Default>(buffer: &mut Vec<T>, needed: usize, limit: usize) -> bool {
-    let room = buffer.len();
-    if needed <= room || room == limit {
-        return false;
-    }
-    buffer.resize(needed.max(2 * room).min(limit), T::default());
-    true
 }
 
 #[cfg(test)]
