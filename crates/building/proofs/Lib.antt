@@ -1,4 +1,2 @@
-pub mod Kept
 pub mod States
 pub mod NodeEvents
-pub mod LineEvents

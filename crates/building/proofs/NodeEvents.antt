@@ -1,5 +1,5 @@
 -- What the events of nodes make of a book in buffers: a named node begins, where there is room for it, and ends, with its parent. The premises are what
--- take_node and take_parent of src/taken.rt learned. Assumes nothing.
+-- take_node and take_parent of src/lib.rt learned. Assumes nothing.
 use Prim.Native.Nat.{ℕ, _+_, _-_, _*_, _≤_, _<_}
 use mathlib.Core.Path.{_≡_, refl}
 use mathlib.Core.List.{List, [], _∷_, _++_}

@@ -1,10 +1,12 @@
--- A book while its text is read, as it stands in the buffers, and what each event makes of it there. Assumes nothing.
+-- A book while its text is read, as it stands in the buffers, and what each event makes of it there; the buffers before the first. Assumes nothing.
 use Prim.Native.Nat.{ℕ, _*_}
 use mathlib.Core.Path.{_≡_}
 use mathlib.Core.List.{List, []}
 use mathlib.Core.Bool.{Bool, true, false, _&&_, _||_}
 use lib.Dec.{eqb, leb, ltb}
+use lib.ListN.{length}
 use Rattle.numbers.specs.Limits.{script-limit}
+use Rattle.packing.specs.Padding.{zeros}
 use Rattle.storing.specs.Keeping.{keep}
 use Rattle.book.specs.declared.Counts.{Counts}
 use Rattle.book.specs.Books.{edition-of, global, regular}
@@ -77,3 +79,15 @@ outside-block g = record {
   mixed = g .mixed;
   starred = g .starred;
 }
+
+-- ---- before the first event
+-- a buffer that was cleared
+abbrev pub Clear : List ℕ → Type 0
+Clear l = l ≡ zeros (length l)
+
+-- and those that an opening fills, from n m l q
+pub record Cleared (n m l q n′ m′ l′ q′ : List ℕ) : Type 0 where
+  pub nodes : n′ ≡ zeros (length n)
+  pub names : m′ ≡ zeros (length m)
+  pub lines : l′ ≡ zeros (length l)
+  pub pool : q′ ≡ zeros (length q)

@@ -1,33 +1,25 @@
 // What each event of a reading makes of a book in lent buffers. Definitions: specs/Building.antt and specs/State.antt, from document 01, 'Reading', 'The book' and
-// 'Numbers that say no'. `take_node`, `take_line` and `take_parent` are for a caller who knows how far the book is.
+// 'Numbers that say no'. `take_node` and `take_parent` are for a caller who knows how far the book is. A line is taken by the crate `building_lines`.
 ghost use mathlib.Core.Path.{_≡_};
-ghost use mathlib.Core.Bool.{true, not, _&&_, _||_};
-ghost use mathlib.Core.List.{List, []};
-ghost use Prim.Native.Nat.{ℕ, _*_, _≤_, _<_};
-ghost use lib.Dec.{eqb, ltb};
+ghost use mathlib.Core.Bool.{true, _||_};
+ghost use Prim.Native.Nat.{_*_, _≤_, _<_};
+ghost use lib.Dec.{eqb};
 ghost use lib.ListN.{length};
 ghost use Rattle.numbers.specs.Limits.{node-limit, script-limit};
 ghost use Rattle.packing.specs.Tables.{packs};
-ghost use Rattle.book.specs.Books.{all-class, exact-class, global, local};
-ghost use Rattle.book.specs.Layout.{five, node-form};
+ghost use Rattle.book.specs.Books.{global};
+ghost use Rattle.book.specs.Layout.{node-form};
 ghost use Rattle.book.specs.View.{any-node};
-ghost use Rattle.rooms.specs.Rooms.{pool-room};
-ghost use Rattle.building.specs.State.{Took-line, Took-node, Took-parent, inside-block, outside-block};
-use book::LINE_WIDTH;
+ghost use Rattle.building.specs.State.{Cleared, Took-node, Took-parent, inside-block, outside-block};
 use book::NODE_WIDTH;
-use book::REGULAR;
-use book::editions::edition_of;
 use book::nodes::first_named;
-use classes::class_number;
 use copying::put_bytes;
-use copying::put_four;
 use copying::put_three;
 use numbers::NO_ROOM;
 use numbers::NODE_LIMIT;
 use numbers::UNKNOWN_PARENT;
-use rooms::has_row;
-use rooms::put_token;
-use storing::Stored;
+use packing::clear_bytes;
+use packing::clear_numbers;
 
 // How far a book is while its text is read: how many nodes, name bytes, lines and pool bytes it has; whether the reading is in an extern block; whether the
 // globals have what the Rust kind's have not; and whether a bare `*;` stands among the locals.
@@ -45,6 +37,16 @@ pub struct Progress {
 pub enum Taking {
     On(Progress),
     No(u32, usize),
+}
+
+// Zeros in the buffers that an opening fills.
+pub fn clear_book(nodes: &mut [u32], names: &mut [u8], lines: &mut [u32], pool: &mut [u8])
+    ensures { λ _. ⌜ Cleared (now (nodes .entry)) (now (names .entry)) (now (lines .entry)) (now (pool .entry)) (now (nodes .exit)) (now (names .exit)) (now (lines .exit)) (now (pool .exit)) ⌝ }
+{
+    clear_numbers(nodes);
+    clear_bytes(names);
+    clear_numbers(lines);
+    clear_bytes(pool);
 }
 
 // A named node begins.
@@ -114,81 +116,6 @@ pub fn take_closed(g: Progress) -> Progress
         inside: false,
         mixed: g.mixed,
         starred: g.starred,
-    }
-}
-
-// Whether the globals have what the Rust kind's have not, behind a line of that section and class.
-fn mixed_behind(g: Progress, section: u32, class: u32) -> bool
-    ensures { λ r. ⌜ r ≡ g .mixed || (eqb section global && not (eqb class exact-class)) ⌝ }
-{
-    if g.mixed {
-        return true;
-    }
-    if section != 0 {
-        return false;
-    }
-    class != 0
-}
-
-// Whether a bare `*;` stands among the locals, behind a line of that section and class.
-fn starred_behind(g: Progress, section: u32, class: u32) -> bool
-    ensures { λ r. ⌜ r ≡ g .starred || (eqb section local && (eqb class all-class && not (g .inside))) ⌝ }
-{
-    if g.starred {
-        return true;
-    }
-    if section != 1 {
-        return false;
-    }
-    if class != 4 {
-        return false;
-    }
-    !g.inside
-}
-
-// A line of the node that began last.
-pub fn take_line(
-    g: Progress,
-    p: usize,
-    section: u32,
-    language: u32,
-    token: &[u8],
-    lines: &mut [u32],
-    pool: &mut [u8],
-) -> Taking
-    requires { ⌜ (g .pool ≤ pool-room (now pool)) × (0 < g .nodes) × (g .nodes ≤ node-limit) × (section ≤ 1) × (language ≤ 1) ⌝ }
-    ensures { λ r. ⌜ Took-line g p section language (now (token .entry)) (now (lines .entry)) (now (pool .entry)) r (now (lines .exit)) (now (pool .exit)) ⌝ }
-{
-    let n = g.lines;
-    let at = g.pool;
-    match put_token(edition_of(REGULAR), token, at, pool) {
-        Stored::Refused(no) => Taking::No(no, p),
-        Stored::As(class, size) => {
-            if !has_row(lines, n) {
-                return Taking::No(NO_ROOM, p);
-            }
-            let k = class_number(class);
-            let node = (g.nodes - 1) as u32;
-            put_four(
-                lines,
-                LINE_WIDTH * n,
-                node,
-                k * 4 + section * 2 + language,
-                at as u32,
-                size as u32,
-            );
-            let mixed = mixed_behind(g, section, k);
-            let starred = starred_behind(g, section, k);
-            Taking::On(Progress {
-                nodes: g.nodes,
-                names: g.names,
-                lines: n + 1,
-                pool: at + size,
-                inside: g.inside,
-                mixed,
-                starred,
-            })
-        }
     }
 }
 

@@ -22,7 +22,7 @@ pub extern "C" fn tuno_add(
         (λ b w. add-asked b w node section language (now (token .entry)))
         r (now (counts .exit)) (five (now (nodes .entry)) (now (names .entry)) (now (lines .exit)) (now (pool .exit)) (now (journal .exit))) ⌝ }
 {
-    lent_edits::add(
+    lent_additions::add(
         counts,
         nodes,
         names,
@@ -104,7 +104,7 @@ pub extern "C" fn tuno_add_symbol(
         (λ b w. symbol-asked b w (now (text .entry)) (flag «without_semicolon»))
         r (now (counts .exit)) (five (now (nodes .entry)) (now (names .entry)) (now (lines .exit)) (now (pool .exit)) (now (journal .exit))) ⌝ }
 {
-    lent_edits::add_symbol(
+    lent_additions::add_symbol(
         counts,
         nodes,
         names,

@@ -1,9 +1,9 @@
 // Opening a text into lent buffers.
-ghost use Rattle.reading.specs.Places.{at-list, at-script};
+ghost use Rattle.cursors.specs.Places.{at-list, at-script};
 ghost use Rattle.book.specs.Layout.{five};
 ghost use Rattle.lending.specs.Calls.{Opens};
-use reading::scripts::AT_LIST;
-use reading::scripts::AT_SCRIPT;
+use cursors::places::AT_LIST;
+use cursors::places::AT_SCRIPT;
 
 #[no_mangle]
 pub extern "C" fn tuno_open_version_script(

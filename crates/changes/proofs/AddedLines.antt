@@ -20,7 +20,7 @@ use Rattle.book.specs.Layout.{Buffers, edit-width, line-form, line-width}
 use Rattle.book.specs.Sanity.{edit-ok, in-range, kind-allows, line-ok, nodes-good}
 use Rattle.book.specs.View.{Fits}
 use Rattle.rooms.specs.Rooms.{edit-room, line-room}
-use Rattle.building.proofs.Kept.{kept-line}
+use Rattle.building_lines.proofs.Kept.{kept-line}
 use Rattle.changes.specs.Trial.{with-line}
 
 -- a book has a node 0

@@ -26,7 +26,7 @@ use Rattle.book.proofs.Forms.{edit-laws, line-laws}
 use Rattle.book.proofs.Views.{Layout, Rooms}
 use Rattle.rooms.specs.Rooms.{edit-room, line-room}
 use Rattle.building.specs.Building.{part}
-use Rattle.opening.specs.State.{Lies}
+use Rattle.building_events.specs.Events.{Lies}
 use Rattle.changes.specs.Changes.{Change, no, to}
 use Rattle.changes.specs.Trial.{append, append-kept, with-line}
 use Rattle.changes.specs.Symbols.{add-event}

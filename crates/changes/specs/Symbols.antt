@@ -9,8 +9,8 @@ use Rattle.numbers.specs.Limits.{token-limit}
 use Rattle.numbers.specs.Refusals.{no-book, too-long, wrong-kind}
 use Rattle.cursors.specs.declared.Event.{Event}
 use Rattle.cursors.specs.declared.Event.the-variants.{Node, Body, Section, Extern, Closed, Line, Parent}
+use Rattle.cursors.specs.Places.{at-bare, at-symbol}
 use Rattle.reading.specs.Events.{Outcome, accepted, refused, Reading, reading}
-use Rattle.reading.specs.Places.{at-bare, at-symbol}
 use Rattle.book.specs.Books.{Book, export, global}
 use Rattle.book.specs.Layout.{Buffers}
 use Rattle.building.specs.Building.{part}

@@ -1,10 +1,12 @@
-// Where a reading stands, what a step of it answers, and a cursor's moves. Definitions: specs/Moves.antt. `move_to`, `with_section` and `with_language` are
-// leaves of the reader. Fields are copied, so that each function is covered.
+// Where a reading stands, what a step of it answers, a cursor's moves, and the places of the grammar (`places`). Definitions: specs/Moves.antt and
+// specs/Places.antt. `move_to`, `with_section` and `with_language` are leaves of the reader. Fields are copied, so that each function is covered.
 ghost use mathlib.Core.Path.{_≡_};
 ghost use Rattle.cursors.specs.Moves.{in-language, in-section, moved, start};
 use linker_script::last_close;
 
-// Where a reading stands: the place in the text, the place in the grammar (reading/specs/Places.antt), the section and language that a line there gets,
+pub mod places;
+
+// Where a reading stands: the place in the text, the place in the grammar (specs/Places.antt), the section and language that a line there gets,
 // and the place from which on the text has no `};`.
 pub struct Cursor {
     pub at: usize,
@@ -51,7 +53,7 @@ pub enum Step {
     Refused(u32, usize),
 }
 
-// A reading starts at the text's first byte, at a place of the grammar (reading/specs/Places.antt).
+// A reading starts at the text's first byte, at a place of the grammar (specs/Places.antt).
 pub fn start_at(place: u32, s: &[u8]) -> Cursor
     ensures { λ r. ⌜ r ≡ start place (now (s .entry)) ⌝ }
 {

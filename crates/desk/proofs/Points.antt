@@ -14,11 +14,12 @@ use Rattle.storing.specs.Keeping.{unescaped, unescape, keep-when, keep-glob, ke
 use Rattle.linker_script.specs.Finding.{first-in, first-from, last-in, last-close}
 use Rattle.linker_script.specs.Skip.{blank, move, skip-past, skip}
 use Rattle.linker_script.specs.Trim.{white, trim-end}
-use Rattle.reading.specs.Places.{at-list, at-script}
+use Rattle.cursors.specs.Places.{at-list, at-script}
 use Rattle.cursors.specs.Moves.{start}
 use Rattle.tokens.specs.Tokens.{begins, named, name-in, to-semicolon, to-brace, extern-end, bare-extern-end, bare-end, bare-skip}
 use Rattle.matchers.specs.Matchers.{line-to, extern-open, extern-at, extern-inside, in-extern, in-bare, matcher, bare-line, bare-matcher}
-use Rattle.reading.specs.Scripts.{name-to, node-at, script-at, parent-to, parent-at, node-end, sole-end, inside-body, body-at, sole-at, list-at, opening-at, start-script, go-node, go-body, go-sole, go-list, next-script, next-list, next-symbol, next}
+use Rattle.bodies.specs.Bodies.{name-to, node-at, script-at, parent-to, parent-at, node-end, sole-end, inside-body, body-at, sole-at, list-at}
+use Rattle.reading.specs.Scripts.{opening-at, start-script, go-node, go-body, go-sole, go-list, next-script, next-list, next-symbol, next}
 use Rattle.reading.specs.Events.{reading-within, reading-from, reading}
 use Rattle.packing.specs.Padding.{all-zero, pad, zeros}
 use Rattle.packing.specs.Tables.{any, every, fine, packed, packs, rows, things}

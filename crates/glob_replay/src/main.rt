@@ -58,34 +58,46 @@ fn same_refused(token: &[u8], refusal: u64) -> bool {
     told == refusal && stands(&out, b"")
 }
 
+// Each of the two below answers for a line from its second field on, which begins at this place: of a token; of a pattern, unescaped (U) or matched (M).
+fn same_token(token: &[u8], line: &[u8], at: usize) -> bool
+    requires { ⌜ at ≤ 516 ⌝ }
+{
+    if byte_or_zero(line, at) == b'!' {
+        return same_refused(token, digit(line, at + 2));
+    }
+    let field = read_field(line, at + 2);
+    let bytes = field.bytes;
+    let n = field.len;
+    same_stored(token, digit(line, at), front(&bytes, n))
+}
+
+fn same_pattern(tag: u8, pattern: &[u8], line: &[u8], at: usize) -> bool
+    requires { ⌜ at ≤ 516 ⌝ }
+{
+    let field = read_field(line, at);
+    let bytes = field.bytes;
+    let n = field.len;
+    let second = front(&bytes, n);
+    if tag == b'U' {
+        return same_unescaped(pattern, second);
+    }
+    tag == b'M' && glob_match_matches(pattern, second) == 256 * digit(line, field.next)
+}
+
 fn same_line(line: &[u8]) -> bool {
     let tag = byte_or_zero(line, 0);
-    let first = read_field(line, 2);
-    let a = first.bytes;
-    let n = first.len;
-    let at = first.next;
+    let field = read_field(line, 2);
+    let bytes = field.bytes;
+    let n = field.len;
+    let at = field.next;
+    let first = front(&bytes, n);
     if tag == b'C' {
-        return glob_match_class(front(&a, n)) == 256 * digit(line, at);
-    }
-    if tag == b'S' && byte_or_zero(line, at) == b'!' {
-        return same_refused(front(&a, n), digit(line, at + 2));
+        return glob_match_class(first) == 256 * digit(line, at);
     }
     if tag == b'S' {
-        let second = read_field(line, at + 2);
-        let b = second.bytes;
-        let m = second.len;
-        return same_stored(front(&a, n), digit(line, at), front(&b, m));
+        return same_token(first, line, at);
     }
-    let second = read_field(line, at);
-    let b = second.bytes;
-    let m = second.len;
-    if tag == b'U' {
-        return same_unescaped(front(&a, n), front(&b, m));
-    }
-    if tag == b'M' {
-        return glob_match_matches(front(&a, n), front(&b, m)) == 256 * digit(line, second.next);
-    }
-    false
+    same_pattern(tag, first, line, at)
 }
 
 fn replay(text: &[u8]) -> Counts

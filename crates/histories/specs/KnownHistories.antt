@@ -11,7 +11,7 @@ use mathlib.Core.Bool.{true, false}
 use mathlib.Core.Option.{none}
 use Rattle.lists.specs.Texts.{codes}
 use Rattle.packing.specs.Padding.{zeros}
-use Rattle.reading.specs.Places.{at-list, at-script}
+use Rattle.cursors.specs.Places.{at-list, at-script}
 use Rattle.book.specs.Books.{cxx, general, global, local}
 use Rattle.book.specs.Layout.{Buffers, edit-width, five, line-width, node-width}
 use Rattle.book.specs.View.{view}

@@ -1,4 +1,4 @@
--- The journal's checks (src/journal.rt): its rows, one by one, and its edits, taken back one by one from the latest on. The premises are what the code has
+-- The journal's checks: its rows, one by one, and its edits, taken back one by one from the latest on. The premises are what the code has
 -- learned. Assumes nothing.
 use Prim.Native.Nat.{ℕ, zero, suc, _+_, _-_, _*_, _/_, _≤_, _<_}
 use mathlib.Core.Path.{_≡_, refl, sym, ap, ap₂, _∙_}

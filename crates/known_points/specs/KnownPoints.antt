@@ -12,7 +12,7 @@ use Rattle.pattern.specs.declared.Edition.the-variants.{Reld}
 use Rattle.pattern.specs.Patterns.{elements, matches}
 use Rattle.classes.specs.declared.Class.the-variants.{Exact, Escaped, NonStar, Star, All}
 use Rattle.storing.specs.Keeping.{Keep, kept, refused, keep}
-use Rattle.reading.specs.Places.{at-script}
+use Rattle.cursors.specs.Places.{at-script}
 use Rattle.packing.specs.Padding.{zeros}
 use Rattle.book.specs.Books.{Book}
 use Rattle.book.specs.Layout.{Buffers, five}

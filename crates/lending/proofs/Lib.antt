@@ -1,1 +1,2 @@
+pub mod EditExits
 pub mod Lending

@@ -1,7 +1,9 @@
-// A book that is lent as numbers and slices, the way a C program has it: its counts, six numbers, and a number handed back. Definitions: specs/Calls.antt.
+// A book that is lent as numbers and slices, the way a C program has it: its counts, six numbers, a number handed back, and what an edit answered. Definitions: specs/Calls.antt.
 ghost use mathlib.Core.Path.{_≡_};
-ghost use Rattle.lending.specs.Calls.{counts-put, lent-counts, number-told, value-left};
+ghost use Rattle.changes.specs.Changes.{edit-refusal};
+ghost use Rattle.lending.specs.Calls.{counts-put, counts-told, lent-counts, number-told, value-left};
 use book::Counts;
+use changes::Edited;
 use numbers::NO_ROOM;
 
 // How many numbers the counts of a book are.
@@ -61,4 +63,17 @@ pub fn answer(no: u32, value: u32, out: &mut [u32]) -> u32
     }
     out[0] = value;
     0
+}
+
+// What an edit answered, with the counts of the book behind it.
+pub fn finish(r: Edited, counts: &mut [u32]) -> u32
+    ensures { λ n. ⌜ (n ≡ edit-refusal r) × (now (counts .exit) ≡ counts-told (now (counts .entry)) r) ⌝ }
+{
+    match r {
+        Edited::Refused(no) => no,
+        Edited::Done(c) => {
+            put_counts(counts, c);
+            0
+        }
+    }
 }

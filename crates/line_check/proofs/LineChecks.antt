@@ -1,4 +1,4 @@
--- The exits of the checks of one line (src/lines.rt), from its numbers and its bytes. The premises are what the code has learned.
+-- The exits of the checks of one line, from its numbers and its bytes. The premises are what the code has learned.
 -- Assumes nothing.
 use Prim.Native.Nat.{ℕ, _+_, _/_, _%_, _≤_, _<_}
 use mathlib.Core.Path.{_≡_, refl, sym, _∙_}

@@ -1,4 +1,4 @@
--- The rows of lines, one by one (src/lines.rt): the check of a packing, and the search for a general `*` among the locals. The premises are what the code
+-- The rows of lines, one by one: the check of a packing, and the search for a general `*` among the locals. The premises are what the code
 -- has learned. Assumes nothing.
 use Prim.Native.Nat.{ℕ, zero, suc, _+_, _-_, _*_, _/_, _%_, _≤_, _<_}
 use mathlib.Core.Path.{_≡_, refl, sym, ap, _∙_}

@@ -1,1 +1,1 @@
-mod Scripts
+mod Inputs

@@ -1,27 +1,19 @@
 -- The whole of what verlist prints, as 01 has it, and what is left in the buffers that it is lent. Assumes nothing.
 use Prim.Native.Nat.{ℕ, _+_, _*_}
-use mathlib.Core.Path.{_≡_}
-use mathlib.Core.List.{List, [], _++_}
+use mathlib.Core.List.{List}
 use mathlib.Core.Bool.{Bool, cond}
-use mathlib.Core.Option.{some}
 use lib.Dec.{leb, ltb}
 use lib.ListN.{length}
 use Rattle.numbers.specs.Refusals.{no-room, too-long}
 use Rattle.lists.specs.Front.{front}
 use Rattle.packing.specs.Padding.{zeros}
-use Rattle.reading.specs.Places.{at-script}
+use Rattle.cursors.specs.Places.{at-script}
 use Rattle.book.specs.Layout.{Buffers, edit-width, five, line-width, node-width}
-use Rattle.opening.specs.Opening.{Opening, opens, declined, left, opening}
-use Rattle.listing.specs.declared.listed.Listed.{Listed}
-use Rattle.input.specs.Splitting.{input-limit, lines-in, mark, part-before, symbols-by}
-use Rattle.printing.specs.Printing.{refused-line}
-use Rattle.rendering.specs.Lines.{counts-answered, tail-room}
-use Rattle.listing_symbols.specs.SymbolLines.{answers}
-
--- "It prints version and parent counts, then …", "one symbol a line (a last LF may lack)", "or `refused` and the number for the script"
-unfoldable pub printed : Opening → List ℕ → List ℕ
-printed (opens w) symbols = counts-answered (some w) ++ answers (some w) (lines-in [] symbols)
-printed (declined n p) symbols = refused-line n
+use Rattle.opening.specs.Opening.{Opening, declined, left, opening}
+use Rattle.input.specs.Splitting.{input-limit, mark, part-before, symbols-by}
+use Rattle.rendering.specs.Lines.{tail-room}
+use Rattle.listing_script.specs.declared.Listed.{Listed}
+use Rattle.listing_script.specs.Script.{printed, with-refusal}
 
 -- the opening of the script, in buffers with the rooms of b; "longer input prints `refused 1`"
 unfoldable pub input-opening : Buffers → List ℕ → Opening
@@ -34,19 +26,6 @@ listing b s = printed (input-opening b s) (symbols-by s (mark s))
 -- ---- in a lent buffer of room for every listing of that length; in a smaller one nothing is done
 unfoldable pub has-room : List ℕ → List ℕ → Bool
 has-room s out = leb (tail-room + 15 * length s) (length out)
-
--- how many bytes are printed, and the script's refusal with its place, or 0
-abbrev pub with-refusal : ℕ → Opening → Listed
-with-refusal n (opens w) = record { length = n; refusal = 0; place = 0 }
-with-refusal n (declined m p) = record { length = n; refusal = m; place = p }
-
--- the same of what is printed for an opening
-abbrev pub printed-told : Opening → List ℕ → Listed
-printed-told o symbols = with-refusal (length (printed o symbols)) o
-
--- what is printed for an opening of the buffers b stands at the front of d, which is l then, r is told of it, and the buffers are as the opening leaves them
-abbrev pub Prints : Buffers → Opening → List ℕ → List ℕ → Buffers → List ℕ → Listed → Type 0
-Prints b o symbols d b′ l r = (r ≡ printed-told o symbols) × (l ≡ front (printed o symbols) d) × (b′ ≡ left b o)
 
 -- without room: 0 would say that it is done
 abbrev pub nothing-listed : Listed

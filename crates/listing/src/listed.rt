@@ -1,97 +1,32 @@
 // The whole of what verlist prints, into a lent buffer.
 ghost use mathlib.Core.Path.{_≡_};
-ghost use Prim.Native.Nat.{_+_, _*_, _<_, _≤_};
+ghost use mathlib.Core.Bool.{cond};
+ghost use Prim.Native.Nat.{_+_, _*_, _≤_};
+ghost use lib.Dec.{leb};
 ghost use lib.ListN.{length};
-ghost use Rattle.numbers.specs.Refusals.{too-long};
-ghost use Rattle.lists.specs.Front.{front};
-ghost use Rattle.reading.specs.Places.{at-script};
 ghost use Rattle.book.specs.Layout.{five};
-ghost use Rattle.opening.specs.Opening.{cleared, declined, opening};
-ghost use Rattle.printing.specs.Printing.{refused-line};
-ghost use Rattle.listing.specs.Listing.{Prints, book-left, listed, nothing-listed, out-left, with-refusal};
+ghost use Rattle.input.specs.Splitting.{mark, part-before};
+ghost use Rattle.rendering.specs.Lines.{tail-room};
+ghost use Rattle.listing.specs.Listing.{book-left, listed, nothing-listed, out-left};
 use input::splitting::find_mark;
 use linker_script::Found;
-use listing_symbols::render_symbols;
+use listing_script::Listed;
+use listing_script::render_script;
+use listing_script::render_too_long;
 use numbers::NO_ROOM;
-use numbers::TOO_LONG;
-use packing::clear_bytes;
-use packing::clear_numbers;
 use rendering::TAIL_ROOM;
-use rendering::render_counts;
-use rendering::render_refused;
-use version_script::open;
 
 // The longest input.
 pub const INPUT_LIMIT: usize = 65536;
 
-// How many bytes are printed, and the refusal with its place, or 0: the script's, that of an input over the limit, or that of an `out` without room.
-pub struct Listed {
-    pub length: usize,
-    pub refusal: u32,
-    pub place: usize,
-}
-
-// The script's refusal, and its line.
-fn render_listing_refused(no: u32, place: usize, out: &mut [u8]) -> Listed
-    requires { ⌜ 48 ≤ length (now out) ⌝ }
-    ensures { λ r. ⌜ (r ≡ with-refusal (length (refused-line no)) (declined no place)) × (now (out .exit) ≡ front (refused-line no) (now (out .entry))) ⌝ }
+// Whether `out` has room for whatever is printed for an input of that length: `has-room` of specs/Listing.antt, by the lengths.
+fn has_room(text: usize, out: usize) -> bool
+    ensures { λ r. ⌜ r ≡ leb (tail-room + 15 * text) out ⌝ }
 {
-    let length = render_refused(no, out);
-    Listed {
-        length,
-        refusal: no,
-        place,
+    if out < TAIL_ROOM {
+        return false;
     }
-}
-
-// The refusal of an input over the limit, and its line; the buffers are zeros then, as behind any refused opening.
-fn render_too_long(
-    nodes: &mut [u32],
-    names: &mut [u8],
-    lines: &mut [u32],
-    pool: &mut [u8],
-    journal: &mut [u32],
-    out: &mut [u8],
-) -> Listed
-    requires { ⌜ 48 ≤ length (now out) ⌝ }
-    ensures { λ r. ⌜ (r ≡ with-refusal (length (refused-line too-long)) (declined too-long 0)) × (now (out .exit) ≡ front (refused-line too-long) (now (out .entry)))
-        × (five (now (nodes .exit)) (now (names .exit)) (now (lines .exit)) (now (pool .exit)) (now (journal .exit)) ≡ cleared (five (now (nodes .entry)) (now (names .entry)) (now (lines .entry)) (now (pool .entry)) (now (journal .entry)))) ⌝ }
-{
-    clear_numbers(nodes);
-    clear_bytes(names);
-    clear_numbers(lines);
-    clear_bytes(pool);
-    clear_numbers(journal);
-    render_listing_refused(TOO_LONG, 0, out)
-}
-
-// A script and its symbols' lines.
-fn render_script(
-    script: &[u8],
-    symbols: &[u8],
-    nodes: &mut [u32],
-    names: &mut [u8],
-    lines: &mut [u32],
-    pool: &mut [u8],
-    journal: &mut [u32],
-    out: &mut [u8],
-) -> Listed
-    requires { ⌜ (48 ≤ length (now out)) × (0 < length (now symbols) → 84 + 15 * length (now symbols) ≤ length (now out)) ⌝ }
-    ensures { λ r. ⌜ Prints (five (now (nodes .entry)) (now (names .entry)) (now (lines .entry)) (now (pool .entry)) (now (journal .entry))) (opening at-script (five (now (nodes .entry)) (now (names .entry)) (now (lines .entry)) (now (pool .entry)) (now (journal .entry))) (now (script .entry))) (now (symbols .entry)) (now (out .entry))
-        (five (now (nodes .exit)) (now (names .exit)) (now (lines .exit)) (now (pool .exit)) (now (journal .exit))) (now (out .exit)) r ⌝ }
-{
-    let opened = open(script, nodes, names, lines, pool, journal);
-    if opened.refusal != 0 {
-        return render_listing_refused(opened.refusal, opened.place, out);
-    }
-    let c = opened.counts;
-    let from = render_counts(c, nodes, names, lines, pool, journal, out);
-    let length = render_symbols(c, nodes, names, lines, pool, journal, symbols, from, out);
-    Listed {
-        length,
-        refusal: 0,
-        place: 0,
-    }
+    text <= (out - TAIL_ROOM) / 15
 }
 
 // Where `out` has no room.
@@ -103,6 +38,27 @@ fn nothing_listed() -> Listed
         refusal: NO_ROOM,
         place: 0,
     }
+}
+
+// Where the script ends: before the line `%%`, or with the input.
+fn script_end(text: &[u8]) -> usize
+    ensures { λ r. ⌜ r ≡ length (part-before (now (text .entry)) (mark (now (text .entry)))) ⌝ }
+{
+    match find_mark(text) {
+        Found::Nowhere => text.len(),
+        Found::Here(p) => p,
+    }
+}
+
+// Where the symbols' lines begin: behind the three bytes of that line, or at the input's end.
+fn symbols_start(end: usize, text: usize) -> usize
+    requires { ⌜ end ≤ text ⌝ }
+    ensures { λ r. ⌜ r ≡ cond (leb text (end + 3)) text (end + 3) ⌝ }
+{
+    if text - end <= 3 {
+        return text;
+    }
+    end + 3
 }
 
 // What is printed for an input, whole. `out` has to have room for 48 bytes and 15 for each byte of the input. Where it has less, nothing is done, and the
@@ -121,41 +77,22 @@ pub fn render_listing(
         × (five (now (nodes .exit)) (now (names .exit)) (now (lines .exit)) (now (pool .exit)) (now (journal .exit))
         ≡ book-left (five (now (nodes .entry)) (now (names .entry)) (now (lines .entry)) (now (pool .entry)) (now (journal .entry))) (now (text .entry)) (now (out .entry))) ⌝ }
 {
-    if out.len() < TAIL_ROOM {
-        return nothing_listed();
-    }
-    if (out.len() - TAIL_ROOM) / 15 < text.len() {
+    if !has_room(text.len(), out.len()) {
         return nothing_listed();
     }
     if INPUT_LIMIT < text.len() {
         return render_too_long(nodes, names, lines, pool, journal, out);
     }
-    match find_mark(text) {
-        Found::Nowhere => render_script(text, &text[..0], nodes, names, lines, pool, journal, out),
-        Found::Here(p) => {
-            let from = p + 3;
-            if text.len() <= from {
-                return render_script(
-                    &text[..p],
-                    &text[..0],
-                    nodes,
-                    names,
-                    lines,
-                    pool,
-                    journal,
-                    out,
-                );
-            }
-            render_script(
-                &text[..p],
-                &text[from..],
-                nodes,
-                names,
-                lines,
-                pool,
-                journal,
-                out,
-            )
-        }
-    }
+    let end = script_end(text);
+    let from = symbols_start(end, text.len());
+    render_script(
+        &text[..end],
+        &text[from..],
+        nodes,
+        names,
+        lines,
+        pool,
+        journal,
+        out,
+    )
 }

@@ -279,6 +279,23 @@ fn same_counts(line: &[u8], at: usize, source: u64, versions: u8, parents: u8) -
     source == 0 && byte_or_zero(line, at) == versions && ends_with(&line[at..], 2, parents)
 }
 
+// Whether a line is one of a text that is opened, and ends with its counts.
+fn same_text(
+    line: &[u8],
+    at: usize,
+    source: u64,
+    c: Counts,
+    nodes: &[u32],
+    names: &[u8],
+    lines: &[u32],
+    pool: &[u8],
+    journal: &[u32],
+) -> bool {
+    let versions = count_answer(version_count(c, nodes, names, lines, pool, journal));
+    let parents = count_answer(parent_count(c, nodes, names, lines, pool, journal));
+    byte_or_zero(line, 0) == b'S' && same_counts(line, at, source, versions, parents)
+}
+
 // A text that is opened, and whether its counts are the same.
 struct Book {
     same: bool,
@@ -290,12 +307,8 @@ struct Book {
     journal: [u32; 2],
 }
 
-fn open_text(line: &[u8]) -> Book {
-    let source = digit(line, 2);
-    let field = read_field(line, 4);
-    let bytes = field.bytes;
-    let n = field.len;
-    let at = field.next;
+// The text of a line whose rest begins at this place.
+fn open_book(line: &[u8], at: usize, source: u64, text: &[u8]) -> Book {
     let mut nodes = [0u32; 30];
     let mut names = [0u8; 100];
     let mut rows = [0u32; 400];
@@ -303,7 +316,7 @@ fn open_text(line: &[u8]) -> Book {
     let mut journal = [0u32; 2];
     let opened = open(
         source,
-        front(&bytes, n),
+        text,
         &mut nodes,
         &mut names,
         &mut rows,
@@ -311,12 +324,18 @@ fn open_text(line: &[u8]) -> Book {
         &mut journal,
     );
     let counts = opened.counts;
-    let refusal = opened.refusal;
-    let versions = count_answer(version_count(counts, &nodes, &names, &rows, &pool, &journal));
-    let parents = count_answer(parent_count(counts, &nodes, &names, &rows, &pool, &journal));
-    let same = byte_or_zero(line, 0) == b'S'
-        && refusal == 0
-        && same_counts(line, at, source, versions, parents);
+    let same = opened.refusal == 0
+        && same_text(
+            line,
+            at,
+            source,
+            counts,
+            &nodes,
+            &names,
+            &rows,
+            &pool,
+            &journal,
+        );
     Book {
         same,
         counts,
@@ -326,6 +345,14 @@ fn open_text(line: &[u8]) -> Book {
         pool,
         journal,
     }
+}
+
+fn open_text(line: &[u8]) -> Book {
+    let source = digit(line, 2);
+    let field = read_field(line, 4);
+    let bytes = field.bytes;
+    let n = field.len;
+    open_book(line, field.next, source, front(&bytes, n))
 }
 
 fn ask_book(text: &[u8], from: usize, book: Book, met: u64, unlike: u64) -> Walked

@@ -1,4 +1,4 @@
--- What the functions of matchers.rt answer of a token, by what they learned of its end, and where they leave the reading. Assumes nothing.
+-- What the functions of src/lib.rt answer of a token, by what they learned of its end, and where they leave the reading. Assumes nothing.
 use Prim.Native.Nat.{ℕ, _+_}
 use mathlib.Core.Path.{_≡_}
 use mathlib.Core.List.{List}

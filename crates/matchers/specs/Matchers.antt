@@ -1,4 +1,4 @@
--- Matchers, as 01 has them under 'Reading'. Here p, q and r are places of the text, and `place` and `inner` places of the grammar (reading/specs/Places.antt):
+-- Matchers, as 01 has them under 'Reading'. Here p, q and r are places of the text, and `place` and `inner` places of the grammar (cursors/specs/Places.antt):
 -- where the reading goes on. Assumes nothing.
 use Prim.Native.Nat.{ℕ, _+_}
 use mathlib.Core.List.{List, [], _∷_}

@@ -16,7 +16,7 @@ use Rattle.cursors.specs.declared.Cursor.{Cursor}
 use Rattle.cursors.specs.declared.Step.{Step}
 use Rattle.cursors.specs.declared.Step.the-variants.{Go, End, Refused}
 use Rattle.cursors.specs.Moves.{start}
-use Rattle.reading.specs.Places.{at-list, at-script, at-symbol}
+use Rattle.cursors.specs.Places.{at-list, at-script, at-symbol}
 use Rattle.reading.specs.Scripts.{next}
 use Rattle.reading.specs.Events.{on-step, reading, reading-from, reading-within}
 use Rattle.reading.proofs.Parts.{next-parts}

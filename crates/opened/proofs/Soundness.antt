@@ -16,7 +16,7 @@ use Rattle.storing.specs.Keeping.{Keep, kept, refused, keep}
 use Rattle.cursors.specs.declared.Cursor.{Cursor}
 use Rattle.cursors.specs.declared.Event.{Event}
 use Rattle.cursors.specs.Moves.{start}
-use Rattle.reading.specs.Places.{at-list, at-symbol}
+use Rattle.cursors.specs.Places.{at-list, at-symbol}
 use Rattle.reading.proofs.Parts.{Marked, Parts, node, start-marked}
 use Rattle.reading.proofs.Origins.{Near, Origin, block-place}
 use Rattle.reading.proofs.Origins as origin
@@ -27,7 +27,7 @@ use Rattle.book.specs.Sanity.{kind-allows, line-ok, name-good, no-semicolon}
 use Rattle.rooms.specs.Rooms.{line-room, node-room}
 use Rattle.building.specs.Building.{Building, Taken, on, no, in-block, new-line, out-of-block, part, take-event, take-kept, take-node, take-parent}
 use Rattle.opening.specs.Opening.{nothing-yet}
-use Rattle.building.proofs.Kept.{kept-line}
+use Rattle.building_lines.proofs.Kept.{kept-line}
 use Rattle.building.proofs.NodeEvents.{every-more}
 use Rattle.opened.proofs.Fitting.{Roomy, roomy-line, roomy-node, roomy-parent, roomy-start}
 use Rattle.opened.proofs.KindLines.{Rust-lines, rust-line, rust-mixed, rust-start}

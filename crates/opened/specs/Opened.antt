@@ -5,7 +5,7 @@ use mathlib.Core.List.{List}
 use mathlib.Core.Bool.{Bool, true, _||_}
 use mathlib.Core.Option.{some}
 use lib.Dec.{eqb}
-use Rattle.reading.specs.Places.{at-list, at-script}
+use Rattle.cursors.specs.Places.{at-list, at-script}
 use Rattle.book.specs.Books.{Book}
 use Rattle.book.specs.Layout.{Buffers, counts-of, laid-out}
 use Rattle.book.specs.View.{view}

@@ -35,11 +35,12 @@ use Rattle.building.specs.declared.Taking.{Taking}
 use Rattle.building.specs.declared.Taking.the-variants.{On, No}
 use Rattle.building.specs.Building.{Taken, no, take-event}
 use Rattle.opening.specs.Opening.{Opening, opens, declined, build, build-reading, cleared, finished, left, nothing-yet, on-taken, opening, told}
-use Rattle.building.specs.State.{Took, building, built}
-use Rattle.opening.specs.State.{Clear, Cleared, Ended, Filled, Finished, Lies}
+use Rattle.building.specs.State.{Clear, Cleared, Took, building, built}
+use Rattle.opening.specs.State.{Ended, Filled, Finished}
 use Rattle.building.proofs.States.{is-state}
+use Rattle.building_events.specs.Events.{Lies}
 use Rattle.opening.proofs.States.{finished-layout, none-yet, starts-built}
-use Rattle.opening.proofs.EachEvent.{Alike, build-alike, parts-lie}
+use Rattle.opening.proofs.EachEvent.{Alike, build-alike, opening-alike, parts-lie}
 
 -- ---- the loop: n m l q are the buffers at entry, and n′ m′ l′ q′ as they are
 pub record Going (place : ℕ) (s n m l q n′ m′ l′ q′ : List ℕ) (c : Cursor) (g : Progress) : Type 0 where
@@ -140,7 +141,32 @@ module _ (place : ℕ) (s n m l q : List ℕ) where
                 ∙ build-alike (five n′ m′ l′ q′ []) (five n″ m″ l″ q″ []) b place s (building h (five n″ m″ l″ q″ [])) (reading-from s d .events) (reading-from s d .outcome);
           }
 
--- ---- the exits of `fill`: y is what `build` answers, and o what the text opens as
+-- ---- the exits of `fill`: n m l q are the buffers at entry
+module _ (place : ℕ) (s n m l q : List ℕ) where
+  -- a refusal before the first event: r is what `refused` answers
+  module _ (r : Opened) (a : Clear n) (b : Clear m) (c : Clear l) (d : Clear q) where
+    unread : (k p : ℕ) → opening place (five n m l q []) s ≡ declined k p → r ≡ told (declined k p)
+        → Filled (opening place (five n m l q []) s) r (five n m l q []) (five n m l q [])
+    unfolding left cleared
+    unread k p z x = (rw z x, rw z (λ i. record { nodes = a i; names = b i; lines = c i; pool = d i; journal = [] }))
+
+    pub fill-long : script-limit < length s → r ≡ told (declined too-long 0) → Filled (opening place (five n m l q []) s) r (five n m l q []) (five n m l q [])
+    unfolding opening
+    fill-long h x = unread too-long 0 (rw (lt-ltb script-limit (length s) h)) x
+
+    pub fill-roomless : length s ≤ script-limit → length n < node-width → r ≡ told (declined no-room 0)
+        → Filled (opening place (five n m l q []) s) r (five n m l q []) (five n m l q [])
+    unfolding opening
+    fill-roomless h k x = unread no-room 0 (rw (le-ltb script-limit (length s) h, lt-leb node-width (length n) k)) x
+
+  -- row 0 has room
+  pub filled-on : (r : Opened) (b′ : Buffers) → length s ≤ script-limit → node-width ≤ length n
+      → Filled (build-reading place (five n m l q []) s nothing-yet (reading place s)) r (five n m l q []) b′
+      → Filled (opening place (five n m l q []) s) r (five n m l q []) b′
+  unfolding opening
+  filled-on r b′ h k t = rw (le-ltb script-limit (length s) h, le-leb node-width (length n) k) t
+
+-- y is what `build` answers, and o what the text opens as
 module _ (o : Opening) (y : Built) (n m l q n₁ m₁ l₁ q₁ : List ℕ) (t : Ended o y (five n m l q []) (five n₁ m₁ l₁ q₁ [])) where
   pub fill-done : (u : Counts) → y ≡ Done u → Filled o (record { refusal = 0; place = 0; counts = u }) (five n m l q []) (five n₁ m₁ l₁ q₁ [])
   unfolding told left
@@ -164,7 +190,7 @@ module _ (o : Opening) (y : Built) (n m l q n₁ m₁ l₁ q₁ : List ℕ) (t :
           let u : declined i p ≡ declined f g = cc in
           (x ∙ ap told u, rw (c .nodes, c .names, c .lines, c .pool, ln, lm, ll, lq))
 
--- ---- the exits of `open`: n m l q j are the buffers as they are lent, and n₀ m₀ l₀ q₀ j₀ as they are cleared
+-- ---- the exit of `open`: n m l q j are the buffers as they are lent, and n₀ m₀ l₀ q₀ j₀ as they are cleared
 empty : (l : List ℕ) → length l ≤ 0 → l ≡ []
 empty [] h = refl
 empty (x ∷ l) h = absurd (omega arith)
@@ -187,20 +213,6 @@ module _ (place : ℕ) (n m l q j s n₀ m₀ l₀ q₀ j₀ : List ℕ) (c : Cl
       (r ≡ told (opening place (five n m l q j) s))
       × (five n′ m′ l′ q′ j₀ ≡ left (five n m l q j) (opening place (five n m l q j) s))
 
-  -- a refusal before the first event: r is what `refused` answers
-  declines : (k p : ℕ) → opening place (five n m l q j) s ≡ declined k p → r ≡ told (declined k p) → Opens n₀ m₀ l₀ q₀
-  unfolding left cleared
-  declines k p z x = (rw z x, rw (z, c .nodes, c .names, c .lines, c .pool, d))
-
-  pub open-long : script-limit < length s → r ≡ told (declined too-long 0) → Opens n₀ m₀ l₀ q₀
-  unfolding opening
-  open-long h x = declines too-long 0 (rw (lt-ltb script-limit (length s) h)) x
-
-  pub open-roomless : length s ≤ script-limit → length n₀ < node-width → r ≡ told (declined no-room 0) → Opens n₀ m₀ l₀ q₀
-  unfolding opening
-  open-roomless h k x =
-      declines no-room 0 (rw (le-ltb script-limit (length s) h, lt-leb node-width (length n) (omega (arith, long n₀ n (c .nodes))))) x
-
   module _ (n₁ m₁ l₁ q₁ : List ℕ) where
     -- the layout in the cleared buffers is that in the lent ones, and a book that is opened has no edits
     laid-again : (w : Book) → five n₁ m₁ l₁ q₁ [] ≡ laid-out (five n₀ m₀ l₀ q₀ []) w → five n₁ m₁ l₁ q₁ j₀ ≡ laid-out (five n m l q j) w
@@ -221,19 +233,13 @@ module _ (place : ℕ) (n m l q j s n₀ m₀ l₀ q₀ j₀ : List ℕ) (c : Cl
           ∙ rw (d, long n₀ n (c .nodes), long m₀ m (c .names), long l₀ l (c .lines), long q₀ q (c .pool)),
     )
 
-    -- row 0 has room
-    pub open-filled : length s ≤ script-limit → node-width ≤ length n₀
-        → Filled (build-reading place (five n₀ m₀ l₀ q₀ []) s nothing-yet (reading place s)) r (five n₀ m₀ l₀ q₀ []) (five n₁ m₁ l₁ q₁ [])
-        → Opens n₁ m₁ l₁ q₁
-    unfolding opening build-reading
-    open-filled h k t =
+    -- what `fill` leaves
+    pub open-filled : Filled (opening place (five n₀ m₀ l₀ q₀ []) s) r (five n₀ m₀ l₀ q₀ []) (five n₁ m₁ l₁ q₁ []) → Opens n₁ m₁ l₁ q₁
+    open-filled t =
         let a : Alike (five n m l q j) (five n₀ m₀ l₀ q₀ []) = record {
           nodes = sym (long n₀ n (c .nodes));
           names = sym (long m₀ m (c .names));
           lines = sym (long l₀ l (c .lines));
           pool = sym (long q₀ q (c .pool));
         } in
-        let e : opening place (five n m l q j) s ≡ build-reading place (five n₀ m₀ l₀ q₀ []) s nothing-yet (reading place s)
-        = rw (le-ltb script-limit (length s) h, le-leb node-width (length n) (omega (arith, long n₀ n (c .nodes))))
-        (build-alike (five n m l q j) (five n₀ m₀ l₀ q₀ []) a place s nothing-yet (reading place s .events) (reading place s .outcome)) in
-        rw e (filled-again (build-reading place (five n₀ m₀ l₀ q₀ []) s nothing-yet (reading place s)) t)
+        rw (opening-alike (five n m l q j) (five n₀ m₀ l₀ q₀ []) a place s) (filled-again (opening place (five n₀ m₀ l₀ q₀ []) s) t)

@@ -24,8 +24,8 @@ use Rattle.book.specs.Books.{edition-of, first-named, regular}
 use Rattle.book.specs.Layout.{Buffers, node-width}
 use Rattle.rooms.specs.Rooms.{line-room, node-room}
 use Rattle.building.specs.Building.{Building, Taken, no, on, part, take-event, take-kept, take-node, take-parent}
+use Rattle.building_events.specs.Events.{Lies}
 use Rattle.opening.specs.Opening.{Opening, build, build-reading, declined, nothing-yet, on-taken, opening, opens}
-use Rattle.opening.specs.State.{Lies}
 use Rattle.opening.proofs.EachEvent.{parts-lie}
 
 module _ (s : List ℕ) where

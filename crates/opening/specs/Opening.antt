@@ -9,7 +9,7 @@ use Rattle.numbers.specs.Limits.{script-limit}
 use Rattle.numbers.specs.Refusals.{no-room, too-long}
 use Rattle.packing.specs.Padding.{zeros}
 use Rattle.cursors.specs.declared.Event.{Event}
-use Rattle.reading.specs.Places.{at-list}
+use Rattle.cursors.specs.Places.{at-list}
 use Rattle.reading.specs.Events.{Outcome, accepted, refused, Reading, reading}
 use Rattle.book.specs.declared.Counts.{Counts}
 use Rattle.book.specs.Books.{Book, export, no-node, regular, rust}

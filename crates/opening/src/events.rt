@@ -1,38 +1,34 @@
-// The events of a reading, one by one.
+// The events of a reading, one by one, and what is answered behind the last.
 ghost use mathlib.Core.Path.{_≡_};
-ghost use mathlib.Core.Bool.{true};
 ghost use mathlib.Core.List.{[]};
 ghost use Prim.Native.Nat.{_*_, _≤_};
 ghost use lib.ListN.{length};
 ghost use Rattle.numbers.specs.Limits.{line-limit, node-limit, pool-limit, script-limit};
 ghost use Rattle.reading.specs.Events.{reading};
 ghost use Rattle.book.specs.Layout.{five, node-width};
-ghost use Rattle.building.specs.Building.{take-event};
-ghost use Rattle.opening.specs.Opening.{build-reading, declined, nothing-yet, told};
-ghost use Rattle.building.specs.State.{Took, built, building};
-ghost use Rattle.opening.specs.State.{Clear, Cleared, Ended, Filled, Finished, Lies, kind-told};
+ghost use Rattle.building.specs.State.{Clear};
+ghost use Rattle.opening.specs.Opening.{build-reading, declined, nothing-yet, opening, told};
+ghost use Rattle.opening.specs.State.{Ended, Filled, Finished, kind-told};
 use crate::Built;
 use crate::Opened;
 use book::Counts;
 use book::EXPORT;
+use book::NODE_WIDTH;
 use book::REGULAR;
 use book::RUST;
 use building::Progress;
 use building::Taking;
-use building::take_closed;
-use building::take_extern;
-use building::take_line;
-use building::take_node;
-use building::take_parent;
-use cursors::Event;
+use building::clear_book;
+use building_events::take_event;
 use cursors::Step;
+use cursors::places::AT_LIST;
 use cursors::start_at;
-use packing::clear_bytes;
-use packing::clear_numbers;
-use reading::scripts::AT_LIST;
+use numbers::NO_ROOM;
+use numbers::SCRIPT_LIMIT;
+use numbers::TOO_LONG;
 use reading::scripts::next_event;
 
-pub(crate) fn refused(refusal: u32, place: usize) -> Opened
+fn refused(refusal: u32, place: usize) -> Opened
     ensures { λ r. ⌜ r ≡ told (declined refusal place) ⌝ }
 {
     Opened {
@@ -47,16 +43,6 @@ pub(crate) fn refused(refusal: u32, place: usize) -> Opened
             edits: 0,
         },
     }
-}
-
-// The buffers that an opening fills.
-pub(crate) fn clear_book(nodes: &mut [u32], names: &mut [u8], lines: &mut [u32], pool: &mut [u8])
-    ensures { λ _. ⌜ Cleared (now (nodes .entry)) (now (names .entry)) (now (lines .entry)) (now (pool .entry)) (now (nodes .exit)) (now (names .exit)) (now (lines .exit)) (now (pool .exit)) ⌝ }
-{
-    clear_numbers(nodes);
-    clear_bytes(names);
-    clear_numbers(lines);
-    clear_bytes(pool);
 }
 
 fn kind_of(place: u32, g: Progress) -> u32
@@ -92,48 +78,8 @@ fn finished(place: u32, g: Progress) -> Counts
     }
 }
 
-// One event.
-fn take_event(
-    s: &[u8],
-    e: Event,
-    g: Progress,
-    nodes: &mut [u32],
-    names: &mut [u8],
-    lines: &mut [u32],
-    pool: &mut [u8],
-) -> Taking
-    requires { ⌜ (built g (five (now nodes) (now names) (now lines) (now pool) []) ≡ true) × (length (now s) ≤ script-limit) × Lies (now s) e ⌝ }
-    ensures { λ r. ⌜ Took (take-event (five (now (nodes .entry)) (now (names .entry)) (now (lines .entry)) (now (pool .entry)) []) (now (s .entry))
-        (building g (five (now (nodes .entry)) (now (names .entry)) (now (lines .entry)) (now (pool .entry)) [])) e)
-        r (five (now (nodes .exit)) (now (names .exit)) (now (lines .exit)) (now (pool .exit)) []) ⌝ }
-{
-    match e {
-        Event::Node { start, len } => {
-            let end = start + len;
-            take_node(g, start, &s[start..end], nodes, names)
-        }
-        Event::Body => Taking::On(g),
-        Event::Section(_) => Taking::On(g),
-        Event::Extern { section, language } => Taking::On(take_extern(g, section)),
-        Event::Closed => Taking::On(take_closed(g)),
-        Event::Line {
-            section,
-            language,
-            start,
-            len,
-        } => {
-            let end = start + len;
-            take_line(g, start, section, language, &s[start..end], lines, pool)
-        }
-        Event::Parent { start, len } => {
-            let end = start + len;
-            take_parent(g, start, &s[start..end], nodes, names)
-        }
-    }
-}
-
 // The events of a text, from a place of the grammar on, into cleared buffers.
-pub(crate) fn build(
+fn build(
     place: u32,
     s: &[u8],
     nodes: &mut [u32],
@@ -177,7 +123,7 @@ pub(crate) fn build(
     }
 }
 
-// The same, with what is answered: what is refused leaves nothing.
+// What is answered: "opening starts with 1 and row 0's room", and what is refused leaves nothing.
 pub(crate) fn fill(
     place: u32,
     s: &[u8],
@@ -186,11 +132,17 @@ pub(crate) fn fill(
     lines: &mut [u32],
     pool: &mut [u8],
 ) -> Opened
-    requires { ⌜ (length (now s) ≤ script-limit) × (node-width ≤ length (now nodes)) × Clear (now nodes) × Clear (now names) × Clear (now lines) × Clear (now pool) ⌝ }
-    ensures { λ r. ⌜ Filled (build-reading place (five (now (nodes .entry)) (now (names .entry)) (now (lines .entry)) (now (pool .entry)) []) (now (s .entry)) nothing-yet (reading place (now (s .entry))))
+    requires { ⌜ Clear (now nodes) × Clear (now names) × Clear (now lines) × Clear (now pool) ⌝ }
+    ensures { λ r. ⌜ Filled (opening place (five (now (nodes .entry)) (now (names .entry)) (now (lines .entry)) (now (pool .entry)) []) (now (s .entry)))
         r (five (now (nodes .entry)) (now (names .entry)) (now (lines .entry)) (now (pool .entry)) [])
         (five (now (nodes .exit)) (now (names .exit)) (now (lines .exit)) (now (pool .exit)) []) ⌝ }
 {
+    if SCRIPT_LIMIT < s.len() {
+        return refused(TOO_LONG, 0);
+    }
+    if nodes.len() < NODE_WIDTH {
+        return refused(NO_ROOM, 0);
+    }
     match build(place, s, nodes, names, lines, pool) {
         Built::Done(counts) => Opened {
             refusal: 0,

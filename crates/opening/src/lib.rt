@@ -1,16 +1,11 @@
-// Opening a text into lent buffers: the events of its reading, taken one by one (the crate `building`). Definitions: specs/Opening.antt, from document 01,
+// Opening a text into lent buffers: the events of its reading, taken one by one (the crate `building_events`). Definitions: specs/Opening.antt, from document 01,
 // 'Reading', 'Ranking' (the Rust kind), 'The book' and 'Numbers that say no'.
 ghost use mathlib.Core.Path.{_≡_};
 ghost use Rattle.book.specs.Layout.{five};
 ghost use Rattle.opening.specs.Opening.{left, opening, told};
-use crate::events::clear_book;
 use crate::events::fill;
-use crate::events::refused;
 use book::Counts;
-use book::NODE_WIDTH;
-use numbers::NO_ROOM;
-use numbers::SCRIPT_LIMIT;
-use numbers::TOO_LONG;
+use building::clear_book;
 use packing::clear_numbers;
 
 mod events;
@@ -45,11 +40,5 @@ pub fn open(
 {
     clear_book(nodes, names, lines, pool);
     clear_numbers(journal);
-    if SCRIPT_LIMIT < text.len() {
-        return refused(TOO_LONG, 0);
-    }
-    if nodes.len() < NODE_WIDTH {
-        return refused(NO_ROOM, 0);
-    }
     fill(place, text, nodes, names, lines, pool)
 }

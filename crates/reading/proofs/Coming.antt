@@ -30,8 +30,9 @@ use Rattle.cursors.specs.declared.Step.{Step}
 use Rattle.cursors.specs.declared.Step.the-variants.{Go, Refused}
 use Rattle.cursors.specs.Moves.{moved, in-section, in-language, skipping, expecting, ending}
 use Rattle.matchers.specs.Matchers.{extern-word, cxx-word, c-word, close-word, line-to, extern-open, extern-at, extern-inside, in-extern, in-bare, matcher as matcher-at, line as line-of, bare-line, bare-matcher}
-use Rattle.reading.specs.Places.{in-body, in-body-extern, in-sole, in-sole-extern, in-list, in-list-extern, in-symbol-extern, in-bare-extern, behind-symbol}
-use Rattle.reading.specs.Scripts.{global-word, local-word, name-to, node-at, script-at, parent-to, parent-at, node-end, sole-end, inside-body, body-at, sole-at, list-at, opening-at, start-script, go-node, go-body, go-sole, go-list, next-script, next-list, next-symbol, next}
+use Rattle.cursors.specs.Places.{in-body, in-body-extern, in-sole, in-sole-extern, in-list, in-list-extern, in-symbol-extern, in-bare-extern, behind-symbol}
+use Rattle.bodies.specs.Bodies.{global-word, local-word, name-to, node-at, script-at, parent-to, parent-at, node-end, sole-end, inside-body, body-at, sole-at, list-at}
+use Rattle.reading.specs.Scripts.{opening-at, start-script, go-node, go-body, go-sole, go-list, next-script, next-list, next-symbol, next}
 use Rattle.reading.specs.Rules.{Byte, None, Word, No-word, Name-byte, Token, plain-token, extern-token, bare-token, bare-extern-token, to-closing, Rule, skip-to, script-start, node, opening, body, parent, last-semicolon, end, matchers, matcher, block, token, no-more, Due, due-script, due-node, due-opening, due-body, due-body-block, due-sole, due-sole-block, due-list, due-matchers, due-list-block, due-symbol, due-symbol-block, due-bare, due-bare-block, Over, script, list, symbol, bare, Comes, starts, past-blank, past-line, past-comment, skipped, to-nodes, behind-body, of-body, behind-semicolon, behind-list, of-list, behind-cxx, behind-c, behind-block, of-matcher, of-block, all-text}
 use Rattle.reading.specs.Refusing.{Unreadable, no-name, no-opening, no-parent-end, no-semicolon, bytes-remain, no-token-end, empty-to-semicolon, empty-to-closing, Unclosed, line, comment, no-brace-left, Bad-extern, language, within-extern}
 use Rattle.reading.proofs.Absence.{none-nowhere, stands-first, pair-nowhere, skip-blank, skip-line, skip-line-opens, skip-comment, skip-comment-opens, skip-stays}

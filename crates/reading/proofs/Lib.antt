@@ -1,4 +1,3 @@
-pub mod Deciding
 pub mod Bounds
 pub mod Steps
 pub mod Onward

@@ -16,7 +16,7 @@ use Rattle.cursors.specs.declared.Event.{Event}
 use Rattle.cursors.specs.declared.Step.{Step}
 use Rattle.cursors.specs.declared.Step.the-variants.{Go, End, Refused}
 use Rattle.cursors.specs.Moves.{start}
-use Rattle.reading.specs.Places.{behind-symbol}
+use Rattle.cursors.specs.Places.{behind-symbol}
 use Rattle.reading.specs.Scripts.{next}
 use Rattle.reading.specs.Events.{Reading, on-step, reading-within, reading-from, reading}
 use Rattle.reading.proofs.Steps.{Fresh, Onward, Fits, goes, next-fits}

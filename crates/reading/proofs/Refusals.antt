@@ -15,7 +15,7 @@ use Rattle.cursors.specs.declared.Cursor.{Cursor}
 use Rattle.cursors.specs.declared.Step.{Step}
 use Rattle.cursors.specs.declared.Step.the-variants.{Go, End, Refused}
 use Rattle.cursors.specs.Moves.{start}
-use Rattle.reading.specs.Places.{behind-symbol}
+use Rattle.cursors.specs.Places.{behind-symbol}
 use Rattle.reading.specs.Scripts.{start-script, next-script, next-list, next-symbol, next}
 use Rattle.reading.specs.Events.{refused, on-step, reading-within, reading-from, reading}
 use Rattle.reading.specs.Rules.{Over, script, list, symbol, bare}

@@ -1,4 +1,3 @@
-pub mod Places
 pub mod Scripts
 pub mod Events
 pub mod KnownReadings

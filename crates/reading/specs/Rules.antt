@@ -15,8 +15,8 @@ use Rattle.linker_script.specs.Skip.{blank}
 use Rattle.tokens.specs.Tokens.{stands-at, named, no-semicolon-before}
 use Rattle.cursors.specs.declared.Cursor.{Cursor}
 use Rattle.matchers.specs.Matchers.{extern-word, cxx-word, c-word, close-word}
-use Rattle.reading.specs.Places.{at-script, at-node, at-body, in-body, in-body-extern, in-sole, in-sole-extern, at-list, in-list, in-list-extern, at-symbol, in-symbol-extern, at-bare, in-bare-extern}
-use Rattle.reading.specs.Scripts.{global-word, local-word}
+use Rattle.cursors.specs.Places.{at-script, at-node, at-body, in-body, in-body-extern, in-sole, in-sole-extern, at-list, in-list, in-list-extern, at-symbol, in-symbol-extern, at-bare, in-bare-extern}
+use Rattle.bodies.specs.Bodies.{global-word, local-word}
 
 -- ---- the text at a place
 -- the byte b stands at p; none stands from p on; nor do two bytes side by side

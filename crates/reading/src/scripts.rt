@@ -1,16 +1,29 @@
 // Scripts, export lists and texts of `add_symbol`: the step of a reading at each of its places.
 ghost use mathlib.Core.Path.{_≡_};
-ghost use Prim.Native.Nat.{_+_, _<_, _≤_};
-ghost use lib.ListN.{length};
-ghost use Rattle.cursors.specs.Moves.{ending};
-ghost use Rattle.reading.specs.Scripts.{name-to, node-at, script-at, parent-at, node-end, sole-end, inside-body, body-at, sole-at, list-at, opening-at, start-script, go-node, go-body, go-sole, go-list, next-script, next-list, next-symbol, next};
+ghost use Rattle.reading.specs.Scripts.{opening-at, start-script, go-node, go-body, go-sole, go-list, next-script, next-list, next-symbol, next};
+use bodies::body_at;
+use bodies::list_at;
+use bodies::node_at;
+use bodies::script_at;
+use bodies::sole_at;
 use comments::skip_comments_and_whitespace;
 use cursors::Cursor;
 use cursors::Event;
 use cursors::Step;
 use cursors::move_to;
-use cursors::with_section;
-use linker_script::Found;
+use cursors::places::AT_BARE;
+use cursors::places::AT_BODY;
+use cursors::places::AT_LIST;
+use cursors::places::AT_NODE;
+use cursors::places::AT_SCRIPT;
+use cursors::places::AT_SYMBOL;
+use cursors::places::BEHIND_SYMBOL;
+use cursors::places::IN_BARE_EXTERN;
+use cursors::places::IN_BODY;
+use cursors::places::IN_BODY_EXTERN;
+use cursors::places::IN_LIST;
+use cursors::places::IN_SOLE;
+use cursors::places::IN_SYMBOL_EXTERN;
 use linker_script::Skipped;
 use linker_script::byte_at;
 use matchers::in_bare;
@@ -22,180 +35,6 @@ use numbers::TOKEN_LIMIT;
 use numbers::TOO_LONG;
 use numbers::UNCLOSED;
 use numbers::UNREADABLE;
-use searching::find;
-use tokens::parse_token;
-use tokens::try_take;
-
-// The places of a reading (specs/Places.antt).
-pub const AT_SCRIPT: u32 = 0;
-
-pub const AT_NODE: u32 = 1;
-
-pub const AT_BODY: u32 = 2;
-
-pub const IN_BODY: u32 = 3;
-
-pub const IN_BODY_EXTERN: u32 = 4;
-
-pub const IN_SOLE: u32 = 5;
-
-pub const IN_SOLE_EXTERN: u32 = 6;
-
-pub const AT_LIST: u32 = 7;
-
-pub const IN_LIST: u32 = 8;
-
-pub const IN_LIST_EXTERN: u32 = 9;
-
-pub const AT_SYMBOL: u32 = 10;
-
-pub const IN_SYMBOL_EXTERN: u32 = 11;
-
-pub const AT_BARE: u32 = 12;
-
-pub const IN_BARE_EXTERN: u32 = 13;
-
-pub const BEHIND_SYMBOL: u32 = 14;
-
-// Where the text must end.
-fn end_at(s: &[u8], p: usize) -> Step
-    ensures { λ r. ⌜ r ≡ ending (now (s .entry)) p ⌝ }
-{
-    if p == s.len() {
-        return Step::End;
-    }
-    Step::Refused(UNREADABLE, p)
-}
-
-// A node's name from p to q.
-fn name_to(c: Cursor, p: usize, q: usize) -> Step
-    ensures { λ r. ⌜ r ≡ name-to c p q ⌝ }
-{
-    if p < q {
-        let event = Event::Node {
-            start: p,
-            len: q - p,
-        };
-        let next = move_to(c, AT_BODY, q);
-        return Step::Go(event, next);
-    }
-    Step::Refused(UNREADABLE, p)
-}
-
-// Between nodes: the end, or a name.
-fn node_at(c: Cursor, s: &[u8], p: usize) -> Step
-    ensures { λ r. ⌜ r ≡ node-at c (now (s .entry)) p ⌝ }
-{
-    if p == s.len() {
-        return Step::End;
-    }
-    let q = parse_token(s, p);
-    name_to(c, p, q)
-}
-
-fn script_at(c: Cursor, s: &[u8], p: usize) -> Step
-    ensures { λ r. ⌜ r ≡ script-at c (now (s .entry)) p ⌝ }
-{
-    if byte_at(s, p) == b'{' {
-        let next = move_to(c, IN_SOLE, p + 1);
-        return Step::Go(Event::Body, next);
-    }
-    node_at(c, s, p)
-}
-
-// The parent text from p to the `;` that was found.
-fn parent_at(c: Cursor, s: &[u8], p: usize) -> Step
-    ensures { λ r. ⌜ r ≡ parent-at c (now (s .entry)) p ⌝ }
-{
-    match find(s, b';', p) {
-        Found::Nowhere => Step::Refused(UNREADABLE, p),
-        Found::Here(q) => {
-            let event = Event::Parent {
-                start: p,
-                len: q - p,
-            };
-            let next = move_to(c, AT_NODE, q + 1);
-            Step::Go(event, next)
-        }
-    }
-}
-
-// Behind the `}` of a named node's body.
-fn node_end(c: Cursor, s: &[u8], p: usize) -> Step
-    ensures { λ r. ⌜ r ≡ node-end c (now (s .entry)) p ⌝ }
-{
-    match skip_comments_and_whitespace(s, p) {
-        Skipped::Open(o) => Step::Refused(UNCLOSED, o),
-        Skipped::At(q) => {
-            let next = with_section(c, 0);
-            parent_at(next, s, q)
-        }
-    }
-}
-
-// Behind the `}` of the one body of a script.
-fn sole_end(s: &[u8], p: usize) -> Step
-    ensures { λ r. ⌜ r ≡ sole-end (now (s .entry)) p ⌝ }
-{
-    match skip_comments_and_whitespace(s, p) {
-        Skipped::Open(o) => Step::Refused(UNCLOSED, o),
-        Skipped::At(q) => {
-            if byte_at(s, q) != b';' {
-                return Step::Refused(UNREADABLE, q);
-            }
-            match skip_comments_and_whitespace(s, q + 1) {
-                Skipped::Open(o) => Step::Refused(UNCLOSED, o),
-                Skipped::At(e) => end_at(s, e),
-            }
-        }
-    }
-}
-
-// In a body, not at its `}`.
-fn inside_body(c: Cursor, s: &[u8], inner: u32, p: usize) -> Step
-    ensures { λ r. ⌜ r ≡ inside-body c (now (s .entry)) inner p ⌝ }
-{
-    let here = c.place;
-    if try_take(s, b"global:", p) {
-        let next = move_to(with_section(c, 0), here, p + 7);
-        return Step::Go(Event::Section(0), next);
-    }
-    if try_take(s, b"local:", p) {
-        let next = move_to(with_section(c, 1), here, p + 6);
-        return Step::Go(Event::Section(1), next);
-    }
-    parse_matcher(c, s, inner, here, p)
-}
-
-fn body_at(c: Cursor, s: &[u8], p: usize) -> Step
-    ensures { λ r. ⌜ r ≡ body-at c (now (s .entry)) p ⌝ }
-{
-    if byte_at(s, p) == b'}' {
-        return node_end(c, s, p + 1);
-    }
-    inside_body(c, s, IN_BODY_EXTERN, p)
-}
-
-fn sole_at(c: Cursor, s: &[u8], p: usize) -> Step
-    ensures { λ r. ⌜ r ≡ sole-at c (now (s .entry)) p ⌝ }
-{
-    if byte_at(s, p) == b'}' {
-        return sole_end(s, p + 1);
-    }
-    inside_body(c, s, IN_SOLE_EXTERN, p)
-}
-
-fn list_at(c: Cursor, s: &[u8], p: usize) -> Step
-    ensures { λ r. ⌜ r ≡ list-at c (now (s .entry)) p ⌝ }
-{
-    if try_take(s, b"};", p) {
-        return match skip_comments_and_whitespace(s, p + 2) {
-            Skipped::Open(o) => Step::Refused(UNCLOSED, o),
-            Skipped::At(r) => end_at(s, r),
-        };
-    }
-    parse_matcher(c, s, IN_LIST_EXTERN, IN_LIST, p)
-}
 
 // The `{` of a body or a list.
 fn opening_at(c: Cursor, s: &[u8], place: u32) -> Step

@@ -10,14 +10,14 @@ ghost use Rattle.reading.specs.Events.{reading};
 ghost use Rattle.reading_rows.specs.Rows.{events-rows, events-told, place-of, row, rows-fitting, reading-told};
 use cursors::Event;
 use cursors::Step;
+use cursors::places::AT_BARE;
+use cursors::places::AT_LIST;
+use cursors::places::AT_SCRIPT;
+use cursors::places::AT_SYMBOL;
 use cursors::start_at;
 use numbers::NO_ROOM;
 use numbers::SCRIPT_LIMIT;
 use numbers::TOO_LONG;
-use reading::scripts::AT_BARE;
-use reading::scripts::AT_LIST;
-use reading::scripts::AT_SCRIPT;
-use reading::scripts::AT_SYMBOL;
 use reading::scripts::next_event;
 
 fn source_place(source: u32) -> u32

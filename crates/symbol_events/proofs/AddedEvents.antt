@@ -12,7 +12,7 @@ use Rattle.book.specs.Books.{Book, global}
 use Rattle.book.specs.Layout.{Buffers, five}
 use Rattle.book.specs.View.{book-of, laid}
 use Rattle.book.proofs.Views.{laid-packs}
-use Rattle.opening.specs.State.{Lies}
+use Rattle.building_events.specs.Events.{Lies}
 use Rattle.changes.specs.declared.Edited.{Edited}
 use Rattle.changes.specs.declared.Edited.the-variants as answer
 use Rattle.changes.specs.Changes.{to}

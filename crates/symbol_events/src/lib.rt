@@ -5,7 +5,7 @@ ghost use mathlib.Core.Bool.{true};
 ghost use Prim.Native.Nat.{_<_};
 ghost use Rattle.book.specs.Layout.{five};
 ghost use Rattle.book.specs.View.{book-of, laid};
-ghost use Rattle.opening.specs.State.{Lies};
+ghost use Rattle.building_events.specs.Events.{Lies};
 ghost use Rattle.changes.specs.Changes.{after, edited};
 ghost use Rattle.changes.specs.Symbols.{add-event};
 use adding::append;

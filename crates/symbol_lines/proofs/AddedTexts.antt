@@ -24,7 +24,7 @@ use Rattle.book.specs.Books.{Book, Node, export, rust}
 use Rattle.book.specs.Layout.{Buffers, counts-of, edit-width, five, laid-out, line-width}
 use Rattle.book.specs.View.{book-of, laid}
 use Rattle.book.proofs.Views.{Layout, Rooms, fits-layout, fits-same, laid-from, laid-out-rooms, laid-out-same, laid-packs, layout-fits}
-use Rattle.opening.specs.State.{Lies}
+use Rattle.building_events.specs.Events.{Lies}
 use Rattle.opening.proofs.EachEvent.{parts-lie}
 use Rattle.changes.specs.declared.Edited.{Edited}
 use Rattle.changes.specs.declared.Edited.the-variants as answer

@@ -9,12 +9,12 @@ use book::Counts;
 use book::EXPORT;
 use book_check::is_book;
 use changes::Edited;
+use cursors::places::AT_BARE;
+use cursors::places::AT_SYMBOL;
 use numbers::NO_BOOK;
 use numbers::TOKEN_LIMIT;
 use numbers::TOO_LONG;
 use numbers::WRONG_KIND;
-use reading::scripts::AT_BARE;
-use reading::scripts::AT_SYMBOL;
 use symbol_lines::add_lines;
 
 // The place of the grammar from which a text is read.

@@ -3,7 +3,7 @@ use Prim.Native.Nat.{ℕ}
 use mathlib.Core.Path.{_≡_, refl}
 use mathlib.Core.List.{List}
 use mathlib.Core.Bool.{Bool, true, false, cond}
-use Rattle.reading.specs.Places.{at-list, at-script}
+use Rattle.cursors.specs.Places.{at-list, at-script}
 use Rattle.book.specs.Layout.{Buffers}
 use Rattle.opening.specs.declared.Opened.{Opened}
 use Rattle.opening.specs.Opening.{left, opening, told}

@@ -8,10 +8,12 @@ ghost use mathlib.Core.Bool.{cond};
 ghost use Prim.Native.Nat.{_≤_};
 ghost use lib.ListN.{length};
 ghost use Rattle.input.specs.Splitting.{input-limit, lines-in};
-ghost use Rattle.reading.specs.Places.{at-list, at-script};
+ghost use Rattle.cursors.specs.Places.{at-list, at-script};
 ghost use Rattle.book.specs.Layout.{five};
 ghost use Rattle.rounds.specs.Rounds.{Desk-rooms, Reached, desk-left, line-lent, lines-lent};
 use book::Counts;
+use cursors::places::AT_LIST;
+use cursors::places::AT_SCRIPT;
 use desk::run_line;
 use input::positions::position_of;
 use input::splitting::find_mark;
@@ -25,8 +27,6 @@ use linker_script::Found;
 use linker_script::byte_at;
 use numbers::TOO_LONG;
 use packing::same_bytes;
-use reading::scripts::AT_LIST;
-use reading::scripts::AT_SCRIPT;
 use rendering::render_refused;
 
 // The longest input.
@@ -78,6 +78,15 @@ fn say_known() {
     say(b"ask NAME[@VERSION], counts, lines and dump\n");
 }
 
+// What a line prints, and what a person is told of it.
+fn tell(printed: &[u8], known: bool) {
+    io::write_all(STDOUT_FILENO, printed);
+    if !known {
+        say_known();
+    }
+    explain(printed);
+}
+
 // A command's line, which has room for what it prints; the counts behind it.
 fn run_command(
     c: Counts,
@@ -94,12 +103,7 @@ fn run_command(
         ≡ line-lent (record { counts = c; buffers = five (now (nodes .entry)) (now (names .entry)) (now (lines .entry)) (now (pool .entry)) (now (journal .entry)) }) (now (line .entry)) ⌝ }
 {
     let ran = run_line(c, nodes, names, lines, pool, journal, line, out);
-    let printed = front(out, ran.length);
-    io::write_all(STDOUT_FILENO, printed);
-    if !ran.known {
-        say_known();
-    }
-    explain(printed);
+    tell(front(out, ran.length), ran.known);
     ran.counts
 }
 

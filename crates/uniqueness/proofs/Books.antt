@@ -12,6 +12,7 @@ use Rattle.line_check.proofs.has_star
 use Rattle.journal_check.proofs.edits_packed
 use Rattle.journal_check.proofs.journal_fits
 use Rattle.book_check.proofs.is_book
+use Rattle.building.proofs.clear_book
 use Rattle.building.proofs.take_extern
 use Rattle.building.proofs.take_closed
 use Rattle.opening.proofs.open as opening-open
@@ -64,6 +65,10 @@ pub is-book-unique : Unique is_book.ended is_book.Reads.Post
 is-book-unique κs a x y v w p q = (same p q, refl)
 
 -- ---- building
+pub clear-book-unique : Unique clear_book.ended clear_book.Reads.Post
+clear-book-unique κs a x y v w p q =
+    (refl, λ i. same (p .nodes) (q .nodes) i ▹ same (p .names) (q .names) i ▹ same (p .lines) (q .lines) i ▹ same (p .pool) (q .pool) i ▹ tt)
+
 pub take-extern-unique : Unique take_extern.ended take_extern.Reads.Post
 take-extern-unique κs a x y v w p q = (same p q, refl)
 

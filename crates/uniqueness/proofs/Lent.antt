@@ -1,4 +1,4 @@
--- What answers for a lent book leaves one answer and one end state: lending, lent_openings, lent_questions, lent_edits. Assumes nothing.
+-- What answers for a lent book leaves one answer and one end state: lending, lent_openings, lent_questions, lent_additions, lent_edits. Assumes nothing.
 use mathlib.Core.Path.{refl}
 use Rattle.lending.specs.Calls.{Edits, Opens, Replies}
 use Rattle.uniqueness.specs.Unique.{Unique}
@@ -6,17 +6,18 @@ use Rattle.uniqueness.proofs.Same.{_▹_, same}
 use Rattle.lending.proofs.counts_of
 use Rattle.lending.proofs.put_counts
 use Rattle.lending.proofs.answer
+use Rattle.lending.proofs.finish
 use Rattle.lent_openings.proofs.open_lent
 use Rattle.lent_questions.proofs.version_count
 use Rattle.lent_questions.proofs.parent_count
 use Rattle.lent_questions.proofs.version_for_symbol
 use Rattle.lent_questions.proofs.locality
 use Rattle.lent_questions.proofs.contains
-use Rattle.lent_edits.proofs.add
+use Rattle.lent_additions.proofs.add
+use Rattle.lent_additions.proofs.add_symbol
 use Rattle.lent_edits.proofs.strike
 use Rattle.lent_edits.proofs.undo
 use Rattle.lent_edits.proofs.settle
-use Rattle.lent_edits.proofs.add_symbol
 
 -- ---- lending
 pub counts-of-unique : Unique counts_of.ended counts_of.Reads.Post
@@ -27,6 +28,9 @@ put-counts-unique κs a x y v w p q = (refl, λ i. same p q i ▹ tt ▹ tt)
 
 pub answer-unique : Unique answer.ended answer.Reads.Post
 answer-unique κs a x y v w p q = (same (p .0) (q .0), λ i. tt ▹ tt ▹ same (p .1) (q .1) i ▹ tt)
+
+pub finish-unique : Unique finish.ended finish.Reads.Post
+finish-unique κs a x y v w p q = (same (p .0) (q .0), λ i. tt ▹ same (p .1) (q .1) i ▹ tt)
 
 -- ---- lent_openings
 pub open-lent-unique : Unique open_lent.ended open_lent.Reads.Post
@@ -56,13 +60,20 @@ pub contains-unique : Unique contains.ended contains.Reads.Post
 unfolding Replies
 contains-unique κs a x y v w p q = (same (p .0) (q .0), λ i. tt ▹ tt ▹ tt ▹ tt ▹ tt ▹ tt ▹ tt ▹ tt ▹ same (p .1) (q .1) i ▹ tt)
 
--- ---- lent_edits
+-- ---- lent_additions
 pub add-unique : Unique add.ended add.Reads.Post
 unfolding Edits
 add-unique κs a x y v w p q =
     let b = same (p .2) (q .2) in
     (same (p .0) (q .0), λ i. same (p .1) (q .1) i ▹ tt ▹ tt ▹ b i .lines ▹ b i .pool ▹ b i .journal ▹ tt ▹ tt ▹ tt ▹ tt ▹ tt)
 
+pub add-symbol-unique : Unique add_symbol.ended add_symbol.Reads.Post
+unfolding Edits
+add-symbol-unique κs a x y v w p q =
+    let b = same (p .2) (q .2) in
+    (same (p .0) (q .0), λ i. same (p .1) (q .1) i ▹ tt ▹ tt ▹ b i .lines ▹ b i .pool ▹ b i .journal ▹ tt ▹ tt ▹ tt)
+
+-- ---- lent_edits
 pub strike-unique : Unique strike.ended strike.Reads.Post
 unfolding Edits
 strike-unique κs a x y v w p q =
@@ -80,9 +91,3 @@ unfolding Edits
 settle-unique κs a x y v w p q =
     let b = same (p .2) (q .2) in
     (same (p .0) (q .0), λ i. same (p .1) (q .1) i ▹ tt ▹ tt ▹ b i .lines ▹ b i .pool ▹ b i .journal ▹ tt)
-
-pub add-symbol-unique : Unique add_symbol.ended add_symbol.Reads.Post
-unfolding Edits
-add-symbol-unique κs a x y v w p q =
-    let b = same (p .2) (q .2) in
-    (same (p .0) (q .0), λ i. same (p .1) (q .1) i ▹ tt ▹ tt ▹ b i .lines ▹ b i .pool ▹ b i .journal ▹ tt ▹ tt ▹ tt)

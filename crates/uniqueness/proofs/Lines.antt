@@ -1,4 +1,5 @@
--- What prints leaves one answer and one end state: rendering, listing, showing, answering, additions, corrections, asking, desk_edits, desk_questions, desk. Assumes nothing.
+-- What prints leaves one answer and one end state: rendering, rendering_symbols, listing_symbols, listing_script, listing, showing, showing_lines, dumping,
+-- answering, additions, corrections, asking, desk_edits, desk_questions, desk. Assumes nothing.
 use mathlib.Core.Path.{refl}
 use Rattle.answering.specs.Answers.{Runs}
 use Rattle.uniqueness.specs.Unique.{Unique}
@@ -8,6 +9,8 @@ use Rattle.rendering.proofs.render_counts
 use Rattle.rendering_symbols.proofs.put_symbol_line
 use Rattle.rendering_symbols.proofs.render_symbol
 use Rattle.listing_symbols.proofs.render_symbols
+use Rattle.listing_script.proofs.render_script
+use Rattle.listing_script.proofs.render_too_long
 use Rattle.listing.proofs.listed.render_listing
 use Rattle.showing.proofs.shown_room
 use Rattle.showing.proofs.show_counts
@@ -24,7 +27,7 @@ use Rattle.desk_edits.proofs.run_edit
 use Rattle.desk_questions.proofs.run_question
 use Rattle.desk.proofs.run_line
 
--- ---- rendering
+-- ---- rendering, rendering_symbols
 pub render-refused-unique : Unique render_refused.ended render_refused.Reads.Post
 render-refused-unique κs a x y v w p q = (same (p .0) (q .0), λ i. tt ▹ same (p .1) (q .1) i ▹ tt)
 
@@ -37,16 +40,26 @@ put-symbol-line-unique κs a x y v w p q = (same (p .0) (q .0), λ i. same (p .1
 pub render-symbol-unique : Unique render_symbol.ended render_symbol.Reads.Post
 render-symbol-unique κs a x y v w p q = (same (p .0) (q .0), λ i. tt ▹ tt ▹ tt ▹ tt ▹ tt ▹ tt ▹ tt ▹ same (p .1) (q .1) i ▹ tt)
 
--- ---- listing
+-- ---- listing_symbols, listing_script, listing
 pub render-symbols-unique : Unique render_symbols.ended render_symbols.Reads.Post
 render-symbols-unique κs a x y v w p q = (same (p .0) (q .0), λ i. tt ▹ tt ▹ tt ▹ tt ▹ tt ▹ tt ▹ tt ▹ tt ▹ same (p .1) (q .1) i ▹ tt)
+
+pub render-too-long-unique : Unique render_too_long.ended render_too_long.Reads.Post
+render-too-long-unique κs a x y v w p q =
+    let b = same (p .2) (q .2) in
+    (same (p .0) (q .0), λ i. b i .nodes ▹ b i .names ▹ b i .lines ▹ b i .pool ▹ b i .journal ▹ same (p .1) (q .1) i ▹ tt)
+
+pub render-script-unique : Unique render_script.ended render_script.Reads.Post
+render-script-unique κs a x y v w p q =
+    let b = same (p .2) (q .2) in
+    (same (p .0) (q .0), λ i. tt ▹ tt ▹ b i .nodes ▹ b i .names ▹ b i .lines ▹ b i .pool ▹ b i .journal ▹ same (p .1) (q .1) i ▹ tt)
 
 pub render-listing-unique : Unique render_listing.ended render_listing.Reads.Post
 render-listing-unique κs a x y v w p q =
     let b = same (p .2) (q .2) in
     (same (p .0) (q .0), λ i. tt ▹ b i .nodes ▹ b i .names ▹ b i .lines ▹ b i .pool ▹ b i .journal ▹ same (p .1) (q .1) i ▹ tt)
 
--- ---- showing
+-- ---- showing, showing_lines, dumping
 pub shown-room-unique : Unique shown_room.ended shown_room.Reads.Post
 shown-room-unique κs a x y v w p q = (same p q, refl)
 

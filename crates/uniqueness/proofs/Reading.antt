@@ -1,5 +1,5 @@
--- What reads a text leaves one answer and one end state: linker_script, searching, comments, utf8, tokens, cursors, matchers, reading, reading_rows, input,
--- commands. Assumes nothing.
+-- What reads a text leaves one answer and one end state: linker_script, searching, comments, utf8, tokens, cursors, matchers, bodies, reading, reading_rows,
+-- input, line_parts, commands. Assumes nothing.
 use Prim.Native.Nat.{ℕ, _≤_}
 use mathlib.Core.Path.{_≡_, refl, sym, ap, _∙_}
 use mathlib.Core.List.{List}
@@ -34,6 +34,11 @@ use Rattle.matchers.proofs.in_extern
 use Rattle.matchers.proofs.in_bare
 use Rattle.matchers.proofs.parse_matcher
 use Rattle.matchers.proofs.parse_bare_matcher
+use Rattle.bodies.proofs.node_at
+use Rattle.bodies.proofs.script_at
+use Rattle.bodies.proofs.body_at
+use Rattle.bodies.proofs.sole_at
+use Rattle.bodies.proofs.list_at
 use Rattle.reading.proofs.scripts.next_event
 use Rattle.reading_rows.proofs.reading_events
 use Rattle.input.proofs.positions.position_of
@@ -130,6 +135,22 @@ parse-matcher-unique κs a x y v w p q = (same p q, refl)
 
 pub parse-bare-matcher-unique : Unique parse_bare_matcher.ended parse_bare_matcher.Reads.Post
 parse-bare-matcher-unique κs a x y v w p q = (same p q, refl)
+
+-- ---- bodies
+pub node-at-unique : Unique node_at.ended node_at.Reads.Post
+node-at-unique κs a x y v w p q = (same p q, refl)
+
+pub script-at-unique : Unique script_at.ended script_at.Reads.Post
+script-at-unique κs a x y v w p q = (same p q, refl)
+
+pub body-at-unique : Unique body_at.ended body_at.Reads.Post
+body-at-unique κs a x y v w p q = (same p q, refl)
+
+pub sole-at-unique : Unique sole_at.ended sole_at.Reads.Post
+sole-at-unique κs a x y v w p q = (same p q, refl)
+
+pub list-at-unique : Unique list_at.ended list_at.Reads.Post
+list-at-unique κs a x y v w p q = (same p q, refl)
 
 -- ---- reading
 pub next-event-unique : Unique next_event.ended next_event.Reads.Post

@@ -5,8 +5,8 @@ use input::positions::position_of;
 use libc::STDERR_FILENO;
 use libc::STDIN_FILENO;
 use libc::STDOUT_FILENO;
-use listing::listed::Listed;
 use listing::listed::render_listing;
+use listing_script::Listed;
 
 // The first n bytes of s, or all of it.
 fn front(s: &[u8], n: usize) -> &[u8] {

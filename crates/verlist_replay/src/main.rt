@@ -6,7 +6,7 @@
 //     \(N text\)      is the text N times, a blank behind the number; one does not stand within another
 // and `\` before any other byte is that byte.
 ghost use mathlib.Core.Path.{_≡_};
-ghost use Prim.Native.Nat.{_-_, _≤_};
+ghost use Prim.Native.Nat.{_+_, _-_, _≤_, _<_};
 ghost use lib.ListN.{length};
 use libc::STDOUT_FILENO;
 use listing::listed::render_listing;
@@ -114,6 +114,29 @@ fn meant(b: u8) -> u8 {
     b
 }
 
+// A byte that is written behind `\`, and the place behind it.
+struct Escape {
+    byte: u8,
+    next: usize,
+}
+
+fn escape_at(line: &[u8], at: usize) -> Escape
+    requires { ⌜ at ≤ length (now line) ⌝ }
+    ensures { λ r. ⌜ (at < r .next) × (r .next ≤ at + 3) ⌝ }
+{
+    let c = byte_or_zero(line, at);
+    if c == b'x' {
+        return Escape {
+            byte: byte_of(byte_or_zero(line, at + 1), byte_or_zero(line, at + 2)),
+            next: at + 3,
+        };
+    }
+    Escape {
+        byte: meant(c),
+        next: at + 1,
+    }
+}
+
 // Stores what a line says behind its sign and a blank, and answers how many bytes it is.
 fn expand(line: &[u8], out: &mut [u8]) -> usize {
     let mut end = 0;
@@ -128,27 +151,21 @@ fn expand(line: &[u8], out: &mut [u8]) -> usize {
             continue;
         }
         let c = byte_or_zero(line, at);
-        at += 1;
         if c == b'(' {
             start = end;
+            at += 1;
             times = number_at(line, at);
             at = past_blank(line, at);
             continue;
         }
         if c == b')' {
             end = repeat(out, start, end, times);
+            at += 1;
             continue;
         }
-        if c == b'x' {
-            end = put(
-                out,
-                end,
-                byte_of(byte_or_zero(line, at), byte_or_zero(line, at + 1)),
-            );
-            at += 2;
-            continue;
-        }
-        end = put(out, end, meant(c));
+        let escape = escape_at(line, at);
+        end = put(out, end, escape.byte);
+        at = escape.next;
     }
     end
 }

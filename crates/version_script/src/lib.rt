@@ -1,11 +1,11 @@
 // version_script.rs, the book's side: a version script opened into lent buffers. Definitions: those of the crate `opening`. Its counts and its nodes are asked in
 // counting.
 ghost use mathlib.Core.Path.{_≡_};
-ghost use Rattle.reading.specs.Places.{at-script};
+ghost use Rattle.cursors.specs.Places.{at-script};
 ghost use Rattle.book.specs.Layout.{five};
 ghost use Rattle.opening.specs.Opening.{left, opening, told};
+use cursors::places::AT_SCRIPT;
 use opening::Opened;
-use reading::scripts::AT_SCRIPT;
 
 // A version script, opened into lent buffers.
 pub fn open(

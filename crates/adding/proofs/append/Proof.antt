@@ -4,7 +4,7 @@ use native.Mathlib.Omega.{arith}
 use mathlib.Core.Path.{refl, sym, _∙_}
 use borrow.Author.Tests.{not-true, not-false}
 use Rattle.rooms.proofs.Rows.{edit-refusal, edit-within, row-number, row-within}
-use Rattle.building.proofs.Kept.{class-few}
+use Rattle.building_lines.proofs.Kept.{class-few}
 use Rattle.adding.proofs.Appending.{append-editless, append-ends, append-made, append-refused, append-rowless, pool-asked}
 use Rattle.adding.proofs.append.Statement.{statement}
 use Rattle.adding.proofs.append.Tie as tie

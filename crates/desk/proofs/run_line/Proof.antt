@@ -54,16 +54,16 @@ run-unknown-requires c κs =
     answer-room (a .c) (a .line .now) (a .out .now) _ (at-has-room .has-room .ensures) (at-if1 .if1 .left)
 
 same-length : tie.Need-same-length
-same-length c = search needs
+same-length c = c .before .before .before .before .before .before .before .lines .given
 
 same-length-2 : tie.Need-same-length-2
-same-length-2 c = search needs
+same-length-2 c = c .before .before .before .before .before .pool .given
 
 same-length-3 : tie.Need-same-length-3
-same-length-3 c = search needs
+same-length-3 c = c .before .before .before .journal .given
 
 same-length-4 : tie.Need-same-length-4
-same-length-4 c = search needs
+same-length-4 c = c .before .out .given
 
 returns-2 : tie.Need-returns-2
 returns-2 c =
@@ -79,16 +79,16 @@ returns-2 c =
     (five _ _ _ _ _) _ (at-e .e .given .1) (at-run-edit .run-edit .ensures)
 
 same-length-5 : tie.Need-same-length-5
-same-length-5 c = search needs
+same-length-5 c = refl
 
 same-length-6 : tie.Need-same-length-6
-same-length-6 c = search needs
+same-length-6 c = refl
 
 same-length-7 : tie.Need-same-length-7
-same-length-7 c = search needs
+same-length-7 c = refl
 
 same-length-8 : tie.Need-same-length-8
-same-length-8 c = search needs
+same-length-8 c = c .before .out2 .given
 
 returns-3 : tie.Need-returns-3
 returns-3 c =
@@ -104,7 +104,7 @@ returns-3 c =
     (at-command-of .command-of .ensures) _ _ b _ (at-q .q .given .1) (at-run-question .run-question .ensures)
 
 same-length-9 : tie.Need-same-length-9
-same-length-9 c = search needs
+same-length-9 c = c .before .out3 .given
 
 returns-4 : tie.Need-returns-4
 returns-4 c =

@@ -11,7 +11,7 @@ put-text-requires : tie.Need-put-text-requires
 put-text-requires c κs = search needs
 
 same-length : tie.Need-same-length
-same-length c = search needs
+same-length c = c .before .out .given
 
 returns : tie.Need-returns
 returns c =

@@ -1,7 +1,7 @@
 -- `settle` meets its contract. Assumes nothing.
 use borrow.Author.Needs.{needs}
 use Rattle.book.specs.Layout.{five}
-use Rattle.lent_edits.proofs.EditExits.{settle-told}
+use Rattle.lending.proofs.EditExits.{settle-told}
 use Rattle.lent_edits.proofs.settle.Statement.{statement}
 use Rattle.lent_edits.proofs.settle.Tie as tie
 

@@ -1,7 +1,7 @@
 -- `strike` meets its contract. Assumes nothing.
 use borrow.Author.Needs.{needs}
 use Rattle.book.specs.Layout.{five}
-use Rattle.lent_edits.proofs.EditExits.{strike-told}
+use Rattle.lending.proofs.EditExits.{strike-told}
 use Rattle.lent_edits.proofs.strike.Statement.{statement}
 use Rattle.lent_edits.proofs.strike.Tie as tie
 

@@ -1,7 +1,7 @@
 -- `undo` meets its contract. Assumes nothing.
 use borrow.Author.Needs.{needs}
 use Rattle.book.specs.Layout.{five}
-use Rattle.lent_edits.proofs.EditExits.{undo-told}
+use Rattle.lending.proofs.EditExits.{undo-told}
 use Rattle.lent_edits.proofs.undo.Statement.{statement}
 use Rattle.lent_edits.proofs.undo.Tie as tie
 

@@ -1,6 +1,5 @@
 -- `run_command` meets its contract: the line has room, and so it is run. Assumes nothing.
 use Prim.Native.Nat.{_≤_}
-use borrow.Author.Needs.{needs}
 use native.Mathlib.Omega.{arith}
 use lib.ListN.{length}
 use Rattle.book.specs.Layout.{five}
@@ -10,32 +9,26 @@ use Rattle.trial_desk.proofs.run_command.Statement.{statement}
 use Rattle.trial_desk.proofs.run_command.Tie as tie
 
 run-line-requires : tie.Need-run-line-requires
-run-line-requires c κs = search needs
+run-line-requires c κs = tt
 
 front-requires : tie.Need-front-requires
-front-requires c κs = search needs
+front-requires c κs = tt
 
-write-all-requires : tie.Need-write-all-requires
-write-all-requires c κs = search needs
-
-say-known-requires : tie.Need-say-known-requires
-say-known-requires c κs = search needs
-
-explain-requires : tie.Need-explain-requires
-explain-requires c κs = search needs
+tell-requires : tie.Need-tell-requires
+tell-requires c κs = tt
 
 same-length : tie.Need-same-length
-same-length c = search needs
+same-length c = c .before .before .before .before .before .before .before .before .before .before .lines .given
 
 same-length-2 : tie.Need-same-length-2
-same-length-2 c = search needs
+same-length-2 c = c .before .before .before .before .before .before .before .before .pool .given
 
 same-length-3 : tie.Need-same-length-3
-same-length-3 c = search needs
+same-length-3 c = c .before .before .before .before .before .before .journal .given
 
 returns : tie.Need-returns
 returns c =
-    let at-run-line = c .before .before .before .before .before .before .before .before .before .before .before .before .before .before in
+    let at-run-line = c .before .before .before .before .before .before .before .before .before .before .before in
     let at-args = at-run-line .before .before .before .before .before .before .before .before .before .before .before in
     let a = at-args .args in
     let g = at-args .good in
@@ -50,9 +43,7 @@ run-command-spec =
     (tie.spec
     run-line-requires
     front-requires
-    write-all-requires
-    say-known-requires
-    explain-requires
+    tell-requires
     same-length
     same-length-2
     same-length-3

@@ -1,7 +1,6 @@
 -- `run_commands` meets its contract: each turn runs a line and goes behind it, and what is left to run leads where all of the commands lead. Assumes nothing.
 use Prim.Native.Nat.{_-_}
-use mathlib.Core.Path.{_≡_, refl}
-use borrow.Author.Needs.{needs}
+use mathlib.Core.Path.{_≡_, _∙_, refl}
 use native.Mathlib.Omega.{arith}
 use lib.ListN.{length, length-drop, length-take}
 use Rattle.book.specs.Layout.{five}
@@ -25,7 +24,7 @@ loop-holds c =
     (refl, refl, refl, turns-begin _ (s .args .commands .now) (s .pre .0))
 
 line-end-requires : tie.Need-line-end-requires Inv-loop μ-loop
-line-end-requires c κs = search needs
+line-end-requires c κs = tt
 
 sub-run-command : tie.Need-sub-run-command Inv-loop μ-loop
 sub-run-command c =
@@ -81,16 +80,16 @@ loop-again c =
     let f = r .before .before .before .before .before .before in
     let o = f .before .before in
     let on = turns-on _ _ _ _ (o .loop .inv .3) (f .before .loop-test .taken) (f .line-end .result) (f .line-end .ensures) _ (r .run-command .ensures) in
-    (search needs, search needs, search needs, on)
+    (c .before .before .before .before .before .lines .given ∙ o .loop .inv .0, c .before .before .before .pool .given ∙ o .loop .inv .1, c .before .journal .given ∙ o .loop .inv .2, on)
 
 same-length : tie.Need-same-length Inv-loop μ-loop
-same-length c = search needs
+same-length c = c .before .loop .inv .0
 
 same-length-2 : tie.Need-same-length-2 Inv-loop μ-loop
-same-length-2 c = search needs
+same-length-2 c = c .before .loop .inv .1
 
 same-length-3 : tie.Need-same-length-3 Inv-loop μ-loop
-same-length-3 c = search needs
+same-length-3 c = c .before .loop .inv .2
 
 returns : tie.Need-returns Inv-loop μ-loop
 returns c = turns-end _ _ _ _ (c .before .loop .inv .3) (c .loop-test .left)

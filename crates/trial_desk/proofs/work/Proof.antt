@@ -1,7 +1,7 @@
 -- `work` meets its contract: a text that is refused ends it, and behind one that is opened the commands are run. Assumes nothing.
+use mathlib.Core.Path.{_∙_}
 use mathlib.Core.Bool.{cond}
-use borrow.Author.Needs.{needs}
-use Rattle.reading.specs.Places.{at-list, at-script}
+use Rattle.cursors.specs.Places.{at-list, at-script}
 use Rattle.book.specs.Layout.{five}
 use Rattle.rounds.proofs.Beginnings.{reached-first, refused-left, run-left}
 use Rattle.trial_desk.proofs.Choices.{chosen-opens, opens-there}
@@ -9,28 +9,28 @@ use Rattle.trial_desk.proofs.work.Statement.{statement}
 use Rattle.trial_desk.proofs.work.Tie as tie
 
 place-of-requires : tie.Need-place-of-requires
-place-of-requires c κs = search needs
+place-of-requires c κs = tt
 
 open-requires : tie.Need-open-requires
-open-requires c κs = search needs
+open-requires c κs = tt
 
 refuse-requires : tie.Need-refuse-requires
-refuse-requires c κs = search needs
+refuse-requires c κs = tt
 
 same-length : tie.Need-same-length
-same-length c = search needs
+same-length c = c .before .before .before .before .before .before .before .before .before .before .before .before .before .nodes .given
 
 same-length-2 : tie.Need-same-length-2
-same-length-2 c = search needs
+same-length-2 c = c .before .before .before .before .before .before .before .before .before .before .before .names .given
 
 same-length-3 : tie.Need-same-length-3
-same-length-3 c = search needs
+same-length-3 c = c .before .before .before .before .before .before .before .before .before .lines .given
 
 same-length-4 : tie.Need-same-length-4
-same-length-4 c = search needs
+same-length-4 c = c .before .before .before .before .before .before .before .pool .given
 
 same-length-5 : tie.Need-same-length-5
-same-length-5 c = search needs
+same-length-5 c = c .before .before .before .before .before .journal .given
 
 returns : tie.Need-returns
 returns c =
@@ -61,19 +61,19 @@ run-commands-requires c κs =
     )
 
 same-length-6 : tie.Need-same-length-6
-same-length-6 c = search needs
+same-length-6 c = c .before .before .before .before .before .before .before .before .before .before .before .before .before .before .before .before .before .before .before .before .before .before .before .before .nodes .given
 
 same-length-7 : tie.Need-same-length-7
-same-length-7 c = search needs
+same-length-7 c = c .before .before .before .before .before .before .before .before .before .before .before .before .before .before .before .before .before .before .before .before .before .before .names .given
 
 same-length-8 : tie.Need-same-length-8
-same-length-8 c = search needs
+same-length-8 c = c .before .before .before .before .before .lines2 .given ∙ c .before .before .before .before .before .before .before .before .before .before .before .before .before .before .before .before .before .before .before .before .lines .given
 
 same-length-9 : tie.Need-same-length-9
-same-length-9 c = search needs
+same-length-9 c = c .before .before .before .pool2 .given ∙ c .before .before .before .before .before .before .before .before .before .before .before .before .before .before .before .before .before .before .pool .given
 
 same-length-10 : tie.Need-same-length-10
-same-length-10 c = search needs
+same-length-10 c = c .before .journal2 .given ∙ c .before .before .before .before .before .before .before .before .before .before .before .before .before .before .before .before .journal .given
 
 returns-2 : tie.Need-returns-2
 returns-2 c =

@@ -51,47 +51,26 @@ loop-again-2 c = search needs
 repeat-requires : tie.Need-repeat-requires Inv-loop μ-loop
 repeat-requires c κs = search needs
 
+add-at-3 : tie.Need-add-at-3 Inv-loop μ-loop
+add-at-3 c = search needs
+
 loop-less-3 : tie.Need-loop-less-3 Inv-loop μ-loop
 loop-less-3 c = search needs
 
 loop-again-3 : tie.Need-loop-again-3 Inv-loop μ-loop
 loop-again-3 c = search needs
 
-byte-or-zero-requires-2 : tie.Need-byte-or-zero-requires-2 Inv-loop μ-loop
-byte-or-zero-requires-2 c κs = search needs
-
-add-byte-or-zero : tie.Need-add-byte-or-zero Inv-loop μ-loop
-add-byte-or-zero c = search needs
-
-byte-or-zero-requires-3 : tie.Need-byte-or-zero-requires-3 Inv-loop μ-loop
-byte-or-zero-requires-3 c κs = search needs
-
-byte-of-requires : tie.Need-byte-of-requires Inv-loop μ-loop
-byte-of-requires c κs = search needs
+escape-at-requires : tie.Need-escape-at-requires Inv-loop μ-loop
+escape-at-requires c κs = search needs
 
 put-requires-2 : tie.Need-put-requires-2 Inv-loop μ-loop
 put-requires-2 c κs = search needs
-
-add-at-3 : tie.Need-add-at-3 Inv-loop μ-loop
-add-at-3 c = search needs
 
 loop-less-4 : tie.Need-loop-less-4 Inv-loop μ-loop
 loop-less-4 c = search needs
 
 loop-again-4 : tie.Need-loop-again-4 Inv-loop μ-loop
 loop-again-4 c = search needs
-
-meant-requires : tie.Need-meant-requires Inv-loop μ-loop
-meant-requires c κs = search needs
-
-put-requires-3 : tie.Need-put-requires-3 Inv-loop μ-loop
-put-requires-3 c κs = search needs
-
-loop-less-5 : tie.Need-loop-less-5 Inv-loop μ-loop
-loop-less-5 c = search needs
-
-loop-again-5 : tie.Need-loop-again-5 Inv-loop μ-loop
-loop-again-5 c = search needs
 
 same-length : tie.Need-same-length Inv-loop μ-loop
 same-length c = search needs
@@ -118,19 +97,12 @@ expand-spec =
     loop-less-2
     loop-again-2
     repeat-requires
+    add-at-3
     loop-less-3
     loop-again-3
-    byte-or-zero-requires-2
-    add-byte-or-zero
-    byte-or-zero-requires-3
-    byte-of-requires
+    escape-at-requires
     put-requires-2
-    add-at-3
     loop-less-4
     loop-again-4
-    meant-requires
-    put-requires-3
-    loop-less-5
-    loop-again-5
     same-length
     returns)

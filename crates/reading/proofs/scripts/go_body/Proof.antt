@@ -1,7 +1,7 @@
 -- `go_body` meets its contract. Assumes nothing.
 use borrow.Author.Needs.{needs}
+use Rattle.bodies.proofs.Deciding.{ways}
 use Rattle.reading.specs.Scripts.{go-body}
-use Rattle.reading.proofs.Deciding.{ways}
 use Rattle.reading.proofs.scripts.go_body.Statement.{statement}
 use Rattle.reading.proofs.scripts.go_body.Tie as tie
 

@@ -1,7 +1,7 @@
 -- `next_script` meets its contract. Assumes nothing.
 use borrow.Author.Needs.{needs}
+use Rattle.bodies.proofs.Deciding.{ways}
 use Rattle.reading.specs.Scripts.{next-script}
-use Rattle.reading.proofs.Deciding.{ways}
 use Rattle.reading.proofs.scripts.next_script.Statement.{statement}
 use Rattle.reading.proofs.scripts.next_script.Tie as tie
 

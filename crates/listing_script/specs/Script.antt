@@ -1,0 +1,39 @@
+-- What verlist prints for a script and its symbols' lines, as 01 has it, and what is told of it. Assumes nothing.
+use Prim.Native.Nat.{ℕ}
+use mathlib.Core.Path.{_≡_}
+use mathlib.Core.List.{List, [], _++_}
+use mathlib.Core.Bool.{cond}
+use mathlib.Core.Option.{Option, some}
+use lib.Dec.{eqb}
+use lib.ListN.{length}
+use Rattle.lists.specs.Front.{front}
+use Rattle.book.specs.Books.{Book}
+use Rattle.book.specs.Layout.{Buffers}
+use Rattle.opening.specs.Opening.{Opening, opens, declined, left}
+use Rattle.listing_script.specs.declared.Listed.{Listed}
+use Rattle.input.specs.Splitting.{lines-in}
+use Rattle.printing.specs.Printing.{refused-line}
+use Rattle.rendering.specs.Lines.{counts-answered}
+use Rattle.listing_symbols.specs.SymbolLines.{answers}
+
+-- "It prints version and parent counts, then …", "one symbol a line (a last LF may lack)", "or `refused` and the number for the script"
+unfoldable pub printed : Opening → List ℕ → List ℕ
+printed (opens w) symbols = counts-answered (some w) ++ answers (some w) (lines-in [] symbols)
+printed (declined n p) symbols = refused-line n
+
+-- what is printed, by what is told of an opening: its refusal, or 0, and the book that the buffers hold then
+unfoldable pub opened-printed : ℕ → Option Book → List ℕ → List ℕ
+opened-printed refusal w symbols = cond (eqb refusal 0) (counts-answered w ++ answers w (lines-in [] symbols)) (refused-line refusal)
+
+-- how many bytes are printed, and the script's refusal with its place, or 0
+abbrev pub with-refusal : ℕ → Opening → Listed
+with-refusal n (opens w) = record { length = n; refusal = 0; place = 0 }
+with-refusal n (declined m p) = record { length = n; refusal = m; place = p }
+
+-- the same of what is printed for an opening
+abbrev pub printed-told : Opening → List ℕ → Listed
+printed-told o symbols = with-refusal (length (printed o symbols)) o
+
+-- what is printed for an opening of the buffers b stands at the front of d, which is l then, r is told of it, and the buffers are as the opening leaves them
+abbrev pub Prints : Buffers → Opening → List ℕ → List ℕ → Buffers → List ℕ → Listed → Type 0
+Prints b o symbols d b′ l r = (r ≡ printed-told o symbols) × (l ≡ front (printed o symbols) d) × (b′ ≡ left b o)
