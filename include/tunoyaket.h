@@ -332,10 +332,14 @@ uint32_t tuno_settle(
 
 /* Reads one matcher at the start of the text, ignores what is left, and adds its lines to an export
  * list, all or none, each as one edit. Nothing is skipped before the matcher: a blank there belongs
- * to the token. Where `without_semicolon` is not 0, a token outside extern goes to the first `}`,
- * or to the end, a `;` included; in an extern block a token goes to its `;` where no `};` is left,
- * so that `extern "C" { a; b` is refused with 2, and not with 3 as without the flag. Refusals: 14,
- * 13 (version script), 1, 2, 3, 4, 5, 6, 8. */
+ * to the token. Behind the `};` of an extern block blanks and comments still belong to the matcher:
+ * `extern "C" { g; }; #x` is refused with 3, since its comment has no line feed.
+ * Where `without_semicolon` is not 0, a token outside extern goes to the first `}`, a `;` included.
+ * Where there is none it is all the text, and blanks and comments are skipped from the text's first
+ * byte: `#x` and a text that starts with an open comment are refused with 3, `x #` is a token. In
+ * an extern block a token goes to its `;` where no `};` is left, so that `extern "C" { a; b` is
+ * refused with 2, and not with 3 as without the flag. Refusals: 14, 13 (version script), 1, 2, 3, 4,
+ * 5, 6, 8. */
 uint32_t tuno_add_symbol(
     uint32_t *counts, size_t counts_length,
     const uint32_t *nodes, size_t nodes_length,

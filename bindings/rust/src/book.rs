@@ -306,11 +306,13 @@ impl Book {
     }
 
     /// Reads one matcher at the start of a text, a token or an extern block, and adds its lines to
-    /// an export list, all or none. Tells their numbers. What is left of the text is ignored; a
-    /// blank at its start belongs to the token.
+    /// an export list, all or none. Tells their numbers. What is left of the text is ignored, but
+    /// for the blanks and comments behind an extern block's `};`, which belong to it: a comment
+    /// there that is not closed is refused. A blank at the text's start belongs to the token.
     ///
-    /// `without_semicolon` says that a token outside extern goes to the first `}`, or to the end of
-    /// the text, a `;` included, and one in an extern block to its `;` where no `};` is left.
+    /// `without_semicolon` says that a token outside extern goes to the first `}`, a `;` included,
+    /// and one in an extern block to its `;` where no `};` is left. Where there is no `}` the token
+    /// is all the text, which may then not begin with a comment that is not closed (`#x`).
     ///
     /// # Errors
     ///

@@ -111,6 +111,35 @@ fn a_line_is_struck_and_comes_back() -> Result<(), Refusal> {
     Ok(())
 }
 
+/// The auditor's two questions. Which line gave haze_month its version? With line 2 struck it falls
+/// to HAZE_1, so line 2 did; with line 0 struck too it is hidden. And what would be exported without
+/// the wildcard line? haze_month as before, and haze_day no more.
+#[test]
+fn the_auditor_is_answered() -> Result<(), Refusal> {
+    let (mut book, symbols) = haze();
+    let opened = book.clone();
+    assert_eq!(index(&book, "haze_month")?, Some(3));
+    book.strike(2)?;
+    assert_eq!(index(&book, "haze_month")?, Some(2));
+    assert_eq!(locality(&book, "haze_month")?, Some(Section::Global));
+    book.strike(0)?;
+    assert_eq!(index(&book, "haze_month")?, Some(2));
+    assert_eq!(locality(&book, "haze_month")?, Some(Section::Local));
+    book.undo()?;
+    book.undo()?;
+    assert_eq!(book, opened);
+
+    book.strike(0)?;
+    let mut exported = Vec::new();
+    for name in symbols {
+        if locality(&book, name)? != Some(Section::Local) {
+            exported.push((name, index(&book, name)?));
+        }
+    }
+    assert_eq!(exported, [("haze_month", Some(3))]);
+    Ok(())
+}
+
 /// P1 to P8: a token's class, what is kept of it, and a name with whether it matches.
 #[test]
 fn tokens_are_classed_and_matched() -> Result<(), Refusal> {

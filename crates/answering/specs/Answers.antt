@@ -15,28 +15,28 @@ use Rattle.changes.specs.Changes.{Change, after, counts-after, edited}
 use Rattle.printing.specs.Printing.{numbered, refused-answer}
 use Rattle.answering.specs.declared.Ran.{Ran}
 
--- ---- what is printed for an edit: of the counts c before it, and what it answers. "`! N` for a refusal"
--- "`added LINE`"
+-- ---- what is printed for an edit: of the counts c before it, and what it answers; a refusal is `! N`
+-- `added LINE`
 unfoldable pub added : Counts → Edited → List ℕ
 added c (answer.Done d) = numbered (codes "added") (c .lines)
 added c (answer.Refused n) = refused-answer n
 
--- "`struck LINE`"
+-- `struck LINE`
 unfoldable pub struck : ℕ → Edited → List ℕ
 struck i (answer.Done d) = numbered (codes "struck") i
 struck i (answer.Refused n) = refused-answer n
 
--- "`undone`"
+-- `undone`
 unfoldable pub undone : Edited → List ℕ
 undone (answer.Done d) = codes "undone" ++ line-feed ∷ []
 undone (answer.Refused n) = refused-answer n
 
--- "`settled LINES` (how many are left)"
+-- `settled LINES`: how many are left
 unfoldable pub settled : Edited → List ℕ
 settled (answer.Done d) = numbered (codes "settled") (d .lines)
 settled (answer.Refused n) = refused-answer n
 
--- "`added COUNT`": how many lines were added
+-- `added COUNT`: how many lines were added
 unfoldable pub symbols-added : Counts → Edited → List ℕ
 symbols-added c (answer.Done d) = numbered (codes "added") (d .lines - c .lines)
 symbols-added c (answer.Refused n) = refused-answer n

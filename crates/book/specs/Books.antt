@@ -18,22 +18,7 @@ rust = 1
 abbrev pub export : ℕ
 export = 2
 
--- "Classes: 0 Exact, 1 Escaped, 2 NonStar, 3 Star, 4 All (length 0). Section 1 is local, language 1 C++."
-abbrev pub exact-class : ℕ
-exact-class = 0
-
-abbrev pub escaped-class : ℕ
-escaped-class = 1
-
-abbrev pub nonstar-class : ℕ
-nonstar-class = 2
-
-abbrev pub star-class : ℕ
-star-class = 3
-
-abbrev pub all-class : ℕ
-all-class = 4
-
+-- "Section 1 is local, language 1 C++."
 abbrev pub global : ℕ
 global = 0
 

@@ -4,6 +4,7 @@ use mathlib.Core.List.{List, [], _∷_}
 use mathlib.Core.Bool.{Bool, true, false, cond, _&&_, _||_, not}
 use lib.Dec.{eqb, leb, ltb}
 use lib.ListN.{length, getD}
+use Rattle.numbers.specs.Classes.{all-class, exact-class, nonstar-class, star-class}
 use Rattle.numbers.specs.Limits.{token-limit}
 use Rattle.numbers.specs.Signs.{asterisk, carriage-return, hash, semicolon, slash}
 use Rattle.lists.specs.Same.{same}
@@ -12,7 +13,7 @@ use Rattle.pattern.specs.declared.Edition.{Edition}
 use Rattle.pattern.specs.Patterns.{refusal}
 use Rattle.pattern.specs.Storing.{stored}
 use Rattle.tokens.specs.Tokens.{named}
-use Rattle.book.specs.Books.{Node, Line, Edit, Book, regular, rust, export, exact-class, nonstar-class, star-class, all-class, global, local, general, add, strike, edition-of, no-node, first-named}
+use Rattle.book.specs.Books.{Node, Line, Edit, Book, regular, rust, export, global, local, general, cxx, add, strike, edition-of, no-node, first-named}
 use Rattle.book.specs.Edits.{journal-fits}
 
 -- ---- a line, of a book of that kind with that many nodes
@@ -22,7 +23,7 @@ in-range nodes x =
     ltb (x .node) nodes
     && (leb (x .class) all-class
     && (leb (x .section) local
-    && (leb (x .language) 1
+    && (leb (x .language) cxx
     && (leb (x .struck) 1
     && (leb (length (x .bytes)) token-limit
     && (not (eqb (x .class) all-class) || eqb (length (x .bytes)) 0))))))

@@ -4,13 +4,14 @@ use mathlib.Core.List.{List, [], _∷_, _++_}
 use mathlib.Core.Bool.{Bool, true, false, cond, _&&_, _||_, not}
 use lib.Dec.{eqb, ltb}
 use lib.ListN.{length, getD, set, take, drop}
+use Rattle.numbers.specs.Classes.{all-class, exact-class}
 use Rattle.numbers.specs.Refusals.{no-room, unknown-parent}
 use Rattle.pattern.specs.declared.Edition.{Edition}
 use Rattle.classes.specs.Classes.{class-number}
 use Rattle.storing.specs.Keeping.{Keep, kept, refused, keep}
 use Rattle.cursors.specs.declared.Event.{Event}
 use Rattle.cursors.specs.declared.Event.the-variants.{Node, Body, Section, Extern, Closed, Line, Parent}
-use Rattle.book.specs.Books.{all-class, edition-of, exact-class, first-named, global, local, no-node, regular}
+use Rattle.book.specs.Books.{edition-of, first-named, global, local, no-node, regular}
 use Rattle.book.specs.Books as book
 use Rattle.book.specs.Layout.{Buffers}
 use Rattle.rooms.specs.Rooms.{line-room, node-room}

@@ -8,6 +8,7 @@ use native.Mathlib.Omega.{arith}
 use lib.Dec.{eqb}
 use lib.ListN.{length}
 use lib.Seq.{paste}
+use Rattle.numbers.specs.Classes.{all-class, exact-class}
 use Rattle.numbers.specs.Limits.{pool-limit}
 use Rattle.numbers.specs.Refusals.{no-room}
 use Rattle.packing.proofs.Packings.{Packs, put-thing}
@@ -18,7 +19,7 @@ use Rattle.storing.specs.declared.Stored.the-variants.{As}
 use Rattle.storing.specs.declared.Stored.the-variants as stored
 use Rattle.classes.specs.Classes.{class-number}
 use Rattle.storing.specs.Keeping.{Keep, kept, refused, keep}
-use Rattle.book.specs.Books.{Line, all-class, edition-of, exact-class, global, local, regular}
+use Rattle.book.specs.Books.{Line, edition-of, global, local, regular}
 use Rattle.book.specs.Layout.{code-of, five, line-form, line-width}
 use Rattle.book.specs.Sanity.{line-ok}
 use Rattle.book.proofs.Forms.{line-laws}

@@ -4,8 +4,9 @@ use mathlib.Core.Path.{_≡_}
 use mathlib.Core.Bool.{true}
 use borrow.Author.Tests.{le-leb}
 use lib.Dec.{leb, ltb}
+use Rattle.numbers.specs.Classes.{all-class}
 use Rattle.lists.proofs.Tests.{both}
-use Rattle.book.specs.Books.{Line, all-class, local}
+use Rattle.book.specs.Books.{Line, local}
 use Rattle.book.specs.Edits.{marked}
 use Rattle.book.specs.Sanity.{content-good, in-range, kind-allows, line-ok}
 

@@ -5,17 +5,18 @@ use mathlib.Core.List.{List, [], _∷_}
 use mathlib.Core.Bool.{Bool, true, false, cond, _&&_, _||_}
 use lib.Dec.{eqb, leb}
 use lib.ListN.{length, getD, take, drop}
+use Rattle.numbers.specs.Classes.{all-class, escaped-class, exact-class, nonstar-class, star-class}
 use Rattle.numbers.specs.Signs.{asterisk, backslash, closing-bracket, opening-bracket, question, quote}
 use Rattle.classes.specs.declared.Class.{Class}
 use Rattle.classes.specs.declared.Class.the-variants.{Exact, Escaped, NonStar, Star, All}
 
--- "Classes: 0 Exact, 1 Escaped, 2 NonStar, 3 Star, 4 All"
+-- the paper's number of a class
 abbrev pub class-number : Class → ℕ
-class-number Exact = 0
-class-number Escaped = 1
-class-number NonStar = 2
-class-number Star = 3
-class-number All = 4
+class-number Exact = exact-class
+class-number Escaped = escaped-class
+class-number NonStar = nonstar-class
+class-number Star = star-class
+class-number All = all-class
 
 -- "starts and ends with `"` (two bytes at least)"
 unfoldable pub quoted : List ℕ → Bool

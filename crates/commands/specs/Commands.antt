@@ -23,7 +23,7 @@ on-number Nothing on = command.Unknown
 abbrev pub on-blank : List ℕ → ℕ → (ℕ → Command) → Command
 on-blank l p on = cond (eqb (getD l p 0) space) (on (p + 1)) command.Unknown
 
--- "`add NODE SECTION LANGUAGE TOKEN` (numbers; the token is the rest of the line after one blank, it may be empty)"
+-- `add NODE SECTION LANGUAGE TOKEN`: three numbers; the token is the rest of the line after one blank, and may be empty
 unfoldable pub add-command : List ℕ → Command
 add-command l =
     on-number (number-at l 4) (λ node p. on-blank l p (λ q.
@@ -31,11 +31,11 @@ add-command l =
     on-number (number-at l s) (λ language t. on-blank l t (λ at.
     command.Edits (edit.Add node section language at)))))))
 
--- "`strike LINE`"
+-- `strike LINE`
 unfoldable pub strike-command : List ℕ → Command
 strike-command l = on-number (number-at l 7) (λ line p. cond (eqb p (length l)) (command.Edits (edit.Strike line)) command.Unknown)
 
--- ---- a line: one of the ten, "anything else → `?`"
+-- ---- a line: one of the ten commands, or none of them
 -- those that change nothing
 unfoldable pub question-of : List ℕ → Command
 question-of l =

@@ -43,7 +43,7 @@ unfoldable pub node-of : ℕ → Option Book → NodeAnswer
 node-of i none = node.Refused no-book
 node-of i (some w) = cond (eqb (w .kind) export) (node.Refused wrong-kind) (node-told i w)
 
--- ---- the paper's number of these answers, 0 where they are done, and their values
+-- ---- the paper's number of a count, 0 where it is told, and its value
 abbrev pub count-refusal : Count → ℕ
 count-refusal (count.Counted n) = 0
 count-refusal (count.Refused n) = n
@@ -51,11 +51,3 @@ count-refusal (count.Refused n) = n
 abbrev pub count-value : Count → ℕ
 count-value (count.Counted n) = n
 count-value (count.Refused n) = 0
-
-abbrev pub node-refusal : NodeAnswer → ℕ
-node-refusal (node.Node start len parent) = 0
-node-refusal (node.Refused n) = n
-
-abbrev pub node-values : NodeAnswer → List ℕ
-node-values (node.Node start len parent) = start ∷ len ∷ parent ∷ []
-node-values (node.Refused n) = []

@@ -4,11 +4,11 @@ use mathlib.Core.List.{List}
 use mathlib.Core.Bool.{cond}
 use lib.Dec.{eqb}
 use lib.ListN.{length, getD}
-use Rattle.numbers.specs.Refusals.{unclosed, unreadable}
+use Rattle.numbers.specs.Refusals.{unreadable}
 use Rattle.linker_script.specs.declared.Skipped.{Skipped}
 use Rattle.linker_script.specs.declared.Skipped.the-variants.{At, Open}
 use Rattle.linker_script.specs.Finding.{last-close}
-use Rattle.linker_script.specs.Skip.{skip}
+use Rattle.linker_script.specs.Skip.{skip, skip-refusal}
 use Rattle.cursors.specs.declared.Cursor.{Cursor}
 use Rattle.cursors.specs.declared.Step.{Step}
 use Rattle.cursors.specs.declared.Step.the-variants.{End, Refused}
@@ -33,7 +33,7 @@ in-language c language = record { at = c .at; place = c .place; section = c .sec
 -- behind a skip
 abbrev pub on-skip : Skipped → (ℕ → Step) → Step
 on-skip (At p) on = on p
-on-skip (Open p) on = Refused unclosed p
+on-skip (Open p) on = Refused (skip-refusal (Open p)) p
 
 abbrev pub skipping : List ℕ → ℕ → (ℕ → Step) → Step
 skipping s p on = on-skip (skip s p) on

@@ -16,12 +16,12 @@ use Rattle.book.specs.Books.{cxx, general, global, local}
 use Rattle.book.specs.Layout.{Buffers, edit-width, five, line-width, node-width}
 use Rattle.book.specs.View.{view}
 use Rattle.opening.specs.Opening.{opening}
-use Rattle.ranking.specs.Matching.{Name, name-of}
+use Rattle.ranking.specs.Matching.{Name, name-of, plain}
 use Rattle.lookups.specs.declared.answers.Version.{Version}
-use Rattle.lookups.specs.declared.answers.Version.the-variants.{Index, Unversioned}
+use Rattle.lookups.specs.declared.answers.Version.the-variants.{Unversioned}
 use Rattle.lookups.specs.declared.answers.Locality.{Locality}
 use Rattle.lookups.specs.declared.answers.Locality.the-variants.{Global, Local, Nothing}
-use Rattle.lookups.specs.Lookups.{locality-asked, version-asked}
+use Rattle.lookups.specs.Lookups.{index, locality-asked, version-asked}
 use Rattle.export_list.specs.declared.Membership.{Membership}
 use Rattle.export_list.specs.declared.Membership.the-variants.{Within, Without}
 use Rattle.export_list.specs.Membership.{contains-asked}
@@ -53,23 +53,20 @@ abbrev pub answers : Lent → List Call → List ℕ
 answers x ks = numbers (history x ks)
 
 -- a name that no demangler changes, and one with its demangled name
-abbrev pub plain : String → Name
-plain t = name-of (text t) (text t)
+abbrev pub symbol : String → Name
+symbol t = plain (text t)
 
 abbrev pub demangles : String → String → Name
 demangles raw t = name-of (text raw) (text t)
 
 -- what a name gets: a version, which is an index or none, and a locality
-abbrev pub index : ℕ → Version
-index i = Index (record { 0 = i })
-
 pub record Gets (y : Lent) (n : Name) (v : Version) (l : Locality) : Type 0 where
   pub version : version-asked (view (y .counts) (y .buffers)) n none ≡ v
   pub locality : locality-asked (view (y .counts) (y .buffers)) n ≡ l
 
 -- whether it is in an export list
 abbrev pub contains : Lent → String → Membership
-contains y t = contains-asked (view (y .counts) (y .buffers)) (plain t)
+contains y t = contains-asked (view (y .counts) (y .buffers)) (symbol t)
 
 -- ---- the script of 01's example: lines 0 `haze_*`, 1 `*`, 2 `haze_month`
 abbrev pub haze : Lent
@@ -77,12 +74,12 @@ haze = script (rooms 3 12 3 16 1) "HAZE_1 { global: haze_*; local: *; };\nHAZE_2
 
 -- "haze_month 3 G", "haze_day 2 G", "main 2 L"; "With line 0 struck, haze_day is 2 L; after undo 2 G."
 pub record Haze : Type 0 where
-  pub month : Gets haze (plain "haze_month") (index 3) Global
-  pub day : Gets haze (plain "haze_day") (index 2) Global
-  pub other : Gets haze (plain "main") (index 2) Local
+  pub month : Gets haze (symbol "haze_month") (index 3) Global
+  pub day : Gets haze (symbol "haze_day") (index 2) Global
+  pub other : Gets haze (symbol "main") (index 2) Local
   pub done : answers haze (strikes 0 ∷ undoes ∷ []) ≡ 0 ∷ 0 ∷ []
-  pub struck : Gets (run haze (strikes 0 ∷ [])) (plain "haze_day") (index 2) Local
-  pub undone : Gets (run haze (strikes 0 ∷ undoes ∷ [])) (plain "haze_day") (index 2) Global
+  pub struck : Gets (run haze (strikes 0 ∷ [])) (symbol "haze_day") (index 2) Local
+  pub undone : Gets (run haze (strikes 0 ∷ undoes ∷ [])) (symbol "haze_day") (index 2) Global
   pub back : run haze (strikes 0 ∷ undoes ∷ []) ≡ haze
 
 -- ---- a node without a line, and adds to it
@@ -104,13 +101,13 @@ add-cxx = adds 1 local cxx (text "f()")
 -- "Add (node, section, language, token) trims and classes the token as in a script, any bytes or none, and appends"; "undo takes back the latest edit not yet
 -- undone"
 pub record Added : Type 0 where
-  pub before : Gets empty-node (plain "f") Unversioned Nothing
+  pub before : Gets empty-node (symbol "f") Unversioned Nothing
   pub done : answers empty-node (add-f ∷ add-all ∷ undoes ∷ undoes ∷ []) ≡ 0 ∷ 0 ∷ 0 ∷ 0 ∷ []
-  pub one : Gets (run empty-node (add-f ∷ [])) (plain "f") (index 2) Global
-  pub one-only : Gets (run empty-node (add-f ∷ [])) (plain "g") Unversioned Nothing
-  pub two : Gets (run empty-node (add-f ∷ add-all ∷ [])) (plain "g") (index 2) Local
-  pub undone : Gets (run empty-node (add-f ∷ add-all ∷ undoes ∷ [])) (plain "g") Unversioned Nothing
-  pub kept : Gets (run empty-node (add-f ∷ add-all ∷ undoes ∷ [])) (plain "f") (index 2) Global
+  pub one : Gets (run empty-node (add-f ∷ [])) (symbol "f") (index 2) Global
+  pub one-only : Gets (run empty-node (add-f ∷ [])) (symbol "g") Unversioned Nothing
+  pub two : Gets (run empty-node (add-f ∷ add-all ∷ [])) (symbol "g") (index 2) Local
+  pub undone : Gets (run empty-node (add-f ∷ add-all ∷ undoes ∷ [])) (symbol "g") Unversioned Nothing
+  pub kept : Gets (run empty-node (add-f ∷ add-all ∷ undoes ∷ [])) (symbol "f") (index 2) Global
   pub back : run empty-node (add-f ∷ add-all ∷ undoes ∷ undoes ∷ []) ≡ empty-node
 
 -- "C++ lines see the demangled name, others the raw one."
@@ -122,8 +119,8 @@ pub record Demangled : Type 0 where
 -- "and an undone add's number is given again": g's line is 0 then, and can be struck
 pub record Number-again : Type 0 where
   pub done : answers empty-node (add-f ∷ undoes ∷ add-g ∷ strikes 0 ∷ []) ≡ 0 ∷ 0 ∷ 0 ∷ 0 ∷ []
-  pub added : Gets (run empty-node (add-f ∷ undoes ∷ add-g ∷ [])) (plain "g") (index 2) Global
-  pub struck : Gets (run empty-node (add-f ∷ undoes ∷ add-g ∷ strikes 0 ∷ [])) (plain "g") Unversioned Nothing
+  pub added : Gets (run empty-node (add-f ∷ undoes ∷ add-g ∷ [])) (symbol "g") (index 2) Global
+  pub struck : Gets (run empty-node (add-f ∷ undoes ∷ add-g ∷ strikes 0 ∷ [])) (symbol "g") Unversioned Nothing
 
 -- ---- a script with as many lines as there is room for: lines 0 `f`, 1 `g`; and an add
 abbrev pub full : Lent
@@ -136,11 +133,11 @@ add-h = adds 1 local general (text "h")
 -- behind it, there is no edit to undo, and g's line is 0
 pub record Settled : Type 0 where
   pub done : answers full (add-h ∷ strikes 0 ∷ add-h ∷ settles ∷ add-h ∷ []) ≡ 8 ∷ 0 ∷ 8 ∷ 0 ∷ 0 ∷ []
-  pub new : Gets (run full (strikes 0 ∷ settles ∷ add-h ∷ [])) (plain "h") (index 2) Local
-  pub dropped : Gets (run full (strikes 0 ∷ settles ∷ add-h ∷ [])) (plain "f") Unversioned Nothing
-  pub left : Gets (run full (strikes 0 ∷ settles ∷ add-h ∷ [])) (plain "g") (index 2) Global
+  pub new : Gets (run full (strikes 0 ∷ settles ∷ add-h ∷ [])) (symbol "h") (index 2) Local
+  pub dropped : Gets (run full (strikes 0 ∷ settles ∷ add-h ∷ [])) (symbol "f") Unversioned Nothing
+  pub left : Gets (run full (strikes 0 ∷ settles ∷ add-h ∷ [])) (symbol "g") (index 2) Global
   pub no-edit : answers full (strikes 0 ∷ settles ∷ undoes ∷ strikes 0 ∷ strikes 1 ∷ []) ≡ 0 ∷ 0 ∷ 12 ∷ 0 ∷ 11 ∷ []
-  pub renumbered : Gets (run full (strikes 0 ∷ settles ∷ strikes 0 ∷ [])) (plain "g") Unversioned Nothing
+  pub renumbered : Gets (run full (strikes 0 ∷ settles ∷ strikes 0 ∷ [])) (symbol "g") Unversioned Nothing
 
 -- "with none struck it changes nothing": the edit can still be undone
 pub record Nothing-struck : Type 0 where
@@ -153,8 +150,8 @@ rust-kind = script (rooms 1 0 3 2 1) "{ global: f; local: *; };"
 
 -- "Version is always none"; "Its locality … is global for listed names, else local."
 pub record Rust-kind : Type 0 where
-  pub listed : Gets rust-kind (plain "f") Unversioned Global
-  pub other : Gets rust-kind (plain "g") Unversioned Local
+  pub listed : Gets rust-kind (symbol "f") Unversioned Global
+  pub other : Gets rust-kind (symbol "g") Unversioned Local
 
 -- ---- numbers that say no; what is refused changes nothing
 -- 11 "no such node, section, language or standing line", 12 "undo with no edit", 13 "add or strike on Rust kind", "`add_symbol` on a version book"

@@ -18,9 +18,8 @@ use Rattle.book.specs.Books.{Book}
 use Rattle.book.specs.Layout.{Buffers, five}
 use Rattle.book.specs.View.{view}
 use Rattle.opening.specs.Opening.{Opening, left, opening, told}
-use Rattle.ranking.specs.Matching.{Name, name-of}
+use Rattle.ranking.specs.Matching.{plain}
 use Rattle.lookups.specs.declared.answers.Version.{Version}
-use Rattle.lookups.specs.declared.answers.Version.the-variants.{Index}
 use Rattle.lookups.specs.declared.answers.Locality.{Locality}
 use Rattle.lookups.specs.declared.answers.Locality.the-variants.{Global, Local}
 use Rattle.counting.specs.declared.Count.{Count}
@@ -28,7 +27,7 @@ use Rattle.counting.specs.declared.Count.the-variants.{Counted}
 use Rattle.counting.specs.declared.NodeAnswer.{NodeAnswer}
 use Rattle.counting.specs.declared.NodeAnswer.the-variants.{Node}
 use Rattle.counting.specs.Questions.{counted, node-of, version-count}
-use Rattle.lookups.specs.Lookups.{locality-asked, version-asked}
+use Rattle.lookups.specs.Lookups.{index, locality-asked, version-asked}
 
 -- ---- quoted texts, as bytes in UTF-8
 unfoldable pub bytes : String → List ℕ
@@ -99,20 +98,14 @@ unfoldable pub held : String → Option Book
 held t = view (told (opened t) .counts) (left rooms (opened t))
 
 -- what it is asked: the version of a name that no demangler changes, with no version wanted, or with one; its locality; the count of versions; and a node
-abbrev pub plain : String → Name
-plain t = name-of (bytes t) (bytes t)
-
 abbrev pub version : String → String → Version
-version s t = version-asked (held s) (plain t) none
+version s t = version-asked (held s) (plain (bytes t)) none
 
 abbrev pub version-wanted : String → String → String → Version
-version-wanted s t v = version-asked (held s) (plain t) (some (bytes v))
-
-abbrev pub index : ℕ → Version
-index i = Index (record { 0 = i })
+version-wanted s t v = version-asked (held s) (plain (bytes t)) (some (bytes v))
 
 abbrev pub locality : String → String → Locality
-locality s t = locality-asked (held s) (plain t)
+locality s t = locality-asked (held s) (plain (bytes t))
 
 abbrev pub versions : String → Count
 versions s = counted version-count (held s)

@@ -36,7 +36,7 @@ number-of p (d ∷ ds) = cond (ltb (worth 0 (d ∷ ds)) number-limit) (Number (w
 unfoldable pub number-at : List ℕ → ℕ → Numeral
 number-at l p = number-of p (digits (drop p l))
 
--- ---- "one command a line": a line goes to the first line feed from its place on, or to the end of the text
+-- ---- one command a line: a line goes to the first line feed from its place on, or to the end of the text
 abbrev pub end-by : List ℕ → Found → ℕ
 end-by s (Here p) = p
 end-by s Nowhere = length s

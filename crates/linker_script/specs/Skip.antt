@@ -6,6 +6,7 @@ use mathlib.Core.List.{List, [], _∷_}
 use mathlib.Core.Bool.{Bool, cond, _&&_, _||_}
 use lib.Dec.{eqb}
 use lib.ListN.{getD, drop}
+use Rattle.numbers.specs.Refusals.{unclosed}
 use Rattle.numbers.specs.Signs.{asterisk, carriage-return, hash, line-feed, slash, space, tab}
 use Rattle.linker_script.specs.declared.Found.{Found}
 use Rattle.linker_script.specs.declared.Found.the-variants.{Here, Nowhere}
@@ -50,3 +51,8 @@ skip-past zero p (b ∷ l) = go (move p b l) p (λ k. skip-past k (p + 1) l)
 -- where a skip that starts at the place p of s ends, or the place of the comment that nothing closes
 unfoldable pub skip : List ℕ → ℕ → Skipped
 skip s p = skip-past 0 p (drop p s)
+
+-- the paper's number of this answer, 0 where the skip ends: "`#` without LF, `/*` without `*/`" is refused 3
+abbrev pub skip-refusal : Skipped → ℕ
+skip-refusal (At p) = 0
+skip-refusal (Open p) = unclosed

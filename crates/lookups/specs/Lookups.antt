@@ -27,6 +27,9 @@ index-of i = record { 0 = 1 + i .0 }
 abbrev pub global-index : VersionIndex
 global-index = record { 0 = 1 }
 
+abbrev pub index : ℕ → Version
+index i = version.Index (record { 0 = i })
+
 abbrev pub node-number : ℕ → NodeNumber
 node-number i = record { 0 = i }
 

@@ -35,7 +35,7 @@ unfoldable pub test : Taker → (List ℕ → Trial → Trial) → List ℕ → 
 test m go [] back = failed
 test m go (c ∷ s) back = tested m c (cond (takes m c) (go s back) back)
 
--- at a star: "the elements after it are tried" where it takes none, and each time that they fail, "the latest star takes one character more
+-- at a star: the elements after it are tried where it takes none, and each time that they fail, "the latest star takes one character more
 -- and the elements after it are tried anew"
 unfoldable pub each : (List ℕ → Trial → Trial) → List ℕ → Trial
 each go [] = go [] failed

@@ -1,3 +1,4 @@
+pub mod Classes
 pub mod Limits
 pub mod Refusals
 pub mod Signs

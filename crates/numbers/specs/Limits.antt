@@ -35,4 +35,4 @@ raw-name-limit = 4096
 
 -- the same of a wanted version
 abbrev pub version-limit : ℕ
-version-limit = 4096
+version-limit = raw-name-limit

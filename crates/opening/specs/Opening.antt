@@ -28,11 +28,17 @@ nothing-yet = record { nodes = no-node ∷ []; lines = []; inside = false; mixed
 
 -- "Rust kind: a one-body script with a bare `*;` among its locals (outside extern) and only Exact lines, outside extern, as globals". A script with a line
 -- and no named node has one body
+abbrev pub rust-body : ℕ → Bool → Bool → Bool
+rust-body nodes starred mixed = eqb nodes 1 && (starred && not mixed)
+
+abbrev pub kind-by : ℕ → Bool → ℕ
+kind-by place rusty = cond (eqb place at-list) export (cond rusty rust regular)
+
 unfoldable pub rust-style : Building → Bool
-rust-style g = eqb (length (g .nodes)) 1 && (g .starred && not (g .mixed))
+rust-style g = rust-body (length (g .nodes)) (g .starred) (g .mixed)
 
 unfoldable pub kind-of : ℕ → Building → ℕ
-kind-of place g = cond (eqb place at-list) export (cond (rust-style g) rust regular)
+kind-of place g = kind-by place (rust-style g)
 
 abbrev pub finished : ℕ → Building → Book
 finished place g = record { kind = kind-of place g; nodes = g .nodes; lines = g .lines; edits = [] }

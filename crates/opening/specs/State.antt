@@ -2,22 +2,19 @@
 use Prim.Native.Nat.{ℕ}
 use mathlib.Core.Path.{_≡_}
 use mathlib.Core.List.{List, []}
-use mathlib.Core.Bool.{true, cond, not, _&&_}
-use lib.Dec.{eqb}
-use Rattle.cursors.specs.Places.{at-list}
+use mathlib.Core.Bool.{true}
 use Rattle.book.specs.declared.Counts.{Counts}
-use Rattle.book.specs.Books.{export, regular, rust}
 use Rattle.book.specs.Layout.{Buffers, counts-of, five, laid-out}
 use Rattle.building.specs.declared.Progress.{Progress}
 use Rattle.building.specs.State.{building, built}
 use Rattle.opening.specs.declared.Built.{Built}
 use Rattle.opening.specs.declared.Built.the-variants.{Done, Refused}
 use Rattle.opening.specs.declared.Opened.{Opened}
-use Rattle.opening.specs.Opening.{Opening, opens, declined, finished, left, told}
+use Rattle.opening.specs.Opening.{Opening, opens, declined, finished, kind-by, left, rust-body, told}
 
 -- ---- the text has ended: the kind, and the counts, in whatever buffers
 abbrev pub kind-told : ℕ → Progress → ℕ
-kind-told place g = cond (eqb place at-list) export (cond (eqb (g .nodes) 1 && (g .starred && not (g .mixed))) rust regular)
+kind-told place g = kind-by place (rust-body (g .nodes) (g .starred) (g .mixed))
 
 abbrev pub Finished : ℕ → Progress → Counts → Type 0
 Finished place g r = (n m l q : List ℕ) → built g (five n m l q []) ≡ true → r ≡ counts-of (finished place (building g (five n m l q [])))

@@ -11,9 +11,10 @@ use lib.Dec.{eqb, leb}
 use borrow.Author.Tests.{eqb-true, eq-eqb, leb-true, leb-false, le-leb, lt-leb}
 use lib.ListN.{length, getD, length-append, List·getD-append}
 use lib.Seq.{getD-append-add}
+use Rattle.numbers.specs.Classes.{all-class, nonstar-class, star-class}
 use Rattle.numbers.specs.Limits.{node-limit}
 use Rattle.lists.proofs.Tests.{both}
-use Rattle.book.specs.Books.{Line, all-class, nonstar-class, star-class}
+use Rattle.book.specs.Books.{Line}
 use Rattle.book.proofs.Forms.{Ranged}
 use Rattle.ranking.specs.Walk.{Stage, exact-of, glob-of, exact-stages, glob-stages, stages}
 use Rattle.ranking.specs.Ranks.{rank}

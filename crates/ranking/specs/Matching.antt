@@ -3,11 +3,12 @@ use Prim.Native.Nat.{ℕ}
 use mathlib.Core.List.{List}
 use mathlib.Core.Bool.{Bool, true, cond, _&&_}
 use lib.Dec.{eqb, leb}
+use Rattle.numbers.specs.Classes.{all-class, escaped-class}
 use Rattle.lists.specs.Same.{same}
 use Rattle.utf8.specs.Utf8.{chars}
 use Rattle.pattern.specs.declared.Edition.{Edition}
 use Rattle.pattern.specs.Patterns.{elements, matches}
-use Rattle.book.specs.Books.{Line, all-class, cxx, escaped-class}
+use Rattle.book.specs.Books.{Line, cxx}
 use Rattle.book.specs.Edits.{stands}
 
 -- a name, as it stands in the symbol table and as the demangler gives it
@@ -17,6 +18,10 @@ pub record Name : Type 0 where
 
 abbrev pub name-of : List ℕ → List ℕ → Name
 name-of raw demangled = record { raw = raw; demangled = demangled }
+
+-- "the raw one again if there is none"
+abbrev pub plain : List ℕ → Name
+plain raw = name-of raw raw
 
 -- "C++ lines see the demangled name, others the raw one."
 unfoldable pub seen : Name → Line → List ℕ

@@ -5,7 +5,8 @@ use mathlib.Core.List.{List}
 use mathlib.Core.Bool.{Bool, true, cond}
 use lib.Dec.{leb}
 use lib.ListN.{length, getD}
-use Rattle.book.specs.Books.{Line, escaped-class, nonstar-class, no-line}
+use Rattle.numbers.specs.Classes.{escaped-class, nonstar-class}
+use Rattle.book.specs.Books.{Line, no-line}
 
 -- the number of the stage, of a book with n nodes, that looks at the line
 unfoldable pub rank : ℕ → Line → ℕ

@@ -11,7 +11,8 @@ use mathlib.Core.Bool.{Bool, cond, _&&_}
 use mathlib.Core.Option.{Option, some, none}
 use lib.Dec.{eqb, leb}
 use lib.ListN.{length}
-use Rattle.book.specs.Books.{Line, Book, all-class, cxx, edition-of, escaped-class, general, global, local, nonstar-class, star-class}
+use Rattle.numbers.specs.Classes.{all-class, escaped-class, nonstar-class, star-class}
+use Rattle.book.specs.Books.{Line, Book, cxx, edition-of, general, global, local}
 use Rattle.ranking.specs.declared.Deciding.{Deciding}
 use Rattle.ranking.specs.declared.Deciding.the-variants as answer
 use Rattle.ranking.specs.Matching.{Name, line-matches}

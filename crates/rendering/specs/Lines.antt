@@ -10,7 +10,7 @@ use Rattle.numbers.specs.Signs.{dash, line-feed, space}
 use Rattle.lists.specs.Front.{front}
 use Rattle.lists.specs.Texts.{codes}
 use Rattle.book.specs.Books.{Book}
-use Rattle.ranking.specs.Matching.{name-of}
+use Rattle.ranking.specs.Matching.{plain}
 use Rattle.counting.specs.declared.Count.{Count}
 use Rattle.counting.specs.declared.Count.the-variants as count
 use Rattle.lookups.specs.declared.answers.Version.{Version}
@@ -56,7 +56,7 @@ symbol-line name v l = name ++ space ∷ (fields v l ++ line-feed ∷ [])
 
 -- "the demangled name is the raw one": a name, and a wanted version, where there is one, asked of a book
 unfoldable pub asked-line : Option Book → List ℕ → Option (List ℕ) → List ℕ
-asked-line w name wanted = symbol-line name (version-asked w (name-of name name) wanted) (locality-asked w (name-of name name))
+asked-line w name wanted = symbol-line name (version-asked w (plain name) wanted) (locality-asked w (plain name))
 
 -- the line t of a symbol
 unfoldable pub symbol-answered : Option Book → List ℕ → List ℕ

@@ -21,7 +21,7 @@ unfoldable pub lines-lent : Lent → List (List ℕ) → Lent
 lines-lent x [] = x
 lines-lent x (l ∷ ls) = lines-lent (line-lent x l) ls
 
--- ---- "Room: 1,024 nodes, 4,096 lines, 65,536 bytes each of names and pool, 1,024 edits"
+-- ---- trial_desk's rooms: 1,024 nodes, 4,096 lines, 65,536 bytes each of names and pool, 1,024 edits
 pub record Desk-rooms (b : Buffers) : Type 0 where
   pub nodes : length (b .nodes) ≡ node-width * 1024
   pub names : length (b .names) ≡ 65536

@@ -9,13 +9,13 @@ use Rattle.book.specs.Books.{Line}
 use Rattle.book.specs.Layout.{Buffers, edit-width, line-width, node-width}
 use Rattle.printing.specs.Printing.{decimal, spaced}
 
--- ---- `counts`: "`kind K nodes N names B lines L pool P edits E`"
+-- ---- `counts`: `kind K nodes N names B lines L pool P edits E`
 unfoldable pub counts-shown : Counts → List ℕ
 counts-shown c =
     spaced (codes "kind") (c .kind) ++ (spaced (codes " nodes") (c .nodes) ++ (spaced (codes " names") (c .names)
     ++ (spaced (codes " lines") (c .lines) ++ (spaced (codes " pool") (c .pool) ++ (spaced (codes " edits") (c .edits) ++ line-feed ∷ [])))))
 
--- ---- `lines`: "for each line `LINE NODE CLASS SECTION LANGUAGE STRUCK LENGTH` and its bytes after a blank"
+-- ---- `lines`: for each line `LINE NODE CLASS SECTION LANGUAGE STRUCK LENGTH` and its bytes after a blank
 unfoldable pub fields-shown : Line → List ℕ
 fields-shown x =
     spaced [] (x .node) ++ (spaced [] (x .class) ++ (spaced [] (x .section) ++ (spaced [] (x .language)
@@ -28,7 +28,7 @@ unfoldable pub lines-shown : ℕ → List Line → List ℕ
 lines-shown i [] = []
 lines-shown i (x ∷ xs) = line-shown i x ++ lines-shown (i + 1) xs
 
--- ---- `dump`: "five lines: nodes, names, lines, pool, journal, each the used part as numbers after its name"
+-- ---- `dump`: five lines, nodes, names, lines, pool and journal, each with the used part as numbers after its name
 unfoldable pub numbers-shown : List ℕ → List ℕ
 numbers-shown [] = []
 numbers-shown (n ∷ l) = spaced [] n ++ numbers-shown l

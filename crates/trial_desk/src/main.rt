@@ -183,7 +183,7 @@ fn work(
     );
 }
 
-// "Room: 1,024 nodes, 4,096 lines, 65,536 bytes each of names and pool, 1,024 edits". `out` has the room that `run_line` asks for with these and the longest line.
+// Room for 1,024 nodes, 4,096 lines, 65,536 bytes each of names and pool, and 1,024 edits. `out` has the room that `run_line` asks for with these and the longest line.
 fn sit(export: bool, text: &[u8], commands: &[u8], out: &mut [u8; 1048576])
     requires { ⌜ length (now commands) ≤ input-limit ⌝ }
 {

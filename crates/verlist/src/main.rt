@@ -1,6 +1,8 @@
 // The version and locality of symbols under a version script, as document 01 describes it. Standard input (65,536 bytes at most): the script, a line `%%`, then
 // one symbol a line, `@` before a wanted version. What is printed is rendered whole by `listing::listed::render_listing`. Where the script is refused, standard
 // error says where, and what the number means.
+ghost use mathlib.Core.Path.{_≡_};
+ghost use Rattle.listing.specs.Listing.{listed, out-left, verlist-room};
 use input::positions::position_of;
 use libc::STDERR_FILENO;
 use libc::STDIN_FILENO;
@@ -24,41 +26,37 @@ fn explain(text: &[u8], listed: Listed) {
     meanings::say_meaning(listed.refusal);
 }
 
-// What is printed for an input, rendered into `out`.
-fn print_listing(
-    text: &[u8],
-    nodes: &mut [u32],
-    names: &mut [u8],
-    lines: &mut [u32],
-    pool: &mut [u8],
-    journal: &mut [u32],
-    out: &mut [u8; 983104],
-) -> Listed {
-    let listed = render_listing(text, nodes, names, lines, pool, journal, out);
-    io::write_all(STDOUT_FILENO, front(out, listed.length));
-    listed
-}
-
-// The five arrays are `verlist-room` of listing's specs/Listing.antt: 01's "1,024 nodes, 2,048 lines, 65,536 bytes each of names and pool".
-fn list(text: &[u8]) {
+// What is printed for an input, rendered into `out`, in 01's room: "1,024 nodes, 2,048 lines, 65,536 bytes each of names and pool".
+fn render(text: &[u8], out: &mut [u8; 983104]) -> Listed
+    ensures { λ r. ⌜ (r ≡ listed verlist-room (now (text .entry)) (now (out .entry))) × (now (out .exit) ≡ out-left verlist-room (now (text .entry)) (now (out .entry))) ⌝ }
+{
     let mut nodes = [0u32; 3072];
     let mut names = [0u8; 65536];
     let mut lines = [0u32; 8192];
     let mut pool = [0u8; 65536];
     let mut journal = [0u32; 2];
-    let mut out = [0u8; 983104];
-    let listed = print_listing(
+    render_listing(
         text,
         &mut nodes,
         &mut names,
         &mut lines,
         &mut pool,
         &mut journal,
-        &mut out,
-    );
+        out,
+    )
+}
+
+fn print_listing(text: &[u8], out: &mut [u8; 983104]) {
+    let listed = render(text, out);
+    io::write_all(STDOUT_FILENO, front(out, listed.length));
     if listed.refusal != 0 {
         explain(text, listed);
     }
+}
+
+fn list(text: &[u8]) {
+    let mut out = [0u8; 983104];
+    print_listing(text, &mut out);
 }
 
 fn main() {

@@ -1,0 +1,44 @@
+-- `render` lends 01's room. How long the arrays are is had by a law, since to compute it is slow. Assumes nothing.
+use Prim.Native.Nat.{ℕ}
+use mathlib.Core.Path.{_≡_, sym}
+use lib.ListN.{length, length-replicate, replicate}
+use Rattle.listing.specs.Listing.{verlist-room}
+use Rattle.verlist.proofs.render.Statement.{statement}
+use Rattle.verlist.proofs.render.Tie as tie
+
+long : (n : ℕ) → length {A = ℕ} (replicate n 0) ≡ n
+long n = length-replicate {0} {A = ℕ} n 0
+
+slice-aggregate-render-listing : tie.Need-slice-aggregate-render-listing
+slice-aggregate-render-listing c = sym (long 3072)
+
+slice-aggregate-render-listing-2 : tie.Need-slice-aggregate-render-listing-2
+slice-aggregate-render-listing-2 c = sym (long 65536)
+
+slice-aggregate-render-listing-3 : tie.Need-slice-aggregate-render-listing-3
+slice-aggregate-render-listing-3 c = sym (long 8192)
+
+slice-aggregate-render-listing-4 : tie.Need-slice-aggregate-render-listing-4
+slice-aggregate-render-listing-4 c = sym (long 65536)
+
+slice-aggregate-render-listing-5 : tie.Need-slice-aggregate-render-listing-5
+slice-aggregate-render-listing-5 c = sym (long 2)
+
+render-listing-requires : tie.Need-render-listing-requires
+render-listing-requires c κs = tt
+
+returns : tie.Need-returns
+unfolding verlist-room
+returns c = (c .before .before .before .before .before .render-listing .ensures .0, c .before .before .before .before .before .render-listing .ensures .1)
+
+pub render-spec : {M : Type 1} → statement M
+render-spec =
+    tie.close
+    (tie.spec
+    slice-aggregate-render-listing
+    slice-aggregate-render-listing-2
+    slice-aggregate-render-listing-3
+    slice-aggregate-render-listing-4
+    slice-aggregate-render-listing-5
+    render-listing-requires
+    returns)
