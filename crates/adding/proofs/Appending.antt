@@ -20,7 +20,7 @@ use Rattle.storing.specs.Answers.{keep-answer}
 use Rattle.classes.specs.Classes.{class-number}
 use Rattle.storing.specs.Keeping.{Keep, kept, refused, keep}
 use Rattle.book.specs.declared.Counts.{Counts}
-use Rattle.book.specs.Books.{Book, Line, add, edition-of}
+use Rattle.book.specs.Books.{Book, Line, add, edition-of, new-line}
 use Rattle.book.specs.Layout.{Buffers, code-of, counts-of, edit-form, edit-width, five, laid-out, line-form, line-width}
 use Rattle.book.specs.View.{book-of, laid}
 use Rattle.book.proofs.Forms.{edit-laws, line-laws}
@@ -126,7 +126,7 @@ module _ (c : Counts) (n m l q j : List ℕ) (node section language : ℕ) (t : 
     -- ---- there is a row for it, and one for its edit
     module _ (f : fits-row l (c .lines) ≡ true) (g : edit-row j (c .edits) ≡ true) (k : Class) (bs : List ℕ) where
       abbrev line : Line
-      line = record { node = node; class = class-number k; section = section; language = language; struck = 0; bytes = bs }
+      line = new-line node section language (class-number k) bs
 
       stands : c .pool + length bs ≤ pool-room q → change (kept k bs) ≡ to (with-line book line)
       unfolding append-kept

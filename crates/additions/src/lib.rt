@@ -9,6 +9,7 @@ ghost use Rattle.book.specs.View.{view};
 ghost use Rattle.changes.specs.Symbols.{symbol-asked};
 ghost use Rattle.changes.specs.Trial.{add-asked};
 ghost use Rattle.answering.specs.Answers.{Runs, added, edit-ran, editing, symbols-added};
+ghost use Rattle.printing.specs.Printing.{answer-room};
 use answering::Ran;
 use answering::printed;
 use book::Counts;
@@ -20,7 +21,7 @@ use trial_adds::add;
 
 // What an add answered.
 fn finish_add(c: Counts, r: Edited, out: &mut [u8]) -> Ran
-    requires { ⌜ 128 ≤ length (now out) ⌝ }
+    requires { ⌜ answer-room ≤ length (now out) ⌝ }
     ensures { λ n. ⌜ (n ≡ edit-ran c (added c) r) × (now (out .exit) ≡ front (added c r) (now (out .entry))) ⌝ }
 {
     match r {
@@ -41,7 +42,7 @@ fn excess(a: u32, b: u32) -> u32
 
 // What an `add_symbol` answered.
 fn finish_symbols(c: Counts, r: Edited, out: &mut [u8]) -> Ran
-    requires { ⌜ 128 ≤ length (now out) ⌝ }
+    requires { ⌜ answer-room ≤ length (now out) ⌝ }
     ensures { λ n. ⌜ (n ≡ edit-ran c (symbols-added c) r) × (now (out .exit) ≡ front (symbols-added c r) (now (out .entry))) ⌝ }
 {
     match r {
@@ -64,7 +65,7 @@ pub fn run_add(
     token: &[u8],
     out: &mut [u8],
 ) -> Ran
-    requires { ⌜ 128 ≤ length (now out) ⌝ }
+    requires { ⌜ answer-room ≤ length (now out) ⌝ }
     ensures { λ r. ⌜ Runs (editing c (five (now (nodes .entry)) (now (names .entry)) (now (lines .entry)) (now (pool .entry)) (now (journal .entry))) (added c) (add-asked (five (now (nodes .entry)) (now (names .entry)) (now (lines .entry)) (now (pool .entry)) (now (journal .entry))) (view c (five (now (nodes .entry)) (now (names .entry)) (now (lines .entry)) (now (pool .entry)) (now (journal .entry)))) node section language (now (token .entry))))
         (now (out .entry)) r (now (out .exit)) (five (now (nodes .entry)) (now (names .entry)) (now (lines .exit)) (now (pool .exit)) (now (journal .exit))) ⌝ }
 {
@@ -95,7 +96,7 @@ pub fn run_symbol(
     bare: bool,
     out: &mut [u8],
 ) -> Ran
-    requires { ⌜ 128 ≤ length (now out) ⌝ }
+    requires { ⌜ answer-room ≤ length (now out) ⌝ }
     ensures { λ r. ⌜ Runs (editing c (five (now (nodes .entry)) (now (names .entry)) (now (lines .entry)) (now (pool .entry)) (now (journal .entry))) (symbols-added c) (symbol-asked (five (now (nodes .entry)) (now (names .entry)) (now (lines .entry)) (now (pool .entry)) (now (journal .entry))) (view c (five (now (nodes .entry)) (now (names .entry)) (now (lines .entry)) (now (pool .entry)) (now (journal .entry)))) (now (text .entry)) bare))
         (now (out .entry)) r (now (out .exit)) (five (now (nodes .entry)) (now (names .entry)) (now (lines .exit)) (now (pool .exit)) (now (journal .exit))) ⌝ }
 {

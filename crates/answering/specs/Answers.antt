@@ -56,14 +56,17 @@ editing c b say x = record { printed = say (edited x); counts = counts-after c x
 abbrev pub telling : Counts → Buffers → List ℕ → Step
 telling c b t = record { printed = t; counts = c; left = b; known = true }
 
--- ---- what is answered when a command has run: it stands at the front of a lent buffer
+-- ---- what is answered when a command has run: the counts behind it, how many bytes were printed, and whether it is a command
+abbrev pub ran-with : Counts → ℕ → Bool → Ran
+ran-with c n known = record { counts = c; length = n; known = known; refusal = 0 }
+
 abbrev pub ran : Step → Ran
-ran s = record { counts = s .counts; length = length (s .printed); known = s .known; refusal = 0 }
+ran s = ran-with (s .counts) (length (s .printed)) (s .known)
 
 -- the same of an edit's answer, with the counts c before it
 abbrev pub edit-ran : Counts → (Edited → List ℕ) → Edited → Ran
-edit-ran c say (answer.Done d) = record { counts = d; length = length (say (answer.Done d)); known = true; refusal = 0 }
-edit-ran c say (answer.Refused n) = record { counts = c; length = length (say (answer.Refused n)); known = true; refusal = 0 }
+edit-ran c say (answer.Done d) = ran-with d (length (say (answer.Done d))) true
+edit-ran c say (answer.Refused n) = ran-with c (length (say (answer.Refused n))) true
 
 -- s has run: r is answered, it stands at the front of `out`, and the buffers are as it leaves them
 unfoldable pub Runs : Step → List ℕ → Ran → List ℕ → Buffers → Type 0

@@ -9,6 +9,7 @@ ghost use Rattle.book.specs.View.{view};
 ghost use Rattle.input.specs.Splitting.{name-part};
 ghost use Rattle.answering.specs.Answers.{Runs, telling};
 ghost use Rattle.asking.specs.Asked.{asked, member-answered, member-line};
+ghost use Rattle.rendering.specs.Lines.{tail-room};
 use answering::Ran;
 use answering::printed;
 use book::Counts;
@@ -23,7 +24,7 @@ use rendering_symbols::render_symbol;
 
 // A name and whether it is in an export list, as a line.
 fn put_member(out: &mut [u8], name: &[u8], m: Membership) -> usize
-    requires { ⌜ length (now name) + 48 ≤ length (now out) ⌝ }
+    requires { ⌜ length (now name) + tail-room ≤ length (now out) ⌝ }
     ensures { λ r. ⌜ (r ≡ length (member-line (now (name .entry)) m))
         × (now (out .exit) ≡ paste (now (out .entry)) 0 (member-line (now (name .entry)) m) (length (member-line (now (name .entry)) m))) ⌝ }
 {
@@ -60,7 +61,7 @@ fn ask_member(
     t: &[u8],
     out: &mut [u8],
 ) -> usize
-    requires { ⌜ length (now t) + 48 ≤ length (now out) ⌝ }
+    requires { ⌜ length (now t) + tail-room ≤ length (now out) ⌝ }
     ensures { λ r. ⌜ (r ≡ length (member-answered (view c (five (now (nodes .entry)) (now (names .entry)) (now (lines .entry)) (now (pool .entry)) (now (journal .entry)))) (now (t .entry))))
         × (now (out .exit) ≡ paste (now (out .entry)) 0 (member-answered (view c (five (now (nodes .entry)) (now (names .entry)) (now (lines .entry)) (now (pool .entry)) (now (journal .entry)))) (now (t .entry)))
         (length (member-answered (view c (five (now (nodes .entry)) (now (names .entry)) (now (lines .entry)) (now (pool .entry)) (now (journal .entry)))) (now (t .entry))))) ⌝ }
@@ -81,7 +82,7 @@ pub fn run_ask(
     t: &[u8],
     out: &mut [u8],
 ) -> Ran
-    requires { ⌜ length (now t) + 48 ≤ length (now out) ⌝ }
+    requires { ⌜ length (now t) + tail-room ≤ length (now out) ⌝ }
     ensures { λ r. ⌜ Runs (telling c (five (now (nodes .entry)) (now (names .entry)) (now (lines .entry)) (now (pool .entry)) (now (journal .entry))) (asked (c .kind) (view c (five (now (nodes .entry)) (now (names .entry)) (now (lines .entry)) (now (pool .entry)) (now (journal .entry)))) (now (t .entry))))
         (now (out .entry)) r (now (out .exit)) (five (now (nodes .entry)) (now (names .entry)) (now (lines .entry)) (now (pool .entry)) (now (journal .entry))) ⌝ }
 {

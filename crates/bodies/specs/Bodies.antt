@@ -5,6 +5,7 @@ use mathlib.Core.List.{List, [], _∷_}
 use mathlib.Core.Bool.{cond}
 use lib.Dec.{eqb, ltb}
 use lib.ListN.{length, getD}
+use Rattle.numbers.specs.Marks.{global, local}
 use Rattle.numbers.specs.Refusals.{unreadable}
 use Rattle.numbers.specs.Signs.{closing-brace, opening-brace, semicolon}
 use Rattle.linker_script.specs.declared.Found.{Found}
@@ -49,17 +50,21 @@ parent-at c s p = parent-to c p (first-from (is semicolon) s p)
 
 -- behind the `}` of a named node's body, where the next body begins "global at first"; and of a sole body
 unfoldable pub node-end : Cursor → List ℕ → ℕ → Step
-node-end c s p = skipping s p (λ q. parent-at (in-section c 0) s q)
+node-end c s p = skipping s p (λ q. parent-at (in-section c global) s q)
+
+-- "skip, end"
+abbrev pub end-behind : List ℕ → ℕ → Step
+end-behind s p = skipping s p (λ q. ending s q)
 
 unfoldable pub sole-end : List ℕ → ℕ → Step
-sole-end s p = skipping s p (λ q. expecting semicolon s q (λ r. skipping s r (λ e. ending s e)))
+sole-end s p = skipping s p (λ q. expecting semicolon s q (λ r. end-behind s r))
 
 -- ---- "Body: `{`, then repeatedly skip; `}` ends it and skips; `global:` and `local:` set the section (global at first); else a matcher."
 -- at the place p, where no `}` stands; an extern block goes on at `inner`
 unfoldable pub inside-body : Cursor → List ℕ → ℕ → ℕ → Step
 inside-body c s inner p =
-    cond (stands-at global-word s p) (Go (Section 0) (moved (in-section c 0) (c .place) (p + 7)))
-    (cond (stands-at local-word s p) (Go (Section 1) (moved (in-section c 1) (c .place) (p + 6)))
+    cond (stands-at global-word s p) (Go (Section global) (moved (in-section c global) (c .place) (p + 7)))
+    (cond (stands-at local-word s p) (Go (Section local) (moved (in-section c local) (c .place) (p + 6)))
     (matcher c s inner (c .place) p))
 
 unfoldable pub body-at : Cursor → List ℕ → ℕ → Step
@@ -70,4 +75,4 @@ sole-at c s p = cond (eqb (getD s p 0) closing-brace) (sole-end s (p + 1)) (insi
 
 -- ---- "Export list: skip, `{`, matchers, `};` with nothing between, skip, end. Section words mean nothing there."
 unfoldable pub list-at : Cursor → List ℕ → ℕ → Step
-list-at c s p = cond (stands-at close-word s p) (skipping s (p + 2) (λ r. ending s r)) (matcher c s in-list-extern in-list p)
+list-at c s p = cond (stands-at close-word s p) (end-behind s (p + 2)) (matcher c s in-list-extern in-list p)

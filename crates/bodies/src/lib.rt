@@ -1,8 +1,7 @@
 // Bodies, and what a script or a list has beside them, as steps of a reading that stands behind a skip: it knows the byte there. The leaves are `matchers`.
 // Definitions: specs/, from document 01, 'Reading'.
 ghost use mathlib.Core.Path.{_≡_};
-ghost use Rattle.cursors.specs.Moves.{skipping, ending};
-ghost use Rattle.bodies.specs.Bodies.{name-to, node-at, script-at, parent-at, node-end, sole-end, inside-body, body-at, sole-at, list-at};
+ghost use Rattle.bodies.specs.Bodies.{end-behind, name-to, node-at, script-at, parent-at, node-end, sole-end, inside-body, body-at, sole-at, list-at};
 use comments::skip_comments_and_whitespace;
 use cursors::Cursor;
 use cursors::Event;
@@ -94,7 +93,7 @@ fn node_end(c: Cursor, s: &[u8], p: usize) -> Step
 
 // Behind the last `;` of a script or a list: skip, end.
 fn end_behind(s: &[u8], p: usize) -> Step
-    ensures { λ r. ⌜ r ≡ skipping (now (s .entry)) p (λ q. ending (now (s .entry)) q) ⌝ }
+    ensures { λ r. ⌜ r ≡ end-behind (now (s .entry)) p ⌝ }
 {
     match skip_comments_and_whitespace(s, p) {
         Skipped::Open(o) => Step::Refused(UNCLOSED, o),

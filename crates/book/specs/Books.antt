@@ -3,7 +3,8 @@ use Prim.Native.Nat.{ℕ, _+_}
 use mathlib.Core.List.{List, [], _∷_}
 use mathlib.Core.Bool.{Bool, cond}
 use lib.Dec.{eqb}
-use lib.ListN.{length, getD}
+use lib.ListN.{length}
+use Rattle.numbers.specs.Marks.{general, global}
 use Rattle.lists.specs.Same.{same}
 use Rattle.pattern.specs.declared.Edition.{Edition}
 use Rattle.pattern.specs.declared.Edition.the-variants.{Reld}
@@ -18,19 +19,6 @@ rust = 1
 abbrev pub export : ℕ
 export = 2
 
--- "Section 1 is local, language 1 C++."
-abbrev pub global : ℕ
-global = 0
-
-abbrev pub local : ℕ
-local = 1
-
-abbrev pub general : ℕ
-general = 0
-
-abbrev pub cxx : ℕ
-cxx = 1
-
 -- a node: its name, and its parent's number or 0
 pub record Node : Type 0 where
   pub name : List ℕ
@@ -44,6 +32,10 @@ pub record Line : Type 0 where
   pub language : ℕ
   pub struck : ℕ
   pub bytes : List ℕ
+
+-- as it comes, it stands
+abbrev pub new-line : ℕ → ℕ → ℕ → ℕ → List ℕ → Line
+new-line node section language class bs = record { node = node; class = class; section = section; language = language; struck = 0; bytes = bs }
 
 -- an edit: "1 add or 2 strike; line"
 pub record Edit : Type 0 where
@@ -62,6 +54,13 @@ pub record Book : Type 0 where
   pub lines : List Line
   pub edits : List Edit
 
+-- the book with those lines, and without an edit
+abbrev pub with-lines : Book → List Line → Book
+with-lines w ls = record { kind = w .kind; nodes = w .nodes; lines = ls; edits = [] }
+
+abbrev pub no-edits : List Edit → Bool
+no-edits es = eqb (length es) 0
+
 -- how a book's patterns are read. There is one way today
 abbrev pub edition-of : ℕ → Edition
 edition-of kind = Reld
@@ -71,7 +70,7 @@ abbrev pub no-node : Node
 no-node = record { name = []; parent = 0 }
 
 abbrev pub no-line : Line
-no-line = record { node = 0; class = 0; section = 0; language = 0; struck = 0; bytes = [] }
+no-line = new-line 0 global general 0 []
 
 -- the number of the first node with that name, or how many nodes there are
 unfoldable pub first-named : List Node → List ℕ → ℕ

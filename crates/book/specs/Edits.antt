@@ -1,7 +1,7 @@
 -- An edit taken back, and a journal taken back from its latest edit on. Assumes nothing.
 use Prim.Native.Nat.{ℕ, _+_}
 use mathlib.Core.List.{List, [], _∷_}
-use mathlib.Core.Bool.{Bool, true, false, cond, _&&_, not}
+use mathlib.Core.Bool.{Bool, false, cond, _&&_, not}
 use mathlib.Core.Option.{Option, some, none}
 use lib.Dec.{eqb, ltb}
 use lib.ListN.{length, getD, set, take}
@@ -18,6 +18,10 @@ line-at ls i = getD ls i no-line
 abbrev pub marked : ℕ → Line → Line
 marked k x = record { node = x .node; class = x .class; section = x .section; language = x .language; struck = k; bytes = x .bytes }
 
+-- the lines with that mark on line i
+abbrev pub marked-at : ℕ → List Line → ℕ → List Line
+marked-at k ls i = set ls i (marked k (line-at ls i))
+
 -- the lines, those standing again whose number has a mark in gs
 unfoldable pub standing-again : List ℕ → List Line → List Line
 standing-again gs [] = []
@@ -30,7 +34,7 @@ add-back i ls = cond (eqb (length ls) (i + 1) && stands (line-at ls i)) (some (t
 
 -- a strike is of a line that is struck, and the line stands again
 unfoldable pub strike-back : ℕ → List Line → Option (List Line)
-strike-back i ls = cond (ltb i (length ls) && not (stands (line-at ls i))) (some (set ls i (marked 0 (line-at ls i)))) none
+strike-back i ls = cond (ltb i (length ls) && not (stands (line-at ls i))) (some (marked-at 0 ls i)) none
 
 unfoldable pub take-back : Edit → List Line → Option (List Line)
 take-back e ls = cond (eqb (e .what) add) (add-back (e .line) ls) (strike-back (e .line) ls)

@@ -27,17 +27,20 @@ node-form = record {
 abbrev pub line-width : ℕ
 line-width = 4
 
+abbrev pub struck-mark : ℕ
+struck-mark = 32
+
 abbrev pub code-of : Line → ℕ
-code-of x = x .class * 4 + x .section * 2 + x .language + x .struck * 32
+code-of x = x .class * 4 + x .section * 2 + x .language + x .struck * struck-mark
 
 -- the line with that code
 abbrev pub line-of : ℕ → ℕ → List ℕ → Line
 line-of node code bs = record {
   node = node;
-  class = code % 32 / 4;
+  class = code % struck-mark / 4;
   section = code % 4 / 2;
   language = code % 2;
-  struck = code / 32;
+  struck = code / struck-mark;
   bytes = bs;
 }
 

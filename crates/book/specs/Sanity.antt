@@ -6,14 +6,16 @@ use lib.Dec.{eqb, leb, ltb}
 use lib.ListN.{length, getD}
 use Rattle.numbers.specs.Classes.{all-class, exact-class, nonstar-class, star-class}
 use Rattle.numbers.specs.Limits.{token-limit}
-use Rattle.numbers.specs.Signs.{asterisk, carriage-return, hash, semicolon, slash}
+use Rattle.numbers.specs.Marks.{general, global, is-language, is-section, local}
+use Rattle.numbers.specs.Signs.{semicolon}
 use Rattle.lists.specs.Same.{same}
 use Rattle.packing.specs.Tables.{any, every}
+use Rattle.linker_script.specs.Skip.{skips}
 use Rattle.pattern.specs.declared.Edition.{Edition}
 use Rattle.pattern.specs.Patterns.{refusal}
 use Rattle.pattern.specs.Storing.{stored}
 use Rattle.tokens.specs.Tokens.{named}
-use Rattle.book.specs.Books.{Node, Line, Edit, Book, regular, rust, export, global, local, general, cxx, add, strike, edition-of, no-node, first-named}
+use Rattle.book.specs.Books.{Node, Line, Edit, Book, add, edition-of, export, first-named, no-edits, no-node, regular, rust, strike}
 use Rattle.book.specs.Edits.{journal-fits}
 
 -- ---- a line, of a book of that kind with that many nodes
@@ -22,8 +24,8 @@ unfoldable pub in-range : ℕ → Line → Bool
 in-range nodes x =
     ltb (x .node) nodes
     && (leb (x .class) all-class
-    && (leb (x .section) local
-    && (leb (x .language) cxx
+    && (is-section (x .section)
+    && (is-language (x .language)
     && (leb (x .struck) 1
     && (leb (length (x .bytes)) token-limit
     && (not (eqb (x .class) all-class) || eqb (length (x .bytes)) 0))))))
@@ -49,12 +51,9 @@ unfoldable pub edit-ok : Edit → Bool
 edit-ok e = eqb (e .what) add || eqb (e .what) strike
 
 -- ---- nodes
--- "a node name … that no reading gives": one or more bytes that a name has, and none that the skip before it takes
-unfoldable pub skipped-first : List ℕ → Bool
-skipped-first t = eqb (getD t 0 0) carriage-return || (eqb (getD t 0 0) hash || (eqb (getD t 0 0) slash && eqb (getD t 1 0) asterisk))
-
+-- "a node name … that no reading gives": one or more bytes that a name has, and no beginning that the skip before it takes
 unfoldable pub name-good : List ℕ → Bool
-name-good t = ltb 0 (length t) && (every named t && not (skipped-first t))
+name-good t = ltb 0 (length t) && (every named t && not (skips t 0))
 
 -- "or parent that no reading gives": none, or an earlier node, the first of its name, whose name can stand before a `;`
 abbrev pub no-semicolon : ℕ → Bool
@@ -84,9 +83,6 @@ bare-star x = eqb (x .class) all-class && (eqb (x .section) local && eqb (x .lan
 
 unfoldable pub some-star : List Line → Bool
 some-star xs = any bare-star xs
-
-abbrev pub no-edits : List Edit → Bool
-no-edits es = eqb (length es) 0
 
 -- a Regular book has any nodes; the other kinds have node 0 alone, and "a Rust kind with an edit or whose lines break its rule" is none
 unfoldable pub kind-good : Book → Bool

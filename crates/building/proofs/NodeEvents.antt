@@ -19,7 +19,7 @@ use Rattle.book.specs.Layout.{five, line-form, node-form, node-width}
 use Rattle.book.specs.Sanity.{in-range, line-ok}
 use Rattle.book.specs.View.{any-node}
 use Rattle.book.proofs.Forms.{node-laws}
-use Rattle.rooms.specs.Rooms.{node-room}
+use Rattle.rooms.specs.Rooms.{node-room, row-room}
 use Rattle.building.specs.declared.Progress.{Progress}
 use Rattle.building.specs.declared.Taking.the-variants.{On, No}
 use Rattle.building.specs.Building.{take-node, take-parent}
@@ -76,12 +76,12 @@ module _ (g : Progress) (p : ℕ) (name n m : List ℕ) where
   unfolding node-room
   room-is l q e r =
       let t = is-state g n m l q e in
-      let a = both (ltb (length (nodes-of g n m l q)) node-limit) _ r in
-      let b = both (leb (node-width * (length (nodes-of g n m l q) + 1)) (length n)) _ (a .1) in
+      let a = both (row-room node-limit node-width n (length (nodes-of g n m l q))) _ r in
+      let b = both (ltb (length (nodes-of g n m l q)) node-limit) _ (a .0) in
       record {
-        number = rw (t .nodes .count) (ltb-true _ _ (a .0));
-        row = rw (t .nodes .count) (leb-true _ _ (b .0));
-        name = rw (t .nodes .total) (leb-true _ _ (b .1));
+        number = rw (t .nodes .count) (ltb-true _ _ (b .0));
+        row = rw (t .nodes .count) (leb-true _ _ (b .1));
+        name = rw (t .nodes .total) (leb-true _ _ (a .1));
       }
 
   is-room : (l q : List ℕ) → built g (five n m l q []) ≡ true → Node-room g n m (length name) → node-room (five n m l q []) (nodes-of g n m l q) name ≡ true

@@ -5,13 +5,13 @@ use mathlib.Core.Bool.{Bool, true, false, cond, _&&_, _||_, not}
 use lib.Dec.{eqb, ltb}
 use lib.ListN.{length, getD, set, take, drop}
 use Rattle.numbers.specs.Classes.{all-class, exact-class}
+use Rattle.numbers.specs.Marks.{global, local}
 use Rattle.numbers.specs.Refusals.{no-room, unknown-parent}
-use Rattle.pattern.specs.declared.Edition.{Edition}
 use Rattle.classes.specs.Classes.{class-number}
-use Rattle.storing.specs.Keeping.{Keep, kept, refused, keep}
+use Rattle.storing.specs.Keeping.{Keep, keep, kept-where}
 use Rattle.cursors.specs.declared.Event.{Event}
 use Rattle.cursors.specs.declared.Event.the-variants.{Node, Body, Section, Extern, Closed, Line, Parent}
-use Rattle.book.specs.Books.{edition-of, first-named, global, local, no-node, regular}
+use Rattle.book.specs.Books.{edition-of, first-named, new-line, no-node, regular}
 use Rattle.book.specs.Books as book
 use Rattle.book.specs.Layout.{Buffers}
 use Rattle.rooms.specs.Rooms.{line-room, node-room}
@@ -48,32 +48,36 @@ unfoldable pub take-node : Buffers → Building → ℕ → List ℕ → Taken
 take-node b g p name = cond (node-room b (g .nodes) name) (on (with-node g name)) (no no-room p)
 
 -- ---- an extern block opens: "an extern block among the globals, even an empty one, makes it Regular"; and closes
+abbrev pub mixed-in-block : Bool → ℕ → Bool
+mixed-in-block mixed section = mixed || eqb section global
+
 abbrev pub in-block : Building → ℕ → Building
-in-block g section = record { nodes = g .nodes; lines = g .lines; inside = true; mixed = g .mixed || eqb section global; starred = g .starred }
+in-block g section = record { nodes = g .nodes; lines = g .lines; inside = true; mixed = mixed-in-block (g .mixed) section; starred = g .starred }
 
 abbrev pub out-of-block : Building → Building
 out-of-block g = record { nodes = g .nodes; lines = g .lines; inside = false; mixed = g .mixed; starred = g .starred }
 
 -- ---- a line, of the node that began last, with its class and bytes: the Rust kind has "only Exact lines … as globals" and "a bare `*;` among its locals
 -- (outside extern)"
-abbrev pub new-line : Building → ℕ → ℕ → ℕ → List ℕ → book.Line
-new-line g section language class bs =
-    record { node = length (g .nodes) - 1; class = class; section = section; language = language; struck = 0; bytes = bs }
+abbrev pub mixed-behind : Bool → ℕ → ℕ → Bool
+mixed-behind mixed section class = mixed || (eqb section global && not (eqb class exact-class))
+
+abbrev pub starred-behind : Bool → Bool → ℕ → ℕ → Bool
+starred-behind starred inside section class = starred || (eqb section local && (eqb class all-class && not inside))
 
 abbrev pub with-line : Building → ℕ → ℕ → ℕ → List ℕ → Building
 with-line g section language class bs = record {
   nodes = g .nodes;
-  lines = g .lines ++ new-line g section language class bs ∷ [];
+  lines = g .lines ++ new-line (length (g .nodes) - 1) section language class bs ∷ [];
   inside = g .inside;
-  mixed = g .mixed || (eqb section global && not (eqb class exact-class));
-  starred = g .starred || (eqb section local && (eqb class all-class && not (g .inside)));
+  mixed = mixed-behind (g .mixed) section class;
+  starred = starred-behind (g .starred) (g .inside) section class;
 }
 
 -- "its 1, 5, 6, 8, in this order"
 unfoldable pub take-kept : Buffers → Building → ℕ → ℕ → ℕ → Keep → Taken
-take-kept b g p section language (kept k bs) =
-    cond (line-room b (g .lines) bs) (on (with-line g section language (class-number k) bs)) (no no-room p)
-take-kept b g p section language (refused n) = no n p
+take-kept b g p section language x =
+    kept-where (line-room b (g .lines)) (λ k bs. on (with-line g section language (class-number k) bs)) (λ n. no n p) x
 
 -- ---- a named node ends: "Empty parent text means none; otherwise it equals an earlier node's name, the first such."
 abbrev pub with-parent : Building → ℕ → ℕ → Building

@@ -2,20 +2,20 @@
 use Prim.Native.Nat.{ℕ, _*_}
 use mathlib.Core.Path.{_≡_}
 use mathlib.Core.List.{List, []}
-use mathlib.Core.Bool.{Bool, true, false, _&&_, _||_}
-use lib.Dec.{eqb, leb, ltb}
+use mathlib.Core.Bool.{Bool, true, false, _&&_}
+use lib.Dec.{leb, ltb}
 use lib.ListN.{length}
 use Rattle.numbers.specs.Limits.{script-limit}
 use Rattle.packing.specs.Padding.{zeros}
 use Rattle.storing.specs.Keeping.{keep}
 use Rattle.book.specs.declared.Counts.{Counts}
-use Rattle.book.specs.Books.{edition-of, global, regular}
+use Rattle.book.specs.Books.{edition-of, regular}
 use Rattle.book.specs.Layout.{Buffers, five}
 use Rattle.book.specs.View.{book-of, laid}
 use Rattle.building.specs.declared.Progress.{Progress}
 use Rattle.building.specs.declared.Taking.{Taking}
 use Rattle.building.specs.declared.Taking.the-variants.{On, No}
-use Rattle.building.specs.Building.{Building, Taken, on, no, take-node, take-kept, take-parent}
+use Rattle.building.specs.Building.{Building, Taken, on, no, mixed-in-block, take-node, take-kept, take-parent}
 
 -- the counts of what is there so far
 abbrev pub counts-so-far : Progress → Counts
@@ -57,7 +57,7 @@ Took-line g p section language t l q r l′ q′ =
     → built g (five n m l q []) ≡ true
     → Took (take-kept (five n m l q []) (building g (five n m l q [])) p section language (keep (edition-of regular) t)) r (five n m l′ q′ [])
 
--- ---- an extern block opens, and closes
+-- ---- an extern block opens, and closes: `in-block` and `out-of-block`, where nothing is written
 abbrev pub inside-block : Progress → ℕ → Progress
 inside-block g section = record {
   nodes = g .nodes;
@@ -65,7 +65,7 @@ inside-block g section = record {
   lines = g .lines;
   pool = g .pool;
   inside = true;
-  mixed = g .mixed || eqb section global;
+  mixed = mixed-in-block (g .mixed) section;
   starred = g .starred;
 }
 

@@ -1,15 +1,14 @@
 // What each event of a reading makes of a book in lent buffers. Definitions: specs/Building.antt and specs/State.antt, from document 01, 'Reading', 'The book' and
 // 'Numbers that say no'. `take_node` and `take_parent` are for a caller who knows how far the book is. A line is taken by the crate `building_lines`.
 ghost use mathlib.Core.Path.{_≡_};
-ghost use mathlib.Core.Bool.{true, _||_};
+ghost use mathlib.Core.Bool.{true};
 ghost use Prim.Native.Nat.{_*_, _≤_, _<_};
-ghost use lib.Dec.{eqb};
 ghost use lib.ListN.{length};
 ghost use Rattle.numbers.specs.Limits.{node-limit, script-limit};
 ghost use Rattle.packing.specs.Tables.{packs};
-ghost use Rattle.book.specs.Books.{global};
 ghost use Rattle.book.specs.Layout.{node-form};
 ghost use Rattle.book.specs.View.{any-node};
+ghost use Rattle.building.specs.Building.{mixed-in-block};
 ghost use Rattle.building.specs.State.{Cleared, Took-node, Took-parent, inside-block, outside-block};
 use book::NODE_WIDTH;
 use book::nodes::first_named;
@@ -80,7 +79,7 @@ pub fn take_node(g: Progress, p: usize, name: &[u8], nodes: &mut [u32], names: &
 
 // Whether the globals have what the Rust kind's have not, behind an extern block in that section.
 fn mixed_in_block(g: Progress, section: u32) -> bool
-    ensures { λ r. ⌜ r ≡ g .mixed || eqb section global ⌝ }
+    ensures { λ r. ⌜ r ≡ mixed-in-block (g .mixed) section ⌝ }
 {
     if g.mixed {
         return true;

@@ -9,7 +9,7 @@ use native.Mathlib.Omega.{arith}
 use borrow.Author.Tests.{eq-eqb, ne-eqb, eqb-true, le-leb, lt-ltb}
 use lib.Dec.{eqb}
 use lib.ListN.{length}
-use Rattle.numbers.specs.Limits.{token-limit}
+use Rattle.numbers.specs.Limits.{over, token-limit}
 use Rattle.lists.proofs.SameLaws.{same-refl}
 use Rattle.pattern.specs.declared.Edition.{Edition}
 use Rattle.pattern.specs.Patterns.{refusal}
@@ -17,9 +17,9 @@ use Rattle.pattern.specs.Storing.{stored, stored-byte, negated-from}
 use Rattle.classes.specs.declared.Class.{Class}
 use Rattle.classes.specs.declared.Class.the-variants.{Exact, Escaped, NonStar, Star, All}
 use Rattle.classes.specs.Classes.{class-number, lone-star, quoted, scan, unquoted}
-use Rattle.storing.specs.Keeping.{Keep, kept, refused, over, keep, keep-as, keep-class, keep-glob, keep-scanned, keep-when}
+use Rattle.storing.specs.Keeping.{Keep, kept, refused, keep, keep-as, keep-class, keep-glob, keep-scanned, keep-when}
 use Rattle.storing.proofs.Keeping.{bytes, keep-few}
-use Rattle.book.specs.Books.{edition-of, regular}
+use Rattle.book.specs.Books.{edition-of, new-line, regular}
 use Rattle.book.specs.Sanity.{content-good, glob-stands, in-range, kind-allows, line-ok}
 
 -- ---- storing twice changes nothing
@@ -84,7 +84,7 @@ as-fine e All t = refl
 
 keep-fine : (e : Edition) (t : List ℕ) → Kept-fine e (keep e t)
 unfolding keep keep-class keep-scanned
-keep-fine e t = go (over t) (quoted t) (lone-star t)
+keep-fine e t = go (over token-limit t) (quoted t) (lone-star t)
   where
     go : (x y z : Bool)
         → Kept-fine e (cond x (refused 1) (cond y (kept Exact (unquoted t)) (cond z (kept All []) (keep-as e (scan Exact false t) t))))
@@ -123,7 +123,7 @@ module _ (t : List ℕ) (k : Class) (bs : List ℕ) (h : keep (edition-of regula
   globs-stand All f = refl
 
   pub kept-line : (nodes node section language : ℕ) → node < nodes → section ≤ 1 → language ≤ 1
-      → line-ok regular nodes (record { node = node; class = class-number k; section = section; language = language; struck = 0; bytes = bs }) ≡ true
+      → line-ok regular nodes (new-line node section language (class-number k) bs) ≡ true
   unfolding line-ok in-range kind-allows content-good
   kept-line nodes node section language a b c =
       rw (

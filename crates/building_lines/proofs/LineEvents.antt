@@ -3,12 +3,10 @@
 use Prim.Native.Nat.{ℕ, _+_, _-_, _*_, _≤_}
 use mathlib.Core.Path.{_≡_, sym, ap, _∙_}
 use mathlib.Core.List.{List, [], _∷_, _++_}
-use mathlib.Core.Bool.{Bool, true, false, not, _&&_, _||_}
+use mathlib.Core.Bool.{Bool, true, false}
 use native.Mathlib.Omega.{arith}
-use lib.Dec.{eqb}
 use lib.ListN.{length}
 use lib.Seq.{paste}
-use Rattle.numbers.specs.Classes.{all-class, exact-class}
 use Rattle.numbers.specs.Limits.{pool-limit}
 use Rattle.numbers.specs.Refusals.{no-room}
 use Rattle.packing.proofs.Packings.{Packs, put-thing}
@@ -19,7 +17,7 @@ use Rattle.storing.specs.declared.Stored.the-variants.{As}
 use Rattle.storing.specs.declared.Stored.the-variants as stored
 use Rattle.classes.specs.Classes.{class-number}
 use Rattle.storing.specs.Keeping.{Keep, kept, refused, keep}
-use Rattle.book.specs.Books.{Line, edition-of, global, local, regular}
+use Rattle.book.specs.Books.{Line, edition-of, new-line, regular}
 use Rattle.book.specs.Layout.{code-of, five, line-form, line-width}
 use Rattle.book.specs.Sanity.{line-ok}
 use Rattle.book.proofs.Forms.{line-laws}
@@ -29,7 +27,7 @@ use Rattle.rooms.proofs.Putting.{Kept, Refused-as, room-length, room-limit, was
 use Rattle.rooms.proofs.Rows.{row-number, row-within}
 use Rattle.building.specs.declared.Progress.{Progress}
 use Rattle.building.specs.declared.Taking.the-variants.{On, No}
-use Rattle.building.specs.Building.{no as says-no, take-kept}
+use Rattle.building.specs.Building.{no as says-no, mixed-behind, starred-behind, take-kept}
 use Rattle.building.specs.State.{Took-line, building, built}
 use Rattle.building_lines.proofs.Kept.{kept-line}
 use Rattle.building.proofs.States.{State, building-is, is-state, lines-of, nodes-of, state-is}
@@ -45,12 +43,6 @@ line-more g k mixed starred = record {
   mixed = mixed;
   starred = starred;
 }
-
-abbrev pub mixed-then : Progress → ℕ → ℕ → Bool
-mixed-then g section class = g .mixed || (eqb section global && not (eqb class exact-class))
-
-abbrev pub starred-then : Progress → ℕ → ℕ → Bool
-starred-then g section class = g .starred || (eqb section local && (eqb class all-class && not (g .inside)))
 
 module _ (g : Progress) (p section language : ℕ) (t l q : List ℕ) where
   no-line : (k : Class) (bs n m : List ℕ) → line-room (five n m l q []) (lines-of g n m l q) bs ≡ false
@@ -99,17 +91,17 @@ module _ (g : Progress) (p section language : ℕ) (t l q : List ℕ) where
     stands : (k : Class) (i c : ℕ) (bs l′ : List ℕ) → keep (edition-of regular) t ≡ kept k bs → i ≡ length bs → Line-room (g .lines) (g .pool) l q (length bs)
         → q′ ≡ paste q (g .pool) bs (length bs) → section ≤ 1 → language ≤ 1 → c ≡ class-number k
         → l′ ≡ paste l (line-width * g .lines) ((g .nodes - 1) ∷ (c * 4 + section * 2 + language) ∷ g .pool ∷ i ∷ []) 4
-        → Took-line g p section language t l q (On (line-more g i (mixed-then g section c) (starred-then g section c))) l′ q′
+        → Took-line g p section language t l q (On (line-more g i (mixed-behind (g .mixed) section c) (starred-behind (g .starred) (g .inside) section c))) l′ q′
     unfolding take-kept line-form
     stands k i c bs l′ keeps size room put a b y d n m e =
         let s = is-state g n m l q e in
-        let x : Line = record { node = g .nodes - 1; class = class-number k; section = section; language = language; struck = 0; bytes = bs } in
+        let x : Line = new-line (g .nodes - 1) section language (class-number k) bs in
         let h : code-of x ≡ c * 4 + section * 2 + language = omega arith in
         let v : Packs line-form (line-ok regular (g .nodes)) (g .lines + 1) (g .pool + length bs) l′ q′ (lines-of g n m l q ++ (x ∷ []))
         = put-thing line-form (line-laws regular (g .nodes)) (g .lines) (g .pool) l q (lines-of g n m l q) (s .lines) x l′ q′
         (kept-line t k bs keeps (g .nodes) (g .nodes - 1) section language (omega (arith, s .few .some)) a b)
         (omega (arith, room .row)) (omega (arith, room .pool, room-length q)) (rw (h, ← size) d) put in
-        let o : State (line-more g i (mixed-then g section c) (starred-then g section c)) n m l′ q′ (nodes-of g n m l q) (lines-of g n m l q ++ (x ∷ [])) = record {
+        let o : State (line-more g i (mixed-behind (g .mixed) section c) (starred-behind (g .starred) (g .inside) section c)) n m l′ q′ (nodes-of g n m l q) (lines-of g n m l q ++ (x ∷ [])) = record {
           few = record {
             some = s .few .some;
             names = s .few .names;
@@ -120,13 +112,13 @@ module _ (g : Progress) (p section language : ℕ) (t l q : List ℕ) where
           nodes = s .nodes;
           lines = rw size v;
         } in
-        let u = state-is (line-more g i (mixed-then g section c) (starred-then g section c)) n m l′ q′ (nodes-of g n m l q) (lines-of g n m l q ++ (x ∷ [])) o in (
+        let u = state-is (line-more g i (mixed-behind (g .mixed) section c) (starred-behind (g .starred) (g .inside) section c)) n m l′ q′ (nodes-of g n m l q) (lines-of g n m l q ++ (x ∷ [])) o in (
           rw (keeps, building-is g n m l q, is-room (five n m l q []) (lines-of g n m l q) (g .lines) (g .pool) (s .lines .count) (s .lines .total) bs room, u .0, y, ← s .nodes .count),
           u .1,
         )
 
     pub line-added : (k : Class) (i c : ℕ) (x y : Bool) (l′ : List ℕ) → r ≡ As k i → fits-row l (g .lines) ≡ true → section ≤ 1 → language ≤ 1
-        → c ≡ class-number k → x ≡ mixed-then g section c → y ≡ starred-then g section c
+        → c ≡ class-number k → x ≡ mixed-behind (g .mixed) section c → y ≡ starred-behind (g .starred) (g .inside) section c
         → l′ ≡ paste l (line-width * g .lines) ((g .nodes - 1) ∷ (c * 4 + section * 2 + language) ∷ g .pool ∷ i ∷ []) 4
         → Took-line g p section language t l q (On (line-more g i x y)) l′ q′
     line-added k i c x y l′ z f a b e v w d =

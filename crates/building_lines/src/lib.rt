@@ -1,13 +1,10 @@
 // A line of the node that began last, in lent buffers. Definitions: specs/Building.antt and specs/State.antt of the crate `building`, from document 01, 'Reading',
 // 'The book' and 'Numbers that say no'. `take_line` is for a caller who knows how far the book is.
 ghost use mathlib.Core.Path.{_≡_};
-ghost use mathlib.Core.Bool.{not, _&&_, _||_};
 ghost use Prim.Native.Nat.{_≤_, _<_};
-ghost use lib.Dec.{eqb};
-ghost use Rattle.numbers.specs.Classes.{all-class, exact-class};
 ghost use Rattle.numbers.specs.Limits.{node-limit};
-ghost use Rattle.book.specs.Books.{global, local};
 ghost use Rattle.rooms.specs.Rooms.{pool-room};
+ghost use Rattle.building.specs.Building.{mixed-behind, starred-behind};
 ghost use Rattle.building.specs.State.{Took-line};
 use book::LINE_WIDTH;
 use book::REGULAR;
@@ -23,7 +20,7 @@ use storing::Stored;
 
 // Whether the globals have what the Rust kind's have not, behind a line of that section and class.
 fn mixed_behind(g: Progress, section: u32, class: u32) -> bool
-    ensures { λ r. ⌜ r ≡ g .mixed || (eqb section global && not (eqb class exact-class)) ⌝ }
+    ensures { λ r. ⌜ r ≡ mixed-behind (g .mixed) section class ⌝ }
 {
     if g.mixed {
         return true;
@@ -36,7 +33,7 @@ fn mixed_behind(g: Progress, section: u32, class: u32) -> bool
 
 // Whether a bare `*;` stands among the locals, behind a line of that section and class.
 fn starred_behind(g: Progress, section: u32, class: u32) -> bool
-    ensures { λ r. ⌜ r ≡ g .starred || (eqb section local && (eqb class all-class && not (g .inside))) ⌝ }
+    ensures { λ r. ⌜ r ≡ starred-behind (g .starred) (g .inside) section class ⌝ }
 {
     if g.starred {
         return true;

@@ -9,17 +9,20 @@ use borrow.Author.Tests.{eq-eqb, leb-true, ltb-true}
 use lib.Dec.{eqb, leb, ltb}
 use lib.ListN.{length, length-append}
 use Rattle.numbers.specs.Limits.{edit-limit, line-limit, pool-limit}
+use Rattle.numbers.specs.Marks.{global}
 use Rattle.lists.proofs.Tests.{both}
 use Rattle.packing.specs.Tables.{every, packed}
 use Rattle.packing.proofs.TableLaws.{every-append, packed-append}
 use Rattle.classes.specs.declared.Class.{Class}
 use Rattle.classes.specs.Classes.{class-number}
 use Rattle.storing.specs.Keeping.{kept, keep}
-use Rattle.book.specs.Books.{Book, Edit, Line, Node, add, edition-of, export, global, regular, rust}
+use Rattle.book.specs.Books.{Book, Edit, Line, Node, add, edition-of, export, new-line, regular, rust}
 use Rattle.book.specs.Layout.{Buffers, edit-width, line-form, line-width}
 use Rattle.book.specs.Sanity.{edit-ok, in-range, kind-allows, line-ok, nodes-good}
 use Rattle.book.specs.View.{Fits}
-use Rattle.rooms.specs.Rooms.{edit-room, line-room}
+use Rattle.rooms.specs.Rooms.{edit-room, fits-row, line-room, pool-room}
+use Rattle.rooms.proofs.Putting.{room-length, room-limit}
+use Rattle.rooms.proofs.Rows.{row-number, row-within}
 use Rattle.building_lines.proofs.Kept.{kept-line}
 use Rattle.changes.specs.Trial.{with-line}
 
@@ -28,11 +31,6 @@ pub some-node : (xs : List Node) → nodes-good xs ≡ true → 0 < length xs
 unfolding nodes-good
 some-node [] e = absurd (true≢false (sym e))
 some-node (x ∷ xs) e = omega arith
-
--- a line of what is kept of a token
-abbrev pub added-line : ℕ → ℕ → ℕ → Class → List ℕ → Line
-added-line node section language c bs =
-    record { node = node; class = class-number c; section = section; language = language; struck = 0; bytes = bs }
 
 -- "local … in an export list" is refused
 module _ (kind : ℕ) (k : eqb kind rust ≡ false) where
@@ -45,10 +43,10 @@ module _ (kind : ℕ) (k : eqb kind rust ≡ false) where
       go false g = refl
 
   pub added-ok : (t : List ℕ) (c : Class) (bs : List ℕ) → keep (edition-of kind) t ≡ kept c bs → (nodes node section language : ℕ) → node < nodes
-      → section ≤ 1 → language ≤ 1 → (eqb kind export ≡ true → section ≡ global) → line-ok kind nodes (added-line node section language c bs) ≡ true
+      → section ≤ 1 → language ≤ 1 → (eqb kind export ≡ true → section ≡ global) → line-ok kind nodes (new-line node section language (class-number c) bs) ≡ true
   unfolding line-ok
   added-ok t c bs q nodes node section language i j l f =
-      let x : Line = added-line node section language c bs in
+      let x : Line = new-line node section language (class-number c) bs in
       let h = both (in-range nodes x) _ (kept-line t c bs q nodes node section language i j l) in
       rw (h .0, allows x f) (both (kind-allows regular x) _ (h .1) .1)
 
@@ -59,9 +57,8 @@ unfolding every packed line-form line-room edit-room edit-ok
 fits-line b w f x o r q =
     let ls = w .lines in
     let e : Edit = record { what = add; line = length ls } in
-    let a = both (ltb (length ls) line-limit) _ r in
-    let d = both (leb (line-width * (length ls + 1)) (length (b .lines))) _ (a .1) in
-    let g = both (leb (length (packed line-form ls) + length (x .bytes)) pool-limit) _ (d .1) in
+    let a = both (fits-row (b .lines) (length ls)) _ r in
+    let p = leb-true (length (packed line-form ls) + length (x .bytes)) (pool-room (b .pool)) (a .1) in
     let h = both (ltb (length (w .edits)) edit-limit) _ q in
     let lines : length (ls ++ x ∷ []) ≡ length ls + 1 = length-append ls (x ∷ []) in
     let edits : length (w .edits ++ e ∷ []) ≡ length (w .edits) + 1 = length-append (w .edits) (e ∷ []) in
@@ -70,12 +67,12 @@ fits-line b w f x o r q =
     record {
       node-room = f .node-room;
       name-room = f .name-room;
-      line-room = omega (arith, leb-true (line-width * (length ls + 1)) (length (b .lines)) (d .0));
-      pool-room = omega (arith, leb-true (length (packed line-form ls) + length (x .bytes)) (length (b .pool)) (g .1));
+      line-room = omega (arith, row-within (b .lines) (length ls) (a .0));
+      pool-room = omega (arith, p, room-length (b .pool));
       edit-room = omega (arith, leb-true (edit-width * (length (w .edits) + 1)) (length (b .journal)) (h .1));
       few-nodes = f .few-nodes;
-      few-lines = omega (arith, ltb-true (length ls) line-limit (a .0));
-      few-bytes = omega (arith, leb-true (length (packed line-form ls) + length (x .bytes)) pool-limit (g .0));
+      few-lines = omega (arith, row-number (b .lines) (length ls) (a .0));
+      few-bytes = omega (arith, p, room-limit (b .pool));
       few-edits = omega (arith, ltb-true (length (w .edits)) edit-limit (h .0));
       lines-ok = every-append (line-ok (w .kind) (length (w .nodes))) ls (x ∷ []) (f .lines-ok) (rw o);
       edits-ok = every-append edit-ok (w .edits) (e ∷ []) (f .edits-ok) refl;

@@ -8,17 +8,19 @@ use native.Mathlib.Omega.{arith}
 use lib.Dec.{eqb}
 use lib.ListN.{length, length-append}
 use lib.Seq.{paste}
+use Rattle.numbers.specs.Marks.{global}
 use Rattle.lists.proofs.Tests.{both}
 use Rattle.packing.specs.Padding.{pad, zeros}
 use Rattle.packing.specs.Tables.{Form, packed, rows}
 use Rattle.packing.proofs.PaddingLaws.{pad-unput}
 use Rattle.packing.proofs.TableLaws.{Laws, length-rows, packed-append, rows-append}
 use Rattle.packing.proofs.Packings.{Packs}
+use Rattle.classes.specs.Classes.{class-number}
 use Rattle.storing.specs.Keeping.{Keep, kept, refused, keep}
 use Rattle.cursors.specs.declared.Event.{Event}
 use Rattle.cursors.specs.declared.Event.the-variants.{Node, Body, Section, Extern, Closed, Line, Parent}
 use Rattle.book.specs.declared.Counts.{Counts}
-use Rattle.book.specs.Books.{Book, Edit, add, edition-of, global, rust}
+use Rattle.book.specs.Books.{Book, Edit, add, edition-of, new-line, rust}
 use Rattle.book.specs.Books as book
 use Rattle.book.specs.Layout.{Buffers, edit-form, edit-width, five, line-form, line-width}
 use Rattle.book.specs.View.{Fits}
@@ -30,7 +32,7 @@ use Rattle.building_events.specs.Events.{Lies}
 use Rattle.changes.specs.Changes.{Change, no, to}
 use Rattle.changes.specs.Trial.{append, append-kept, with-line}
 use Rattle.changes.specs.Symbols.{add-event}
-use Rattle.changes.proofs.AddedLines.{added-line, added-ok, fits-line}
+use Rattle.changes.proofs.AddedLines.{added-ok, fits-line}
 
 -- v is w with lines and edits behind its own
 pub record Grown (w v : Book) : Type 0 where
@@ -76,12 +78,12 @@ module _ (b : Buffers) (w : Book) (k : eqb (w .kind) rust ≡ false) (h : 0 < le
   kept-on v g language l t (refused n) q = tt
   kept-on v g language l t (kept c bs) q = on-cond (line-room b (v .lines) bs && edit-room b (v .edits)) _ _ roomy
     where
-      roomy : line-room b (v .lines) bs && edit-room b (v .edits) ≡ true → Grows b w (with-line v (added-line 0 global language c bs))
+      roomy : line-room b (v .lines) bs && edit-room b (v .edits) ≡ true → Grows b w (with-line v (new-line 0 global language (class-number c) bs))
       roomy m =
           let p = both (line-room b (v .lines) bs) (edit-room b (v .edits)) m in
           let j : eqb (v .kind) rust ≡ false = rw (g .grown .kind) k in
           let i : 0 < length (v .nodes) = rw (g .grown .nodes) h in
-          let x = added-line 0 global language c bs in
+          let x = new-line 0 global language (class-number c) bs in
           record {
             grown = grown-line w v (g .grown) x;
             fits = fits-line b v (g .fits) x

@@ -5,8 +5,9 @@ use mathlib.Core.Bool.{true}
 use borrow.Author.Tests.{le-leb}
 use lib.Dec.{leb, ltb}
 use Rattle.numbers.specs.Classes.{all-class}
+use Rattle.numbers.specs.Marks.{local}
 use Rattle.lists.proofs.Tests.{both}
-use Rattle.book.specs.Books.{Line, local}
+use Rattle.book.specs.Books.{Line}
 use Rattle.book.specs.Edits.{marked}
 use Rattle.book.specs.Sanity.{content-good, in-range, kind-allows, line-ok}
 

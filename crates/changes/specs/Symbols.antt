@@ -3,15 +3,15 @@ use Prim.Native.Nat.{ℕ}
 use mathlib.Core.List.{List, [], _∷_}
 use mathlib.Core.Bool.{Bool, cond}
 use mathlib.Core.Option.{Option, some, none}
-use lib.Dec.{eqb, ltb}
-use lib.ListN.{length}
-use Rattle.numbers.specs.Limits.{token-limit}
+use lib.Dec.{eqb}
+use Rattle.numbers.specs.Limits.{over, token-limit}
+use Rattle.numbers.specs.Marks.{global}
 use Rattle.numbers.specs.Refusals.{no-book, too-long, wrong-kind}
 use Rattle.cursors.specs.declared.Event.{Event}
 use Rattle.cursors.specs.declared.Event.the-variants.{Node, Body, Section, Extern, Closed, Line, Parent}
 use Rattle.cursors.specs.Places.{at-bare, at-symbol}
 use Rattle.reading.specs.Events.{Outcome, accepted, refused, Reading, reading}
-use Rattle.book.specs.Books.{Book, export, global}
+use Rattle.book.specs.Books.{Book, export}
 use Rattle.book.specs.Layout.{Buffers}
 use Rattle.building.specs.Building.{part}
 use Rattle.changes.specs.Changes.{Change, to, no}
@@ -52,5 +52,5 @@ unfoldable pub symbol-asked : Buffers → Option Book → List ℕ → Bool → 
 symbol-asked b none s bare = no no-book
 symbol-asked b (some w) s bare =
     cond (eqb (w .kind) export)
-    (cond (ltb token-limit (length s)) (no too-long) (add-reading b s w (reading (symbol-place bare) s)))
+    (cond (over token-limit s) (no too-long) (add-reading b s w (reading (symbol-place bare) s)))
     (no wrong-kind)

@@ -3,27 +3,31 @@ use Prim.Native.Nat.{ℕ, _-_}
 use mathlib.Core.List.{List, [], _∷_, _++_}
 use mathlib.Core.Bool.{Bool, true, false, cond, _&&_, _||_, not}
 use mathlib.Core.Option.{Option, some, none}
-use lib.Dec.{eqb, leb, ltb}
-use lib.ListN.{length, getD, set, take}
+use lib.Dec.{eqb, ltb}
+use lib.ListN.{getD, length, take}
+use Rattle.numbers.specs.Marks.{global, is-language, is-section}
 use Rattle.numbers.specs.Refusals.{no-book, no-room, no-such, nothing-to-undo, wrong-kind}
 use Rattle.linker_script.specs.Trim.{trim-end}
 use Rattle.packing.specs.Tables.{every}
 use Rattle.classes.specs.Classes.{class-number}
-use Rattle.storing.specs.Keeping.{Keep, kept, refused, keep}
-use Rattle.book.specs.Books.{Book, Edit, Line, add, cxx, edition-of, export, global, local, rust, strike}
-use Rattle.book.specs.Edits.{line-at, marked, stands, take-back}
+use Rattle.storing.specs.Keeping.{Keep, keep, kept-where}
+use Rattle.book.specs.Books.{Book, Edit, Line, add, edition-of, export, new-line, no-edits, rust, strike, with-lines}
+use Rattle.book.specs.Edits.{line-at, marked-at, stands, take-back}
 use Rattle.book.specs.Layout.{Buffers}
 use Rattle.rooms.specs.Rooms.{edit-room, line-room}
 use Rattle.changes.specs.Changes.{Change, to, no}
 
 -- ---- "Add (node, section, language, token) trims and classes the token as in a script, any bytes or none, and appends"
 -- "no such node, section, language …; local or node not 0 in an export list" is 11
+abbrev pub may-stand-in : ℕ → ℕ → ℕ → ℕ → ℕ → Bool
+may-stand-in kind nodes node section language =
+    ltb node nodes
+    && (is-section section
+    && (is-language language
+    && (not (eqb kind export) || (eqb section global && eqb node 0))))
+
 unfoldable pub may-stand : Book → ℕ → ℕ → ℕ → Bool
-may-stand w node section language =
-    ltb node (length (w .nodes))
-    && (leb section local
-    && (leb language cxx
-    && (not (eqb (w .kind) export) || (eqb section global && eqb node 0))))
+may-stand w node section language = may-stand-in (w .kind) (length (w .nodes)) node section language
 
 abbrev pub with-line : Book → Line → Book
 with-line w x = record {
@@ -34,16 +38,13 @@ with-line w x = record {
 }
 
 unfoldable pub append-kept : Buffers → Book → ℕ → ℕ → ℕ → Keep → Change
-append-kept b w node section language (kept k bs) =
-    cond (line-room b (w .lines) bs && edit-room b (w .edits))
-    (to (with-line w (record { node = node; class = class-number k; section = section; language = language; struck = 0; bytes = bs })))
-    (no no-room)
-append-kept b w node section language (refused n) = no n
+append-kept b w node section language x =
+    kept-where (λ bs. line-room b (w .lines) bs && edit-room b (w .edits))
+    (λ k bs. to (with-line w (new-line node section language (class-number k) bs))) no x
 
 -- what refuses a token where there is no row for a line or an edit: its own refusal, else 8
 abbrev pub unplaced : Keep → ℕ
-unplaced (kept k bs) = no-room
-unplaced (refused n) = n
+unplaced x = kept-where (λ bs. false) (λ k bs. 0) (λ n. n) x
 
 -- a trimmed token: "its 1, 5, 6, 8, in this order"
 unfoldable pub append : Buffers → Book → ℕ → ℕ → ℕ → List ℕ → Change
@@ -62,7 +63,7 @@ abbrev pub with-strike : Book → ℕ → Book
 with-strike w i = record {
   kind = w .kind;
   nodes = w .nodes;
-  lines = set (w .lines) i (marked 1 (line-at (w .lines) i));
+  lines = marked-at 1 (w .lines) i;
   edits = w .edits ++ record { what = strike; line = i } ∷ [];
 }
 
@@ -88,7 +89,7 @@ without-latest w none = no no-book
 -- "undo with no edit" is 12
 unfoldable pub undo-asked : Option Book → Change
 undo-asked none = no no-book
-undo-asked (some w) = cond (eqb (length (w .edits)) 0) (no nothing-to-undo) (without-latest w (take-back (latest (w .edits)) (w .lines)))
+undo-asked (some w) = cond (no-edits (w .edits)) (no nothing-to-undo) (without-latest w (take-back (latest (w .edits)) (w .lines)))
 
 -- ---- "Settle drops struck lines, packs and renumbers the rest in order, empties the journal; with none struck it changes nothing."
 abbrev pub kept-if : Bool → Line → List Line → List Line
@@ -100,7 +101,7 @@ standing [] = []
 standing (x ∷ xs) = kept-if (stands x) x (standing xs)
 
 unfoldable pub settled : Book → Book
-settled w = cond (every stands (w .lines)) w (record { kind = w .kind; nodes = w .nodes; lines = standing (w .lines); edits = [] })
+settled w = cond (every stands (w .lines)) w (with-lines w (standing (w .lines)))
 
 unfoldable pub settle-asked : Option Book → Change
 settle-asked none = no no-book

@@ -11,6 +11,7 @@ use borrow.Author.Tests.{eq-eqb, ne-eqb, le-leb, lt-leb, leb-true}
 use lib.Dec.{eqb, leb}
 use lib.ListN.{length, getD, drop, drop-of-length-le}
 use lib.Seq.{drop-cons, drop-drop}
+use Rattle.lists.proofs.Tests.{neither}
 use Rattle.classes.specs.declared.Class.{Class}
 use Rattle.classes.specs.declared.Class.the-variants.{Exact, NonStar, Star, All}
 use Rattle.classes.specs.Classes.{class-of, escaped, lone-star, nonstar, quoted, scan, scanned, sign}
@@ -129,19 +130,13 @@ unmarked : (b : Bool) → cond b 1 0 ≤ 0 → b ≡ false
 unmarked true h = absurd (omega arith)
 unmarked false h = refl
 
-neither : (a b : Bool) → a || b ≡ false → (a ≡ false) × (b ≡ false)
-neither true b h = absurd (true≢false h)
-neither false b h = (refl, h)
-
 scan-none : (s : List ℕ) (i : ℕ) → i < length s → sign (getD s i 0) ≡ false → scan Exact false (drop i s) ≡ scan Exact false (drop (i + 1) s)
-unfolding sign scan scanned nonstar
+unfolding sign scan scanned
 scan-none s i h q =
     let x = getD s i 0 in
-    let a = neither (eqb x 42) (eqb x 63 || (eqb x 91 || (eqb x 92 || eqb x 93))) q in
-    let b = neither (eqb x 63) (eqb x 91 || (eqb x 92 || eqb x 93)) (a .1) in
-    let d = neither (eqb x 91) (eqb x 92 || eqb x 93) (b .1) in
-    let e = neither (eqb x 92) (eqb x 93) (d .1) in
-    rw (add-one i, drop-cons s i 0 h, a .0, b .0, d .0, e .0, e .1)
+    let a = neither (eqb x 42) (eqb x 92 || nonstar x) q in
+    let b = neither (eqb x 92) (nonstar x) (a .1) in
+    rw (add-one i, drop-cons s i 0 h, a .0, b .0, b .1)
 
 -- what is known before byte i of the block at a place
 pub record Block (s : List ℕ) (at most i : ℕ) : Type 0 where

@@ -56,7 +56,7 @@ scan k false (c ∷ s) = cond (eqb c asterisk) Star (scan (scanned k c) (eqb c b
 
 -- the bytes that the scan looks for
 unfoldable pub sign : ℕ → Bool
-sign c = eqb c asterisk || (eqb c question || (eqb c opening-bracket || (eqb c backslash || eqb c closing-bracket)))
+sign c = eqb c asterisk || (eqb c backslash || nonstar c)
 
 -- "In order"
 unfoldable pub class-of : List ℕ → Class

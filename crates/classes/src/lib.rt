@@ -63,7 +63,7 @@ fn with_byte(class: Class, c: u8) -> Class
 fn mark(c: u8) -> u8
     ensures { λ r. ⌜ r ≡ cond (sign c) 1 0 ⌝ }
 {
-    ((c == b'*') | ((c == b'?') | ((c == b'[') | ((c == b'\\') | (c == b']'))))) as u8
+    ((c == b'*') | ((c == b'\\') | ((c == b'[') | ((c == b']') | (c == b'?'))))) as u8
 }
 
 fn greater(a: u8, b: u8) -> u8

@@ -8,6 +8,7 @@ ghost use Rattle.book.specs.Layout.{five};
 ghost use Rattle.book.specs.View.{view};
 ghost use Rattle.changes.specs.Trial.{settle-asked, strike-asked, undo-asked};
 ghost use Rattle.answering.specs.Answers.{Runs, edit-ran, editing, settled, struck, undone};
+ghost use Rattle.printing.specs.Printing.{answer-room};
 use answering::Ran;
 use answering::printed;
 use book::Counts;
@@ -21,7 +22,7 @@ use undoing::undo_latest;
 
 // What a strike answered.
 fn finish_strike(c: Counts, line: u32, r: Edited, out: &mut [u8]) -> Ran
-    requires { ⌜ 128 ≤ length (now out) ⌝ }
+    requires { ⌜ answer-room ≤ length (now out) ⌝ }
     ensures { λ n. ⌜ (n ≡ edit-ran c (struck line) r) × (now (out .exit) ≡ front (struck line r) (now (out .entry))) ⌝ }
 {
     match r {
@@ -32,7 +33,7 @@ fn finish_strike(c: Counts, line: u32, r: Edited, out: &mut [u8]) -> Ran
 
 // An undo.
 fn finish_undo(c: Counts, r: Edited, out: &mut [u8]) -> Ran
-    requires { ⌜ 128 ≤ length (now out) ⌝ }
+    requires { ⌜ answer-room ≤ length (now out) ⌝ }
     ensures { λ n. ⌜ (n ≡ edit-ran c undone r) × (now (out .exit) ≡ front (undone r) (now (out .entry))) ⌝ }
 {
     match r {
@@ -43,7 +44,7 @@ fn finish_undo(c: Counts, r: Edited, out: &mut [u8]) -> Ran
 
 // A settle.
 fn finish_settle(c: Counts, r: Edited, out: &mut [u8]) -> Ran
-    requires { ⌜ 128 ≤ length (now out) ⌝ }
+    requires { ⌜ answer-room ≤ length (now out) ⌝ }
     ensures { λ n. ⌜ (n ≡ edit-ran c settled r) × (now (out .exit) ≡ front (settled r) (now (out .entry))) ⌝ }
 {
     match r {
@@ -63,7 +64,7 @@ pub fn run_strike(
     line: u32,
     out: &mut [u8],
 ) -> Ran
-    requires { ⌜ 128 ≤ length (now out) ⌝ }
+    requires { ⌜ answer-room ≤ length (now out) ⌝ }
     ensures { λ r. ⌜ Runs (editing c (five (now (nodes .entry)) (now (names .entry)) (now (lines .entry)) (now (pool .entry)) (now (journal .entry))) (struck line) (strike-asked (five (now (nodes .entry)) (now (names .entry)) (now (lines .entry)) (now (pool .entry)) (now (journal .entry))) (view c (five (now (nodes .entry)) (now (names .entry)) (now (lines .entry)) (now (pool .entry)) (now (journal .entry)))) line))
         (now (out .entry)) r (now (out .exit)) (five (now (nodes .entry)) (now (names .entry)) (now (lines .exit)) (now (pool .entry)) (now (journal .exit))) ⌝ }
 {
@@ -81,7 +82,7 @@ pub fn run_undo(
     journal: &mut [u32],
     out: &mut [u8],
 ) -> Ran
-    requires { ⌜ 128 ≤ length (now out) ⌝ }
+    requires { ⌜ answer-room ≤ length (now out) ⌝ }
     ensures { λ r. ⌜ Runs (editing c (five (now (nodes .entry)) (now (names .entry)) (now (lines .entry)) (now (pool .entry)) (now (journal .entry))) undone (undo-asked (view c (five (now (nodes .entry)) (now (names .entry)) (now (lines .entry)) (now (pool .entry)) (now (journal .entry))))))
         (now (out .entry)) r (now (out .exit)) (five (now (nodes .entry)) (now (names .entry)) (now (lines .exit)) (now (pool .exit)) (now (journal .exit))) ⌝ }
 {
@@ -99,7 +100,7 @@ pub fn run_settle(
     journal: &mut [u32],
     out: &mut [u8],
 ) -> Ran
-    requires { ⌜ 128 ≤ length (now out) ⌝ }
+    requires { ⌜ answer-room ≤ length (now out) ⌝ }
     ensures { λ r. ⌜ Runs (editing c (five (now (nodes .entry)) (now (names .entry)) (now (lines .entry)) (now (pool .entry)) (now (journal .entry))) settled (settle-asked (view c (five (now (nodes .entry)) (now (names .entry)) (now (lines .entry)) (now (pool .entry)) (now (journal .entry))))))
         (now (out .entry)) r (now (out .exit)) (five (now (nodes .entry)) (now (names .entry)) (now (lines .exit)) (now (pool .exit)) (now (journal .exit))) ⌝ }
 {

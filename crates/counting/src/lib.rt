@@ -6,7 +6,7 @@ ghost use Prim.Native.Nat.{_*_, _≤_};
 ghost use lib.ListN.{length};
 ghost use Rattle.numbers.specs.Limits.{node-limit};
 ghost use Rattle.packing.specs.Tables.{things};
-ghost use Rattle.book.specs.Layout.{five, node-form};
+ghost use Rattle.book.specs.Layout.{five, node-form, node-width};
 ghost use Rattle.book.specs.View.{view};
 ghost use Rattle.counting.specs.Questions.{counted, node-of, parent-count, parents-among, version-count};
 use book::Counts;
@@ -55,7 +55,7 @@ pub fn version_count(
 
 // How many of the first n rows of nodes tell a parent.
 fn parents_among(nodes: &[u32], n: usize) -> u32
-    requires { ⌜ (3 * n ≤ length (now nodes)) × (n ≤ node-limit) ⌝ }
+    requires { ⌜ (node-width * n ≤ length (now nodes)) × (n ≤ node-limit) ⌝ }
     ensures { λ r. ⌜ r ≡ parents-among (things node-form n (now (nodes .entry)) []) ⌝ }
 {
     let mut i = 0;

@@ -4,6 +4,7 @@ use mathlib.Core.List.{List}
 use mathlib.Core.Bool.{cond}
 use lib.Dec.{eqb}
 use lib.ListN.{length, getD}
+use Rattle.numbers.specs.Marks.{general, global}
 use Rattle.numbers.specs.Refusals.{unreadable}
 use Rattle.linker_script.specs.declared.Skipped.{Skipped}
 use Rattle.linker_script.specs.declared.Skipped.the-variants.{At, Open}
@@ -15,7 +16,7 @@ use Rattle.cursors.specs.declared.Step.the-variants.{End, Refused}
 
 -- a reading starts at the text's first byte
 unfoldable pub start : ℕ → List ℕ → Cursor
-start place s = record { at = 0; place = place; section = 0; language = 0; last = last-close s }
+start place s = record { at = 0; place = place; section = global; language = general; last = last-close s }
 
 -- the cursor moved to another place of the text and of the reading
 abbrev pub moved : Cursor → ℕ → ℕ → Cursor

@@ -10,7 +10,7 @@ ghost use Rattle.book.specs.Books.{edition-of};
 ghost use Rattle.book.specs.Layout.{line-form, line-of};
 ghost use Rattle.book.specs.Sanity.{line-ok};
 ghost use Rattle.ranking.specs.Matching.{class-matches, line-matches, name-of};
-ghost use Rattle.ranking.specs.Walk.{decided, stages, walk};
+ghost use Rattle.ranking.specs.Walk.{decided, deciding-among};
 use book::LINE_WIDTH;
 use book::editions::edition_of;
 use matching::match_name;
@@ -61,7 +61,7 @@ pub fn find_match(
 ) -> Deciding
     requires { ⌜ (packs line-form (line-ok kind nodes) n p (now lines) (now pool) ≡ true) × (nodes ≤ node-limit)
         × (length (now raw) ≤ name-limit) × (length (now demangled) ≤ name-limit) ⌝ }
-    ensures { λ r. ⌜ r ≡ decided (walk (line-matches (edition-of kind) (name-of (now (raw .entry)) (now (demangled .entry)))) (stages nodes)
+    ensures { λ r. ⌜ r ≡ decided (deciding-among kind nodes (name-of (now (raw .entry)) (now (demangled .entry)))
         (things line-form n (now (lines .entry)) (now (pool .entry)))) ⌝ }
 {
     let edition = edition_of(kind);

@@ -21,11 +21,15 @@ use Rattle.answering.specs.Answers.{Step, ran}
 use Rattle.desk_edits.specs.Edits.{edit-step}
 use Rattle.desk_questions.specs.Questions.{question-step}
 
+-- `?`, for what is no command
+abbrev pub unknown-printed : List ℕ
+unknown-printed = question ∷ line-feed ∷ []
+
 -- a command of the line l, on the book w of the counts c and the buffers b
 unfoldable pub step : Counts → Buffers → Option Book → List ℕ → Command → Step
 step c b w l (command.Edits e) = edit-step c b w l e
 step c b w l (command.Asks q) = question-step c b w l q
-step c b w l command.Unknown = record { printed = question ∷ line-feed ∷ []; counts = c; left = b; known = false }
+step c b w l command.Unknown = record { printed = unknown-printed; counts = c; left = b; known = false }
 
 unfoldable pub line-step : Counts → Buffers → List ℕ → Step
 line-step c b l = step c b (view c b) l (command-of l)
@@ -34,8 +38,11 @@ line-step c b l = step c b (view c b) l (command-of l)
 abbrev pub not-run : Counts → Ran
 not-run c = record { counts = c; length = 0; known = true; refusal = no-room }
 
+abbrev pub room-for : Counts → ℕ → ℕ → Bool
+room-for c n room = leb (shown-room c + n) room
+
 unfoldable pub has-room : Counts → List ℕ → List ℕ → Bool
-has-room c l out = leb (shown-room c + length l) (length out)
+has-room c l out = room-for c (length l) (length out)
 
 -- what the desk makes of a line, in counts, buffers and `out` as they are lent
 unfoldable pub line-ran : Counts → Buffers → List ℕ → List ℕ → Ran

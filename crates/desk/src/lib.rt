@@ -1,15 +1,13 @@
 // The release desk: a line of its input is read as a command, done on a trial book, and answered into a lent buffer. Definitions: specs/Desk.antt.
 ghost use mathlib.Core.Path.{_≡_};
 ghost use mathlib.Core.Bool.{false};
-ghost use mathlib.Core.List.{[], _∷_};
 ghost use Prim.Native.Nat.{_+_, _≤_};
-ghost use lib.Dec.{leb};
 ghost use lib.ListN.{length};
-ghost use Rattle.numbers.specs.Signs.{line-feed, question};
 ghost use Rattle.lists.specs.Front.{front};
 ghost use Rattle.book.specs.Layout.{five};
-ghost use Rattle.showing.specs.Shown.{shown-room};
-ghost use Rattle.desk.specs.Desk.{line-leaves, line-printed, line-ran};
+ghost use Rattle.answering.specs.Answers.{ran-with};
+ghost use Rattle.desk.specs.Desk.{line-leaves, line-printed, line-ran, room-for, unknown-printed};
+ghost use Rattle.printing.specs.Printing.{answer-room};
 use answering::Ran;
 use book::Counts;
 use commands::Command;
@@ -22,8 +20,8 @@ use showing::shown_room;
 
 // What is no command.
 fn run_unknown(c: Counts, out: &mut [u8]) -> Ran
-    requires { ⌜ 128 ≤ length (now out) ⌝ }
-    ensures { λ r. ⌜ (r ≡ record { counts = c; length = 2; known = false; refusal = 0 }) × (now (out .exit) ≡ front (question ∷ line-feed ∷ []) (now (out .entry))) ⌝ }
+    requires { ⌜ answer-room ≤ length (now out) ⌝ }
+    ensures { λ r. ⌜ (r ≡ ran-with c (length unknown-printed) false) × (now (out .exit) ≡ front unknown-printed (now (out .entry))) ⌝ }
 {
     let length = put_text(out, 0, b"?\n");
     Ran {
@@ -36,7 +34,7 @@ fn run_unknown(c: Counts, out: &mut [u8]) -> Ran
 
 // Whether `out` has room for whatever is printed for a line.
 fn has_room(c: Counts, line: usize, out: usize) -> bool
-    ensures { λ r. ⌜ r ≡ leb (shown-room c + line) out ⌝ }
+    ensures { λ r. ⌜ r ≡ room-for c line out ⌝ }
 {
     let room = shown_room(c);
     if out < room {

@@ -7,6 +7,7 @@ ghost use Rattle.book.specs.Layout.{five};
 ghost use Rattle.book.specs.View.{view};
 ghost use Rattle.answering.specs.Answers.{Runs};
 ghost use Rattle.desk_edits.specs.Edits.{edit-step};
+ghost use Rattle.printing.specs.Printing.{answer-room};
 use additions::run_add;
 use additions::run_symbol;
 use answering::Ran;
@@ -29,7 +30,7 @@ pub fn run_edit(
     e: Edit,
     out: &mut [u8],
 ) -> Ran
-    requires { ⌜ 128 ≤ length (now out) ⌝ }
+    requires { ⌜ answer-room ≤ length (now out) ⌝ }
     ensures { λ r. ⌜ Runs (edit-step c (five (now (nodes .entry)) (now (names .entry)) (now (lines .entry)) (now (pool .entry)) (now (journal .entry))) (view c (five (now (nodes .entry)) (now (names .entry)) (now (lines .entry)) (now (pool .entry)) (now (journal .entry)))) (now (line .entry)) e)
         (now (out .entry)) r (now (out .exit)) (five (now (nodes .entry)) (now (names .entry)) (now (lines .exit)) (now (pool .exit)) (now (journal .exit))) ⌝ }
 {

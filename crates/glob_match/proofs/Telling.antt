@@ -9,7 +9,7 @@ use mir.Syntax.{w64}
 use mir.Val.{Fits}
 use lib.Dec.{leb}
 use lib.ListN.{length}
-use Rattle.numbers.specs.Limits.{name-limit, token-limit}
+use Rattle.numbers.specs.Limits.{name-limit, over, token-limit}
 use Rattle.utf8.specs.Utf8.{utf8}
 use Rattle.pattern.specs.declared.Edition.{Edition}
 use Rattle.matching.specs.declared.Tried.{Tried}
@@ -20,9 +20,9 @@ use Rattle.classes.specs.declared.Class.the-variants.{Exact, Escaped, NonStar, 
 use Rattle.storing.specs.declared.Stored.{Stored}
 use Rattle.storing.specs.declared.Stored.the-variants.{As, Refused}
 use Rattle.classes.specs.Classes.{class-number, class-of}
-use Rattle.storing.specs.Keeping.{over, unescape, Keep, kept, refused, keep}
+use Rattle.storing.specs.Keeping.{unescape, Keep, kept, refused, keep}
 use Rattle.storing.specs.Answers.{keep-answer, keep-buffer}
-use Rattle.glob_match.specs.Answers.{over-name, answer-told, class-told, length-told, match-told, match-when, store-told, unasked-told, unescape-leaves, unescape-told}
+use Rattle.glob_match.specs.Answers.{answer-told, class-told, length-told, match-told, match-when, store-told, unasked-told, unescape-leaves, unescape-told}
 use Rattle.storing.proofs.Keeping.{bytes, keep-few, unescape-few}
 
 -- ---- how many bytes are told
@@ -109,18 +109,18 @@ module _ (e : Edition) (t : List ℕ) (m : ℕ) (r : Stored) (a : r ≡ keep-ans
 
 -- ---- a pattern p and a name n
 module _ (p n : List ℕ) where
-  pub pattern-over : token-limit < length p → over p || over-name n ≡ true
+  pub pattern-over : token-limit < length p → over token-limit p || over name-limit n ≡ true
   pattern-over h = rw (lt-ltb token-limit (length p) h)
 
   module _ (h : length p ≤ token-limit) where
-    pub name-over : name-limit < length n → over p || over-name n ≡ true
+    pub name-over : name-limit < length n → over token-limit p || over name-limit n ≡ true
     name-over g = rw (le-ltb token-limit (length p) h, lt-ltb name-limit (length n) g)
 
-    pub none-over : length n ≤ name-limit → over p || over-name n ≡ false
+    pub none-over : length n ≤ name-limit → over token-limit p || over name-limit n ≡ false
     none-over g = rw (le-ltb token-limit (length p) h, le-ltb name-limit (length n) g)
 
 module _ (e : Edition) (p n : List ℕ) where
-  module _ (o : over p || over-name n ≡ true) where
+  module _ (o : over token-limit p || over name-limit n ≡ true) where
     pub match-over : 1 ≡ match-told e p n
     unfolding match-told
     match-over = rw o
@@ -129,7 +129,7 @@ module _ (e : Edition) (p n : List ℕ) where
     unfolding unasked-told
     unasked-over = rw o
 
-  module _ (o : over p || over-name n ≡ false) where
+  module _ (o : over token-limit p || over name-limit n ≡ false) where
     -- m is what `match_name` answers, and v what `told` makes of it
     module _ (m : Tried) (t : m ≡ match-of e p n) (v : ℕ) (a : v ≡ answer-told (m .matched)) where
       pub unasked-done : v ≡ unasked-told e p n

@@ -2,9 +2,8 @@
 use Prim.Native.Nat.{ℕ, _+_, _*_}
 use mathlib.Core.List.{List}
 use mathlib.Core.Bool.{Bool, true, false, cond, _||_}
-use lib.Dec.{eqb, ltb}
-use lib.ListN.{length}
-use Rattle.numbers.specs.Limits.{name-limit}
+use lib.Dec.{eqb}
+use Rattle.numbers.specs.Limits.{name-limit, over, token-limit}
 use Rattle.numbers.specs.Refusals.{name-not-utf8, too-long}
 use Rattle.utf8.specs.Utf8.{chars, utf8}
 use Rattle.pattern.specs.declared.Edition.{Edition}
@@ -13,7 +12,7 @@ use Rattle.classes.specs.declared.Class.the-variants as class
 use Rattle.storing.specs.declared.Stored.{Stored}
 use Rattle.storing.specs.declared.Stored.the-variants.{As, Refused}
 use Rattle.classes.specs.Classes.{class-number, class-of}
-use Rattle.storing.specs.Keeping.{over, unescape, kept}
+use Rattle.storing.specs.Keeping.{unescape, kept}
 use Rattle.storing.specs.Answers.{keep-answer, keep-buffer}
 
 abbrev pub done : ℕ → ℕ
@@ -21,7 +20,7 @@ done v = 256 * v
 
 -- the class of a token
 unfoldable pub class-told : List ℕ → ℕ
-class-told t = cond (over t) too-long (done (class-number (class-of t)))
+class-told t = cond (over token-limit t) too-long (done (class-number (class-of t)))
 
 -- a pattern of any class without its escapes: how many bytes are written
 unfoldable pub length-told : Stored → ℕ
@@ -29,31 +28,29 @@ length-told (As k n) = done n
 length-told (Refused n) = n
 
 unfoldable pub unescape-told : List ℕ → ℕ → ℕ
-unescape-told t room = cond (over t) too-long (length-told (keep-answer (kept class.Escaped (unescape t)) room))
+unescape-told t room = cond (over token-limit t) too-long (length-told (keep-answer (kept class.Escaped (unescape t)) room))
 
 unfoldable pub unescape-leaves : List ℕ → List ℕ → List ℕ
-unescape-leaves t d = cond (over t) d (keep-buffer (kept class.Escaped (unescape t)) d)
+unescape-leaves t d = cond (over token-limit t) d (keep-buffer (kept class.Escaped (unescape t)) d)
 
 -- a token as it is stored: the class, and eight times how many bytes are written
 unfoldable pub store-told : Stored → ℕ
 store-told (As k n) = done (class-number k + 8 * n)
 store-told (Refused n) = n
 
--- whether stored bytes p, not a token, match a name n
+-- yes or no
 abbrev pub answer-told : Bool → ℕ
 answer-told true = done 1
 answer-told false = done 0
 
-abbrev pub over-name : List ℕ → Bool
-over-name n = ltb name-limit (length n)
-
 -- the matcher alone, on bytes as they stand: the pattern's and the name's refusals are not asked
 unfoldable pub unasked-told : Edition → List ℕ → List ℕ → ℕ
-unasked-told e p n = cond (over p || over-name n) too-long (answer-told (matches (elements e p) (chars n)))
+unasked-told e p n = cond (over token-limit p || over name-limit n) too-long (answer-told (matches (elements e p) (chars n)))
 
 -- "Refusals, in order: 1 …, 5, 6, 9" (02, request 08, of the other matcher): the pattern's, then the name's
 unfoldable pub match-when : ℕ → Bool → Bool → ℕ
 match-when r good matched = cond (eqb r 0) (cond good (answer-told matched) name-not-utf8) r
 
+-- of stored bytes p, not a token, and a name n
 unfoldable pub match-told : Edition → List ℕ → List ℕ → ℕ
-match-told e p n = cond (over p || over-name n) too-long (match-when (refusal e p) (utf8 n) (matches (elements e p) (chars n)))
+match-told e p n = cond (over token-limit p || over name-limit n) too-long (match-when (refusal e p) (utf8 n) (matches (elements e p) (chars n)))

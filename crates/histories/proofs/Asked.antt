@@ -6,7 +6,8 @@ use mathlib.Core.Bool.{Bool, false, cond}
 use mathlib.Core.Option.{Option, some, none}
 use lib.Dec.{eqb}
 use lib.ListN.{length}
-use Rattle.book.specs.Books.{Book, Edit, Line, edition-of, global, rust}
+use Rattle.numbers.specs.Marks.{global}
+use Rattle.book.specs.Books.{Book, Edit, Line, edition-of, rust, with-lines}
 use Rattle.book.specs.Edits.{stands}
 use Rattle.ranking.specs.Matching.{Name, line-matches}
 use Rattle.ranking.specs.Walk.{deciding, stages}
@@ -18,7 +19,6 @@ use Rattle.lookups.specs.declared.answers.Locality.the-variants as locality
 use Rattle.lookups.specs.Lookups.{by-wanted, decided-locality, decided-version, locality-asked, locality-of, node-version, version-asked, version-of}
 use Rattle.export_list.specs.Membership.{contains-asked, member-of}
 use Rattle.changes.specs.Trial.{standing}
-use Rattle.histories.specs.Demand.{with-lines}
 use Rattle.histories.proofs.StandingLines.{standing-found, standing-match}
 
 -- the book with other lines and edits

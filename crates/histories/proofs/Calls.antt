@@ -9,12 +9,14 @@ use native.Mathlib.Omega.{arith}
 use borrow.Author.Tests.{eqb-true, leb-true, ltb-true, ne-eqb}
 use lib.Dec.{eqb, leb, ltb}
 use lib.ListN.{length, set}
+use Rattle.numbers.specs.Marks.{cxx, global, local}
 use Rattle.numbers.specs.Refusals.{nothing-to-undo}
 use Rattle.lists.proofs.Tests.{both}
 use Rattle.linker_script.specs.Trim.{trim-end}
 use Rattle.packing.specs.Tables.{every}
+use Rattle.classes.specs.Classes.{class-number}
 use Rattle.storing.specs.Keeping.{Keep, kept, refused, keep}
-use Rattle.book.specs.Books.{Book, Edit, Line, add, cxx, edition-of, export, global, local, rust, strike}
+use Rattle.book.specs.Books.{Book, Edit, Line, add, edition-of, export, new-line, rust, strike}
 use Rattle.book.specs.Edits.{line-at, marked, stands, take-back}
 use Rattle.book.specs.Layout.{Buffers, counts-of}
 use Rattle.book.specs.Sanity.{edit-ok}
@@ -24,7 +26,7 @@ use Rattle.rooms.specs.Rooms.{edit-room, line-room}
 use Rattle.opened.proofs.Opened.{Viewable}
 use Rattle.changes.specs.Changes.{Change, to, no, after, counts-after, edit-refusal, edited}
 use Rattle.changes.specs.Trial.{add-asked, append, append-kept, may-stand, settle-asked, settled, standing, strike-asked, strike-line, undo-asked, with-line, with-strike, without-latest}
-use Rattle.changes.proofs.AddedLines.{added-line, added-ok}
+use Rattle.changes.proofs.AddedLines.{added-ok}
 use Rattle.changes.proofs.SameRooms.{edit-room-same, line-room-same}
 use Rattle.histories.specs.Histories.{Lent, Desk, back-to, edited-to, settled-to, with-kept}
 use Rattle.histories.specs.Demand.{lent-book}
@@ -88,10 +90,10 @@ module _ (a b : Buffers) (r : Rooms a b) (w : Book) (k : eqb (w .kind) rust ≡ 
   unfolding append-kept
   append-leads node section language i j l f s (kept c bs) q = leads-cond (line-room a (d .lines) bs && edit-room a es) roomy (declined (λ h. omega arith))
     where
-      roomy : line-room a (d .lines) bs && edit-room a es ≡ true → Leads b w (with-kept d node section language (kept c bs)) (to (with-line held (added-line node section language c bs)))
+      roomy : line-room a (d .lines) bs && edit-room a es ≡ true → Leads b w (with-kept d node section language (kept c bs)) (to (with-line held (new-line node section language (class-number c) bs)))
       roomy m =
           let p = both (line-room a (d .lines) bs) (edit-room a es) m in
-          let x : Line = added-line node section language c bs in
+          let x : Line = new-line node section language (class-number c) bs in
           let e : Edit = record { what = add; line = length (d .lines) } in
           let z : take-back e (d .lines ++ x ∷ []) ≡ some (d .lines) = added-back (d .lines) x refl in
           let o = added-ok (w .kind) k s c bs q (length (w .nodes)) node section language i j l f in

@@ -16,7 +16,7 @@ use Rattle.classes.specs.declared.Class.{Class}
 use Rattle.storing.specs.Keeping.{kept, keep}
 use Rattle.cursors.specs.declared.Event.{Event}
 use Rattle.reading.specs.Events.{Outcome, accepted, refused, reading}
-use Rattle.book.specs.Books.{Book, Edit, Line, edition-of, rust}
+use Rattle.book.specs.Books.{Book, Edit, Line, edition-of, rust, with-lines}
 use Rattle.book.specs.Edits.{line-at, stands, take-back}
 use Rattle.book.specs.Layout.{Buffers, node-width}
 use Rattle.book.proofs.Views.{laid-out-same}
@@ -29,7 +29,7 @@ use Rattle.changes.specs.Changes.{Change, to, after, counts-after, edited}
 use Rattle.changes.specs.Trial.{add-asked, append, append-kept, may-stand, settle-asked, standing, strike-asked, strike-line}
 use Rattle.changes.proofs.SameRooms.{edit-room-same, line-room-same}
 use Rattle.histories.specs.Histories.{Call, adds, settles, strikes, undoes, Lent, Desk, answer, change, desk-at, follow, lent-after, run, settled-to, undos}
-use Rattle.histories.specs.Demand.{Brought-back, Demand-3, Holds, desk-behind, lent-behind, lent-book, lent-opening, with-lines}
+use Rattle.histories.specs.Demand.{Brought-back, Demand-3, Holds, desk-behind, lent-behind, lent-book, lent-opening}
 use Rattle.changes.proofs.Standing.{standing-same}
 use Rattle.histories.proofs.Asked.{asked-locality, asked-member, asked-version, book-with}
 use Rattle.histories.proofs.Trails.{Trail, begins, goes, trail-length}

@@ -6,6 +6,7 @@ use mathlib.Core.Bool.{Bool, true, false, cond, true≢false}
 use native.Mathlib.Omega.{arith}
 use borrow.Author.Tests.{eqb-false}
 use lib.Dec.{eqb}
+use Rattle.numbers.specs.Limits.{over, token-limit}
 use Rattle.numbers.specs.Refusals.{too-long}
 use Rattle.pattern.specs.declared.Edition.{Edition}
 use Rattle.pattern.specs.Patterns.{refusal}
@@ -13,7 +14,7 @@ use Rattle.pattern.specs.Storing.{stored}
 use Rattle.classes.specs.declared.Class.{Class}
 use Rattle.classes.specs.declared.Class.the-variants.{Exact, Escaped, NonStar, Star, All}
 use Rattle.classes.specs.Classes.{lone-star, quoted, scan, unquoted}
-use Rattle.storing.specs.Keeping.{Keep, kept, refused, over, keep, keep-as, keep-class, keep-glob, keep-scanned, keep-when}
+use Rattle.storing.specs.Keeping.{Keep, kept, refused, keep, keep-as, keep-class, keep-glob, keep-scanned, keep-when}
 use Rattle.reading.proofs.Refusals.{of-reader}
 
 -- ---- no token is refused with 0
@@ -39,7 +40,7 @@ as-numbered e All t = tt
 
 pub keep-numbered : (e : Edition) (t : List ℕ) → Numbered (keep e t)
 unfolding keep keep-class keep-scanned
-keep-numbered e t = go (over t) (quoted t) (lone-star t)
+keep-numbered e t = go (over token-limit t) (quoted t) (lone-star t)
   where
     go : (x y z : Bool)
         → Numbered (cond x (refused too-long) (cond y (kept Exact (unquoted t)) (cond z (kept All []) (keep-as e (scan Exact false t) t))))

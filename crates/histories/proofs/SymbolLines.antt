@@ -8,6 +8,7 @@ use native.Mathlib.Omega.{arith}
 use lib.Dec.{eqb, ltb}
 use lib.ListN.{length}
 use Rattle.numbers.specs.Limits.{token-limit}
+use Rattle.numbers.specs.Marks.{global}
 use Rattle.lists.proofs.Tests.{both}
 use Rattle.storing.specs.Keeping.{keep}
 use Rattle.cursors.specs.declared.Cursor.{Cursor}
@@ -20,7 +21,7 @@ use Rattle.reading.specs.Scripts.{next}
 use Rattle.reading.specs.Events.{Reading, on-step, reading, reading-from, reading-within}
 use Rattle.reading.proofs.Parts.{Marked, Parts, line, next-parts, start-marked}
 use Rattle.reading.proofs.Refusals.{next-refuses}
-use Rattle.book.specs.Books.{Book, Edit, edition-of, export, global, rust}
+use Rattle.book.specs.Books.{Book, Edit, edition-of, export, rust}
 use Rattle.book.specs.Layout.{Buffers}
 use Rattle.book.specs.Sanity.{nodes-good, sane}
 use Rattle.book.proofs.Views.{Rooms}

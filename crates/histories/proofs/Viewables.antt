@@ -11,10 +11,11 @@ use lib.Dec.{eqb, leb, ltb}
 use lib.ListN.{length, set, length-append, length-set}
 use Rattle.numbers.specs.Classes.{all-class}
 use Rattle.numbers.specs.Limits.{edit-limit}
+use Rattle.numbers.specs.Marks.{local}
 use Rattle.lists.proofs.Tests.{both}
 use Rattle.packing.specs.Tables.{every, packed}
 use Rattle.packing.proofs.TableLaws.{every-append, every-at, every-set, packed-set}
-use Rattle.book.specs.Books.{Book, Edit, Line, add, local, no-line, rust}
+use Rattle.book.specs.Books.{Book, Edit, Line, add, no-line, rust}
 use Rattle.book.specs.Edits.{all-back, journal-fits, line-at, marked, take-back}
 use Rattle.book.specs.Layout.{Buffers, edit-width, line-form}
 use Rattle.book.specs.Sanity.{content-good, edit-ok, in-range, kind-allows, kind-good, line-ok, nodes-good, sane}

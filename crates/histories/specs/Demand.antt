@@ -10,7 +10,7 @@ use lib.ListN.{length}
 use Rattle.classes.specs.declared.Class.{Class}
 use Rattle.storing.specs.Keeping.{kept, keep}
 use Rattle.linker_script.specs.Trim.{trim-end}
-use Rattle.book.specs.Books.{Book, Edit, Line, edition-of, rust}
+use Rattle.book.specs.Books.{Book, Edit, Line, edition-of, rust, with-lines}
 use Rattle.packing.specs.Tables.{every}
 use Rattle.book.specs.Edits.{line-at, stands}
 use Rattle.book.specs.Layout.{Buffers, counts-of, laid-out}
@@ -23,10 +23,6 @@ use Rattle.lookups.specs.Lookups.{locality-asked, version-asked}
 use Rattle.export_list.specs.Membership.{contains-asked}
 use Rattle.changes.specs.Trial.{may-stand, standing}
 use Rattle.histories.specs.Histories.{Call, adds, settles, strikes, Lent, Desk, answer, desk-at, history, leads, lent-after, run, undos}
-
--- the book with other lines, and with no edit
-abbrev pub with-lines : Book → List Line → Book
-with-lines w ls = record { kind = w .kind; nodes = w .nodes; lines = ls; edits = [] }
 
 -- a book laid out in buffers with the rooms of b, with its counts
 abbrev pub lent-book : Buffers → Book → Lent

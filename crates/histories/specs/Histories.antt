@@ -4,7 +4,7 @@ use Prim.Native.Nat.{ℕ, zero, suc}
 use mathlib.Core.List.{List, [], _∷_, _++_}
 use mathlib.Core.Bool.{Bool, cond}
 use lib.Dec.{eqb}
-use lib.ListN.{set}
+use Rattle.numbers.specs.Marks.{global}
 use Rattle.linker_script.specs.Trim.{trim-end}
 use Rattle.packing.specs.Tables.{every}
 use Rattle.pattern.specs.declared.Edition.{Edition}
@@ -14,8 +14,8 @@ use Rattle.cursors.specs.declared.Event.{Event}
 use Rattle.cursors.specs.declared.Event.the-variants as event
 use Rattle.reading.specs.Events.{reading}
 use Rattle.book.specs.declared.Counts.{Counts}
-use Rattle.book.specs.Books.{Line, global}
-use Rattle.book.specs.Edits.{line-at, marked, stands}
+use Rattle.book.specs.Books.{Line, new-line}
+use Rattle.book.specs.Edits.{marked-at, stands}
 use Rattle.book.specs.Layout.{Buffers}
 use Rattle.book.specs.View.{view}
 use Rattle.building.specs.Building.{part}
@@ -85,7 +85,7 @@ back-to d (ls ∷ earlier) = record { moment = d .moment; earlier = earlier; lin
 -- a line that is added, of what is kept of a token
 abbrev pub with-kept : Desk → ℕ → ℕ → ℕ → Keep → Desk
 with-kept d node section language (kept k bs) =
-    edited-to d (d .lines ++ record { node = node; class = class-number k; section = section; language = language; struck = 0; bytes = bs } ∷ [])
+    edited-to d (d .lines ++ new-line node section language (class-number k) bs ∷ [])
 with-kept d node section language (refused n) = d
 
 -- the lines of a text of `add_symbol`, each an add of its own
@@ -108,7 +108,7 @@ settled-to all-stand d = cond all-stand d (desk-at (standing (d .lines)))
 -- a call that was done
 unfoldable pub follow : Edition → Desk → Call → Desk
 follow e d (adds node section language t) = with-kept d node section language (keep e (trim-end t))
-follow e d (strikes i) = edited-to d (set (d .lines) i (marked 1 (line-at (d .lines) i)))
+follow e d (strikes i) = edited-to d (marked-at 1 (d .lines) i)
 follow e d undoes = back-to d (d .earlier)
 follow e d settles = settled-to (every stands (d .lines)) d
 follow e d (adds-symbol t bare) = with-events e t d (reading (symbol-place bare) t .events)

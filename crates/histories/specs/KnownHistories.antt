@@ -9,10 +9,10 @@ use mathlib.Core.Path.{_≡_}
 use mathlib.Core.List.{List, [], _∷_}
 use mathlib.Core.Bool.{true, false}
 use mathlib.Core.Option.{none}
+use Rattle.numbers.specs.Marks.{cxx, general, global, local}
 use Rattle.lists.specs.Texts.{codes}
 use Rattle.packing.specs.Padding.{zeros}
 use Rattle.cursors.specs.Places.{at-list, at-script}
-use Rattle.book.specs.Books.{cxx, general, global, local}
 use Rattle.book.specs.Layout.{Buffers, edit-width, five, line-width, node-width}
 use Rattle.book.specs.View.{view}
 use Rattle.opening.specs.Opening.{opening}

@@ -10,7 +10,7 @@ ghost use Rattle.numbers.specs.Limits.{line-limit};
 ghost use Rattle.packing.specs.Padding.{zeros};
 ghost use Rattle.packing.specs.Tables.{every, fine, packs, things};
 ghost use Rattle.book.specs.Edits.{journal-fits, standing-again, stands};
-ghost use Rattle.book.specs.Layout.{edit-form, line-form};
+ghost use Rattle.book.specs.Layout.{edit-form, edit-width, line-form, line-width, struck-mark};
 ghost use Rattle.book.specs.Sanity.{edit-ok};
 use book::EDIT_WIDTH;
 use book::LINE_WIDTH;
@@ -18,7 +18,7 @@ use numbers::LINE_LIMIT;
 use packing::zero_numbers;
 
 fn edit_rows(journal: &[u32], n: usize) -> bool
-    requires { ⌜ 2 * n ≤ length (now journal) ⌝ }
+    requires { ⌜ edit-width * n ≤ length (now journal) ⌝ }
     ensures { λ r. ⌜ r ≡ fine edit-form edit-ok 0 n 0 (now (journal .entry)) [] ⌝ }
 {
     let mut i = 0;
@@ -47,8 +47,8 @@ pub fn edits_packed(journal: &[u32], n: u32) -> bool
 
 // Whether line i stands, where its mark counts no more once its strike is taken back.
 fn stands_now(lines: &[u32], back: &[u8], i: usize) -> bool
-    requires { ⌜ (4 * i + 4 ≤ length (now lines)) × (i < length (now back)) ⌝ }
-    ensures { λ r. ⌜ r ≡ eqb (cond (eqb (getD (now (back .entry)) i 0) 0) (getD (now (lines .entry)) (4 * i + 1) 0 / 32) 0) 0 ⌝ }
+    requires { ⌜ (line-width * i + line-width ≤ length (now lines)) × (i < length (now back)) ⌝ }
+    ensures { λ r. ⌜ r ≡ eqb (cond (eqb (getD (now (back .entry)) i 0) 0) (getD (now (lines .entry)) (line-width * i + 1) 0 / struck-mark) 0) 0 ⌝ }
 {
     if back[i] != 0 {
         return true;
@@ -58,7 +58,7 @@ fn stands_now(lines: &[u32], back: &[u8], i: usize) -> bool
 
 // Whether the first n lines stand, once the strikes in `back` are taken back.
 fn all_stand(lines: &[u32], pool: &[u8], back: &[u8], n: usize) -> bool
-    requires { ⌜ (4 * n ≤ length (now lines)) × (n ≤ length (now back)) ⌝ }
+    requires { ⌜ (line-width * n ≤ length (now lines)) × (n ≤ length (now back)) ⌝ }
     ensures { λ r. ⌜ r ≡ every stands (standing-again (now (back .entry)) (things line-form n (now (lines .entry)) (now (pool .entry)))) ⌝ }
 {
     let mut i = 0;
@@ -80,7 +80,7 @@ fn journal_fits_with(
     e: usize,
     back: &mut [u8],
 ) -> bool
-    requires { ⌜ (4 * n ≤ length (now lines)) × (2 * e ≤ length (now journal)) × (n ≤ length (now back)) × (now back ≡ zeros (length (now back))) ⌝ }
+    requires { ⌜ (line-width * n ≤ length (now lines)) × (edit-width * e ≤ length (now journal)) × (n ≤ length (now back)) × (now back ≡ zeros (length (now back))) ⌝ }
     ensures { λ r. ⌜ r ≡ journal-fits (things edit-form e (now (journal .entry)) []) (things line-form n (now (lines .entry)) (now (pool .entry))) ⌝ }
 {
     let mut m = n;
@@ -114,7 +114,7 @@ fn journal_fits_with(
 }
 
 pub fn journal_fits(lines: &[u32], pool: &[u8], journal: &[u32], n: usize, e: usize) -> bool
-    requires { ⌜ (4 * n ≤ length (now lines)) × (2 * e ≤ length (now journal)) × (n ≤ line-limit) ⌝ }
+    requires { ⌜ (line-width * n ≤ length (now lines)) × (edit-width * e ≤ length (now journal)) × (n ≤ line-limit) ⌝ }
     ensures { λ r. ⌜ r ≡ journal-fits (things edit-form e (now (journal .entry)) []) (things line-form n (now (lines .entry)) (now (pool .entry))) ⌝ }
 {
     let mut back = [0u8; LINE_LIMIT];

@@ -22,7 +22,7 @@ use Rattle.packing.specs.Tables.{every, fine, packed, packs, rows, things}
 use Rattle.book.specs.Books.{first-named}
 use Rattle.book.specs.Edits.{all-back, journal-fits}
 use Rattle.book.specs.Layout.{counts-of, edit-form, laid-out, line-form, node-form}
-use Rattle.book.specs.Sanity.{content-good, glob-stands, in-range, kind-allows, kind-good, line-ok, name-good, named-good, nodes-good, parent-good, sane, skipped-first}
+use Rattle.book.specs.Sanity.{content-good, glob-stands, in-range, kind-allows, kind-good, line-ok, name-good, named-good, nodes-good, parent-good, sane}
 use Rattle.book.specs.View.{book-of, laid, view, within-limits}
 use Rattle.book.specs.View as view
 use Rattle.rooms.specs.Rooms.{line-room, node-room}
@@ -53,7 +53,7 @@ unfolding pieces pieces-past sound sound-past
     reading-within reading-from reading
     same all-zero pad every fine packed packs rows things
     first-named all-back journal-fits counts-of edit-form laid-out line-form node-form
-    content-good glob-stands in-range kind-allows kind-good line-ok name-good named-good nodes-good parent-good sane skipped-first
+    content-good glob-stands in-range kind-allows kind-good line-ok name-good named-good nodes-good parent-good sane
     book-of laid view within-limits view.holds
     line-room node-room take-event take-kept take-node take-parent
     build build-reading kind-of left nothing-yet opening rust-style told

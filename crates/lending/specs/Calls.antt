@@ -5,9 +5,9 @@ use mathlib.Core.Path.{_≡_}
 use mathlib.Core.List.{List, [], _∷_}
 use mathlib.Core.Bool.{Bool, cond, not}
 use mathlib.Core.Option.{Option, none}
-use lib.Dec.{eqb, ltb}
+use lib.Dec.{eqb}
 use lib.ListN.{length, getD, set}
-use Rattle.numbers.specs.Limits.{node-limit, script-limit}
+use Rattle.numbers.specs.Limits.{node-limit, over, script-limit}
 use Rattle.numbers.specs.Refusals.{no-room, too-long}
 use Rattle.packing.specs.Padding.{zeros}
 use Rattle.book.specs.declared.Counts.{Counts}
@@ -50,7 +50,7 @@ flag n = not (eqb n 0)
 
 -- ---- opening: behind the text's own 1, counts that are not six numbers have no room for the counts (8)
 unfoldable pub opening-with : ℕ → List ℕ → Buffers → List ℕ → Opening
-opening-with place l b s = cond (ltb script-limit (length s)) (declined too-long 0) (cond (six l) (opening place b s) (declined no-room 0))
+opening-with place l b s = cond (over script-limit s) (declined too-long 0) (cond (six l) (opening place b s) (declined no-room 0))
 
 -- 0, or the number with 256 times its place
 unfoldable pub opening-told : Opening → ℕ

@@ -3,9 +3,8 @@
 ghost use mathlib.Core.Path.{_≡_};
 ghost use Prim.Native.Nat.{_+_, _*_, _≤_};
 ghost use mathlib.Core.Bool.{cond};
-ghost use lib.Dec.{ltb};
 ghost use lib.ListN.{length};
-ghost use Rattle.numbers.specs.Limits.{script-limit};
+ghost use Rattle.numbers.specs.Limits.{over, script-limit};
 ghost use Rattle.numbers.specs.Refusals.{no-room, too-long};
 ghost use Rattle.packing.specs.Padding.{zeros};
 ghost use Rattle.book.specs.Layout.{five};
@@ -43,7 +42,7 @@ fn clear_all(
 
 // Why counts that are not six numbers are refused: a text that is too long comes first.
 fn without_counts(text: &[u8]) -> u64
-    ensures { λ r. ⌜ r ≡ cond (ltb script-limit (length (now (text .entry)))) too-long no-room ⌝ }
+    ensures { λ r. ⌜ r ≡ cond (over script-limit (now (text .entry))) too-long no-room ⌝ }
 {
     if SCRIPT_LIMIT < text.len() {
         return TOO_LONG as u64;

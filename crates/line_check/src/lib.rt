@@ -7,7 +7,7 @@ ghost use lib.ListN.{length};
 ghost use Rattle.lists.specs.Same.{same};
 ghost use Rattle.packing.specs.Tables.{fine, packs, things};
 ghost use Rattle.pattern.specs.Storing.{stored};
-ghost use Rattle.book.specs.Layout.{line-form, line-of};
+ghost use Rattle.book.specs.Layout.{line-form, line-of, line-width};
 ghost use Rattle.book.specs.Sanity.{bare-star, content-good, glob-stands, in-range, kind-allows, line-ok, some-star};
 use book::EXPORT;
 use book::LINE_WIDTH;
@@ -118,7 +118,7 @@ fn line_good(kind: u32, nodes: u32, node: u32, code: u32, bytes: &[u8]) -> bool
 
 // Whether n rows of lines are packed up to the byte p of the pool, each a line of such a book.
 fn line_rows(kind: u32, nodes: u32, lines: &[u32], pool: &[u8], n: usize, p: usize) -> bool
-    requires { ⌜ (4 * n ≤ length (now lines)) × (p ≤ length (now pool)) ⌝ }
+    requires { ⌜ (line-width * n ≤ length (now lines)) × (p ≤ length (now pool)) ⌝ }
     ensures { λ r. ⌜ r ≡ fine line-form (line-ok kind nodes) p n 0 (now (lines .entry)) (now (pool .entry)) ⌝ }
 {
     let mut i = 0;
@@ -175,7 +175,7 @@ fn is_bare_star(code: u32) -> bool
 
 // Whether one of n lines is a general `*` among the locals.
 pub fn has_star(lines: &[u32], pool: &[u8], n: usize) -> bool
-    requires { ⌜ 4 * n ≤ length (now lines) ⌝ }
+    requires { ⌜ line-width * n ≤ length (now lines) ⌝ }
     ensures { λ r. ⌜ r ≡ some-star (things line-form n (now (lines .entry)) (now (pool .entry))) ⌝ }
 {
     let mut i = 0;

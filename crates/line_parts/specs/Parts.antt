@@ -4,7 +4,7 @@ use mathlib.Core.List.{List, [], _∷_}
 use mathlib.Core.Bool.{Bool, cond, _&&_}
 use lib.Dec.{leb, ltb}
 use lib.ListN.{length, drop}
-use Rattle.numbers.specs.Signs.{line-feed}
+use Rattle.numbers.specs.Signs.{line-feed, nought}
 use Rattle.linker_script.specs.declared.Found.{Found}
 use Rattle.linker_script.specs.declared.Found.the-variants.{Here, Nowhere}
 use Rattle.linker_script.specs.Finding.{first-from, is}
@@ -16,7 +16,7 @@ abbrev pub number-limit : ℕ
 number-limit = 4294967296
 
 unfoldable pub digit : ℕ → Bool
-digit b = leb 48 b && leb b 57
+digit b = leb nought b && leb b (nought + 9)
 
 -- the digits that a text begins with
 unfoldable pub digits : List ℕ → List ℕ
@@ -26,7 +26,7 @@ digits (b ∷ l) = cond (digit b) (b ∷ digits l) []
 -- what digits are worth behind others that are worth n
 unfoldable pub worth : ℕ → List ℕ → ℕ
 worth n [] = n
-worth n (d ∷ ds) = worth (n * 10 + (d - 48)) ds
+worth n (d ∷ ds) = worth (n * 10 + (d - nought)) ds
 
 -- the number of the digits that stand at the place p
 unfoldable pub number-of : ℕ → List ℕ → Numeral

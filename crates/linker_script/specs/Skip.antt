@@ -3,7 +3,7 @@
 -- Assumes nothing.
 use Prim.Native.Nat.{ℕ, zero, suc, _+_, _-_}
 use mathlib.Core.List.{List, [], _∷_}
-use mathlib.Core.Bool.{Bool, cond, _&&_, _||_}
+use mathlib.Core.Bool.{Bool, cond, _||_}
 use lib.Dec.{eqb}
 use lib.ListN.{getD, drop}
 use Rattle.numbers.specs.Refusals.{unclosed}
@@ -17,6 +17,10 @@ use Rattle.linker_script.specs.Finding.{first-in, is, are}
 -- "spaces, tabs, CR, LF"
 unfoldable pub blank : ℕ → Bool
 blank b = eqb b space || (eqb b tab || (eqb b carriage-return || eqb b line-feed))
+
+-- whether a skip takes the byte at the place p of s: `move`, below, does not stop there
+abbrev pub skips : List ℕ → ℕ → Bool
+skips s p = blank (getD s p 0) || (eqb (getD s p 0) hash || are slash asterisk (getD s p 0) (getD s (p + 1) 0))
 
 -- what a skip does at a byte: it stops there, passes k bytes more than that one, or finds a comment that nothing closes
 pub data Move : Type 0 where
@@ -34,7 +38,7 @@ unfoldable pub move : ℕ → ℕ → List ℕ → Move
 move p b l =
     cond (blank b) (pass 0)
     (cond (eqb b hash) (past p 0 (first-in (is line-feed) (p + 1) l))
-    (cond (eqb b slash && eqb (getD l 0 0) asterisk) (past p 1 (first-in (are asterisk slash) (p + 1) l))
+    (cond (are slash asterisk b (getD l 0 0)) (past p 1 (first-in (are asterisk slash) (p + 1) l))
     stop))
 
 abbrev pub go : Move → ℕ → (ℕ → Skipped) → Skipped

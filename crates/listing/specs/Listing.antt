@@ -2,8 +2,9 @@
 use Prim.Native.Nat.{ℕ, _+_, _*_}
 use mathlib.Core.List.{List}
 use mathlib.Core.Bool.{Bool, cond}
-use lib.Dec.{leb, ltb}
+use lib.Dec.{leb}
 use lib.ListN.{length}
+use Rattle.numbers.specs.Limits.{over}
 use Rattle.numbers.specs.Refusals.{no-room, too-long}
 use Rattle.lists.specs.Front.{front}
 use Rattle.packing.specs.Padding.{zeros}
@@ -11,21 +12,24 @@ use Rattle.cursors.specs.Places.{at-script}
 use Rattle.book.specs.Layout.{Buffers, edit-width, five, line-width, node-width}
 use Rattle.opening.specs.Opening.{Opening, declined, left, opening}
 use Rattle.input.specs.Splitting.{input-limit, mark, part-before, symbols-by}
-use Rattle.rendering.specs.Lines.{tail-room}
+use Rattle.rendering.specs.Lines.{byte-room, tail-room}
 use Rattle.listing_script.specs.declared.Listed.{Listed}
 use Rattle.listing_script.specs.Script.{printed, with-refusal}
 
 -- the opening of the script, in buffers with the rooms of b; "longer input prints `refused 1`"
 unfoldable pub input-opening : Buffers → List ℕ → Opening
-input-opening b s = cond (ltb input-limit (length s)) (declined too-long 0) (opening at-script b (part-before s (mark s)))
+input-opening b s = cond (over input-limit s) (declined too-long 0) (opening at-script b (part-before s (mark s)))
 
 -- what is printed
 unfoldable pub listing : Buffers → List ℕ → List ℕ
 listing b s = printed (input-opening b s) (symbols-by s (mark s))
 
 -- ---- in a lent buffer of room for every listing of that length; in a smaller one nothing is done
+abbrev pub room-for : ℕ → ℕ → Bool
+room-for n room = leb (tail-room + byte-room * n) room
+
 unfoldable pub has-room : List ℕ → List ℕ → Bool
-has-room s out = leb (tail-room + 15 * length s) (length out)
+has-room s out = room-for (length s) (length out)
 
 -- without room: 0 would say that it is done
 abbrev pub nothing-listed : Listed

@@ -1,13 +1,12 @@
 // The whole of what verlist prints, into a lent buffer.
 ghost use mathlib.Core.Path.{_≡_};
 ghost use mathlib.Core.Bool.{cond};
-ghost use Prim.Native.Nat.{_+_, _*_, _≤_};
+ghost use Prim.Native.Nat.{_+_, _≤_};
 ghost use lib.Dec.{leb};
 ghost use lib.ListN.{length};
 ghost use Rattle.book.specs.Layout.{five};
 ghost use Rattle.input.specs.Splitting.{mark, part-before};
-ghost use Rattle.rendering.specs.Lines.{tail-room};
-ghost use Rattle.listing.specs.Listing.{book-left, listed, nothing-listed, out-left};
+ghost use Rattle.listing.specs.Listing.{book-left, listed, nothing-listed, out-left, room-for};
 use input::splitting::find_mark;
 use linker_script::Found;
 use listing_script::Listed;
@@ -19,9 +18,9 @@ use rendering::TAIL_ROOM;
 // The longest input.
 pub const INPUT_LIMIT: usize = 65536;
 
-// Whether `out` has room for whatever is printed for an input of that length: `has-room` of specs/Listing.antt, by the lengths.
+// Whether `out` has room for whatever is printed for an input of that length.
 fn has_room(text: usize, out: usize) -> bool
-    ensures { λ r. ⌜ r ≡ leb (tail-room + 15 * text) out ⌝ }
+    ensures { λ r. ⌜ r ≡ room-for text out ⌝ }
 {
     if out < TAIL_ROOM {
         return false;

@@ -16,14 +16,18 @@ use Rattle.printing.specs.Printing.{refused-line}
 use Rattle.rendering.specs.Lines.{counts-answered}
 use Rattle.listing_symbols.specs.SymbolLines.{answers}
 
--- "It prints version and parent counts, then …", "one symbol a line (a last LF may lack)", "or `refused` and the number for the script"
+-- "It prints version and parent counts, then …", "one symbol a line (a last LF may lack)": of a book, if it is one
+abbrev pub book-printed : Option Book → List ℕ → List ℕ
+book-printed w symbols = counts-answered w ++ answers w (lines-in [] symbols)
+
+-- "or `refused` and the number for the script"
 unfoldable pub printed : Opening → List ℕ → List ℕ
-printed (opens w) symbols = counts-answered (some w) ++ answers (some w) (lines-in [] symbols)
+printed (opens w) symbols = book-printed (some w) symbols
 printed (declined n p) symbols = refused-line n
 
 -- what is printed, by what is told of an opening: its refusal, or 0, and the book that the buffers hold then
 unfoldable pub opened-printed : ℕ → Option Book → List ℕ → List ℕ
-opened-printed refusal w symbols = cond (eqb refusal 0) (counts-answered w ++ answers w (lines-in [] symbols)) (refused-line refusal)
+opened-printed refusal w symbols = cond (eqb refusal 0) (book-printed w symbols) (refused-line refusal)
 
 -- how many bytes are printed, and the script's refusal with its place, or 0
 abbrev pub with-refusal : ℕ → Opening → Listed

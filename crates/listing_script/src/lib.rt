@@ -12,6 +12,7 @@ ghost use Rattle.book.specs.View.{holds, view};
 ghost use Rattle.opening.specs.Opening.{cleared, declined, opening};
 ghost use Rattle.printing.specs.Printing.{Begins, refused-line};
 ghost use Rattle.listing_script.specs.Script.{Prints, opened-printed, with-refusal};
+ghost use Rattle.rendering.specs.Lines.{tail-room, byte-room, counts-room};
 use book::Counts;
 use listing_symbols::render_symbols;
 use numbers::TOO_LONG;
@@ -30,7 +31,7 @@ pub struct Listed {
 
 // A refusal, and its line.
 fn render_listing_refused(no: u32, place: usize, out: &mut [u8]) -> Listed
-    requires { ⌜ 48 ≤ length (now out) ⌝ }
+    requires { ⌜ tail-room ≤ length (now out) ⌝ }
     ensures { λ r. ⌜ (r ≡ with-refusal (length (refused-line no)) (declined no place)) × (now (out .exit) ≡ front (refused-line no) (now (out .entry))) ⌝ }
 {
     let length = render_refused(no, out);
@@ -50,7 +51,7 @@ pub fn render_too_long(
     journal: &mut [u32],
     out: &mut [u8],
 ) -> Listed
-    requires { ⌜ 48 ≤ length (now out) ⌝ }
+    requires { ⌜ tail-room ≤ length (now out) ⌝ }
     ensures { λ r. ⌜ (r ≡ with-refusal (length (refused-line too-long)) (declined too-long 0)) × (now (out .exit) ≡ front (refused-line too-long) (now (out .entry)))
         × (five (now (nodes .exit)) (now (names .exit)) (now (lines .exit)) (now (pool .exit)) (now (journal .exit)) ≡ cleared (five (now (nodes .entry)) (now (names .entry)) (now (lines .entry)) (now (pool .entry)) (now (journal .entry)))) ⌝ }
 {
@@ -74,7 +75,7 @@ fn render_opened(
     symbols: &[u8],
     out: &mut [u8],
 ) -> usize
-    requires { ⌜ (48 ≤ length (now out)) × (0 < length (now symbols) → 84 + 15 * length (now symbols) ≤ length (now out))
+    requires { ⌜ (tail-room ≤ length (now out)) × (0 < length (now symbols) → counts-room + tail-room + byte-room * length (now symbols) ≤ length (now out))
         × (refusal ≡ 0 → holds c (five (now nodes) (now names) (now lines) (now pool) (now journal)) ≡ true) ⌝ }
     ensures { λ r. ⌜ Begins (now (out .entry)) (opened-printed refusal (view c (five (now (nodes .entry)) (now (names .entry)) (now (lines .entry)) (now (pool .entry)) (now (journal .entry)))) (now (symbols .entry))) (now (out .exit)) r ⌝ }
 {
@@ -96,7 +97,7 @@ pub fn render_script(
     journal: &mut [u32],
     out: &mut [u8],
 ) -> Listed
-    requires { ⌜ (48 ≤ length (now out)) × (0 < length (now symbols) → 84 + 15 * length (now symbols) ≤ length (now out)) ⌝ }
+    requires { ⌜ (tail-room ≤ length (now out)) × (0 < length (now symbols) → counts-room + tail-room + byte-room * length (now symbols) ≤ length (now out)) ⌝ }
     ensures { λ r. ⌜ Prints (five (now (nodes .entry)) (now (names .entry)) (now (lines .entry)) (now (pool .entry)) (now (journal .entry))) (opening at-script (five (now (nodes .entry)) (now (names .entry)) (now (lines .entry)) (now (pool .entry)) (now (journal .entry))) (now (script .entry))) (now (symbols .entry)) (now (out .entry))
         (five (now (nodes .exit)) (now (names .exit)) (now (lines .exit)) (now (pool .exit)) (now (journal .exit))) (now (out .exit)) r ⌝ }
 {

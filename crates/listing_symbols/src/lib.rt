@@ -10,7 +10,7 @@ ghost use Rattle.book.specs.View.{holds, view};
 ghost use Rattle.lookups.specs.Lookups.{wanted-of};
 ghost use Rattle.input.specs.Splitting.{lines-in};
 ghost use Rattle.printing.specs.Printing.{Begins, Puts};
-ghost use Rattle.rendering.specs.Lines.{asked-line, symbol-answered};
+ghost use Rattle.rendering.specs.Lines.{asked-line, byte-room, symbol-answered, tail-room};
 ghost use Rattle.listing_symbols.specs.SymbolLines.{answers};
 use book::Counts;
 use input::splitting::find_at;
@@ -34,7 +34,7 @@ fn render_asked_in_book(
     wanted: &[u8],
     out: &mut [u8],
 ) -> usize
-    requires { ⌜ (length (now name) + 48 ≤ length (now out)) × (holds c (five (now nodes) (now names) (now lines) (now pool) (now journal)) ≡ true) ⌝ }
+    requires { ⌜ (length (now name) + tail-room ≤ length (now out)) × (holds c (five (now nodes) (now names) (now lines) (now pool) (now journal)) ≡ true) ⌝ }
     ensures { λ r. ⌜ Begins (now (out .entry)) (asked-line (view c (five (now (nodes .entry)) (now (names .entry)) (now (lines .entry)) (now (pool .entry)) (now (journal .entry)))) (now (name .entry)) (wanted-of «has_wanted» (now (wanted .entry)))) (now (out .exit)) r ⌝ }
 {
     let v = version_in_book(
@@ -64,7 +64,7 @@ fn render_symbol_in_book(
     line: &[u8],
     out: &mut [u8],
 ) -> usize
-    requires { ⌜ (length (now line) + 48 ≤ length (now out)) × (holds c (five (now nodes) (now names) (now lines) (now pool) (now journal)) ≡ true) ⌝ }
+    requires { ⌜ (length (now line) + tail-room ≤ length (now out)) × (holds c (five (now nodes) (now names) (now lines) (now pool) (now journal)) ≡ true) ⌝ }
     ensures { λ r. ⌜ Begins (now (out .entry)) (symbol-answered (view c (five (now (nodes .entry)) (now (names .entry)) (now (lines .entry)) (now (pool .entry)) (now (journal .entry)))) (now (line .entry))) (now (out .exit)) r ⌝ }
 {
     match find_at(line) {
@@ -110,7 +110,7 @@ fn put_answer(
     at: usize,
     out: &mut [u8],
 ) -> usize
-    requires { ⌜ (at + length (now line) + 48 ≤ length (now out)) × (holds c (five (now nodes) (now names) (now lines) (now pool) (now journal)) ≡ true) ⌝ }
+    requires { ⌜ (at + length (now line) + tail-room ≤ length (now out)) × (holds c (five (now nodes) (now names) (now lines) (now pool) (now journal)) ≡ true) ⌝ }
     ensures { λ r. ⌜ Puts (now (out .entry)) at (symbol-answered (view c (five (now (nodes .entry)) (now (names .entry)) (now (lines .entry)) (now (pool .entry)) (now (journal .entry)))) (now (line .entry))) (now (out .exit)) r ⌝ }
 {
     let n = render_symbol_in_book(c, nodes, names, lines, pool, journal, line, &mut out[at..]);
@@ -129,7 +129,7 @@ pub fn render_symbols(
     from: usize,
     out: &mut [u8],
 ) -> usize
-    requires { ⌜ (0 < length (now symbols) → from + 48 + 15 * length (now symbols) ≤ length (now out))
+    requires { ⌜ (0 < length (now symbols) → from + tail-room + byte-room * length (now symbols) ≤ length (now out))
         × (holds c (five (now nodes) (now names) (now lines) (now pool) (now journal)) ≡ true) ⌝ }
     ensures { λ r. ⌜ Puts (now (out .entry)) from (answers (view c (five (now (nodes .entry)) (now (names .entry)) (now (lines .entry)) (now (pool .entry)) (now (journal .entry)))) (lines-in [] (now (symbols .entry)))) (now (out .exit)) r ⌝ }
 {

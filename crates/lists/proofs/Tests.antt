@@ -1,11 +1,16 @@
--- Tests that are joined by `&&`: what a test that holds gives, and what one that fails leaves. Assumes nothing.
+-- Tests that are joined by `&&` or `||`: what a test that holds gives, and what one that fails leaves. Assumes nothing.
 use mathlib.Core.Path.{_≡_, refl, _∙_}
-use mathlib.Core.Bool.{Bool, true, false, _&&_, false≢true}
+use mathlib.Core.Bool.{Bool, true, false, _&&_, _||_, false≢true, true≢false}
 
 -- where both hold, each does
 pub both : (a b : Bool) → (a && b) ≡ true → (a ≡ true) × (b ≡ true)
 both true b e = (refl, e)
 both false b e = absurd (false≢true e)
+
+-- where not even one holds, each fails
+pub neither : (a b : Bool) → (a || b) ≡ false → (a ≡ false) × (b ≡ false)
+neither true b e = absurd (true≢false e)
+neither false b e = (refl, e)
 
 -- a test that cannot hold fails
 pub fails : (t : Bool) → (t ≡ true → ⊥) → t ≡ false

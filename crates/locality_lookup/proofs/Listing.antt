@@ -10,9 +10,10 @@ use borrow.Author.Tests.{eq-eqb, ne-eqb}
 use lib.Dec.{eqb}
 use lib.ListN.{drop, getD, take, drop-of-length-le}
 use lib.Seq.{drop-cons}
+use Rattle.numbers.specs.Marks.{global}
 use Rattle.lists.specs.Same.{same}
 use Rattle.packing.specs.Tables.{any, packs, things}
-use Rattle.book.specs.Books.{Line, global, no-line}
+use Rattle.book.specs.Books.{Line, no-line}
 use Rattle.book.specs.Layout.{line-form}
 use Rattle.book.specs.Sanity.{line-ok}
 use Rattle.book.proofs.LineRows.{Row, lines-count, row-at, row-bytes}

@@ -10,8 +10,9 @@ use native.Mathlib.Omega.{arith}
 use borrow.Author.Tests.{not-false}
 use lib.Dec.{eqb}
 use lib.ListN.{length, getD}
+use Rattle.numbers.specs.Marks.{global}
 use Rattle.book.specs.declared.Counts.{Counts}
-use Rattle.book.specs.Books.{Line, Book, edition-of, global, no-line, regular}
+use Rattle.book.specs.Books.{Line, Book, edition-of, no-line, regular}
 use Rattle.book.specs.Layout.{Buffers}
 use Rattle.book.specs.View.{holds, view}
 use Rattle.book.proofs.Asking.{viewed-in-range}

@@ -3,16 +3,17 @@ use Prim.Native.Nat.{ℕ, _+_}
 use mathlib.Core.List.{List, [], _∷_}
 use mathlib.Core.Bool.{Bool, false, cond, _&&_}
 use mathlib.Core.Option.{Option, some, none}
-use lib.Dec.{eqb, ltb}
-use lib.ListN.{length, getD}
-use Rattle.numbers.specs.Limits.{version-limit}
+use lib.Dec.{eqb}
+use Rattle.numbers.specs.Limits.{over, version-limit}
+use Rattle.numbers.specs.Marks.{global}
 use Rattle.numbers.specs.Refusals.{no-book, unknown-version, wrong-kind}
 use Rattle.lists.specs.Same.{same}
 use Rattle.packing.specs.Tables.{any}
-use Rattle.book.specs.Books.{Node, Line, Book, export, global, no-line, rust}
+use Rattle.book.specs.Books.{Node, Line, Book, export, rust}
+use Rattle.book.specs.Edits.{line-at}
 use Rattle.ranking.specs.Matching.{Name}
 use Rattle.ranking.specs.Names.{name-refusal}
-use Rattle.ranking.specs.Walk.{deciding}
+use Rattle.ranking.specs.Walk.{deciding, or-else}
 use Rattle.lookups.specs.declared.index.NodeNumber.{NodeNumber}
 use Rattle.lookups.specs.declared.index.VersionIndex.{VersionIndex}
 use Rattle.lookups.specs.declared.answers.Version.{Version}
@@ -27,6 +28,7 @@ index-of i = record { 0 = 1 + i .0 }
 abbrev pub global-index : VersionIndex
 global-index = record { 0 = 1 }
 
+-- the answer with that index
 abbrev pub index : ℕ → Version
 index i = version.Index (record { 0 = i })
 
@@ -38,14 +40,10 @@ unfoldable pub node-version : ℕ → Version
 node-version i = cond (eqb i 0) version.Unversioned (version.Index (index-of (node-number i)))
 
 -- ---- "A wanted version takes the last node of that name."
-abbrev pub or-here : Option ℕ → Bool → ℕ → Option ℕ
-or-here (some j) here i = some j
-or-here none here i = cond here (some i) none
-
 -- among nodes that are numbered from i on
 unfoldable pub last-named : List Node → ℕ → List ℕ → Option ℕ
 last-named [] i t = none
-last-named (x ∷ xs) i t = or-here (last-named xs (i + 1) t) (same (x .name) t) i
+last-named (x ∷ xs) i t = or-else (last-named xs (i + 1) t) (cond (same (x .name) t) (some i) none)
 
 -- "A wanted version that is empty gives 1, a known one its index, an unknown one refusal 10."
 abbrev pub known : Option ℕ → Version
@@ -58,7 +56,7 @@ wanted-version xs (c ∷ v) = known (last-named xs 0 (c ∷ v))
 
 -- ---- the deciding line's node
 abbrev pub decided-version : List Line → Option ℕ → Version
-decided-version ls (some i) = node-version (getD ls i no-line .node)
+decided-version ls (some i) = node-version (line-at ls i .node)
 decided-version ls none = version.Unversioned
 
 abbrev pub by-wanted : Book → Name → Option (List ℕ) → Version
@@ -71,7 +69,7 @@ version-of w n v = cond (eqb (w .kind) rust) version.Unversioned (by-wanted w n 
 
 -- ---- "Locality is the deciding section"
 abbrev pub decided-locality : List Line → Option ℕ → Locality
-decided-locality ls (some i) = cond (eqb (getD ls i no-line .section) global) locality.Global locality.Local
+decided-locality ls (some i) = cond (eqb (line-at ls i .section) global) locality.Global locality.Local
 decided-locality ls none = locality.Nothing
 
 -- "global for listed names, else local"; the global lines of a book of the Rust kind are Exact and general, and none is struck (14)
@@ -88,7 +86,7 @@ wanted-of has v = cond has (some v) none
 
 -- "wanted version 4,096"
 abbrev pub long-wanted : Option (List ℕ) → Bool
-long-wanted (some v) = ltb version-limit (length v)
+long-wanted (some v) = over version-limit v
 long-wanted none = false
 
 unfoldable pub version-asked : Option Book → Name → Option (List ℕ) → Version

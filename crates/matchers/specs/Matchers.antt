@@ -5,8 +5,9 @@ use mathlib.Core.List.{List, [], _∷_}
 use mathlib.Core.Bool.{cond}
 use lib.Dec.{eqb}
 use lib.ListN.{length, getD}
+use Rattle.numbers.specs.Marks.{cxx, general}
 use Rattle.numbers.specs.Refusals.{bad-extern}
-use Rattle.numbers.specs.Signs.{opening-brace, semicolon}
+use Rattle.numbers.specs.Signs.{closing-brace, opening-brace, quote, semicolon, space}
 use Rattle.tokens.specs.declared.TokenEnd.{TokenEnd}
 use Rattle.tokens.specs.declared.TokenEnd.the-variants.{To}
 use Rattle.tokens.specs.declared.TokenEnd.the-variants as token
@@ -20,17 +21,17 @@ use Rattle.cursors.specs.Moves.{moved, in-language, skipping, expecting}
 
 -- `extern `, `"C++"`, `"C"`
 abbrev pub extern-word : List ℕ
-extern-word = 101 ∷ 120 ∷ 116 ∷ 101 ∷ 114 ∷ 110 ∷ 32 ∷ []
+extern-word = 101 ∷ 120 ∷ 116 ∷ 101 ∷ 114 ∷ 110 ∷ space ∷ []
 
 abbrev pub cxx-word : List ℕ
-cxx-word = 34 ∷ 67 ∷ 43 ∷ 43 ∷ 34 ∷ []
+cxx-word = quote ∷ 67 ∷ 43 ∷ 43 ∷ quote ∷ []
 
 abbrev pub c-word : List ℕ
-c-word = 34 ∷ 67 ∷ 34 ∷ []
+c-word = quote ∷ 67 ∷ quote ∷ []
 
 -- `};`
 abbrev pub close-word : List ℕ
-close-word = 125 ∷ 59 ∷ []
+close-word = closing-brace ∷ semicolon ∷ []
 
 -- ---- a token
 -- "take a `;` if there"
@@ -54,15 +55,15 @@ extern-open c s place language p =
 -- "`extern ` (one space), then `"C++"` or `"C"`": else refused 4; p is the place of `extern `
 unfoldable pub extern-at : Cursor → List ℕ → ℕ → ℕ → Step
 extern-at c s place p =
-    cond (stands-at cxx-word s (p + 7)) (extern-open c s place 1 (p + 12))
-    (cond (stands-at c-word s (p + 7)) (extern-open c s place 0 (p + 10))
+    cond (stands-at cxx-word s (p + 7)) (extern-open c s place cxx (p + 12))
+    (cond (stands-at c-word s (p + 7)) (extern-open c s place general (p + 10))
     (Refused bad-extern p))
 
 -- "In … an extern block a skip stands before each … token and before the closing `};`"; "`};`, skip"; "`extern ` within it is refused 4 at once";
 -- behind the block the reading goes on at `place`, and e is the end of the token at p
 unfoldable pub extern-inside : Cursor → List ℕ → ℕ → ℕ → TokenEnd → Step
 extern-inside c s place p e =
-    cond (stands-at close-word s p) (skipping s (p + 2) (λ r. Go Closed (moved (in-language c 0) place r)))
+    cond (stands-at close-word s p) (skipping s (p + 2) (λ r. Go Closed (moved (in-language c general) place r)))
     (cond (stands-at extern-word s p) (Refused bad-extern p)
     (line-to c s (c .place) p e))
 

@@ -3,21 +3,24 @@
 use Prim.Native.Nat.{ℕ, _+_, _-_, _*_, _/_, _≤_, _<_}
 use mathlib.Core.Path.{_≡_, refl, sym, ap, _∙_}
 use mathlib.Core.List.{List, [], _∷_}
-use mathlib.Core.Bool.{Bool, true, false, _&&_, not}
+use mathlib.Core.Bool.{Bool, true, false, _&&_, not, or-false, true≢false}
+use native.Mathlib.Decide.{ℕ-discrete}
 use native.Mathlib.Numerals.{add-one}
 use native.Mathlib.Omega.{arith}
 use borrow.Author.Tests.{eq-eqb, ne-eqb, lt-ltb, le-ltb, not-true, not-false}
 use lib.Dec.{eqb, ltb}
 use lib.ListN.{length, drop, getD, length-drop, drop-of-length-le}
 use lib.Seq.{drop-cons, getD-drop, length-take-le}
-use Rattle.lists.proofs.Tests.{first-fails, passes-on}
+use Rattle.numbers.specs.Signs.{asterisk, carriage-return, hash, line-feed, slash, space, tab}
+use Rattle.lists.proofs.Tests.{both, first-fails, passes-on}
 use Rattle.packing.specs.Padding.{all-zero}
 use Rattle.packing.specs.Tables.{every, fine, packs, things}
 use Rattle.packing.proofs.Turns.{left, left-all, starts-at, size-at, row-bad, size-bad, row-more, end-bad, end-good, packs-no, packs-zero, packs-rows}
+use Rattle.linker_script.specs.Skip.{blank, skips}
 use Rattle.tokens.specs.Tokens.{named}
 use Rattle.book.specs.Books.{Node, first-named, no-node}
 use Rattle.book.specs.Layout.{node-form}
-use Rattle.book.specs.Sanity.{name-good, named-good, no-semicolon, nodes-good, parent-good, skipped-first}
+use Rattle.book.specs.Sanity.{name-good, named-good, no-semicolon, nodes-good, parent-good}
 use Rattle.book.specs.View.{any-node}
 use Rattle.book.proofs.Forms.{node-laws}
 use Rattle.book.proofs.NodeRows.{Row, told-name, node-row, row-at, row-name, nodes-count}
@@ -104,20 +107,55 @@ module _ (n p : ℕ) (l m : List ℕ) where
       → r ≡ packs node-form any-node n p l m
   rows-decide z r h e f q = packs-rows node-form node-laws n p l m z r h e (not-false z f) q
 
--- ---- a name
+-- ---- a name: of the blanks only CR is a byte of one
+pub named-blank : (b : ℕ) → named b ≡ true → blank b ≡ eqb b carriage-return
+unfolding named blank
+named-blank b e = go (ℕ-discrete b space) (ℕ-discrete b tab) (ℕ-discrete b line-feed)
+  where
+    go : Dec (b ≡ space) → Dec (b ≡ tab) → Dec (b ≡ line-feed) → blank b ≡ eqb b carriage-return
+    go (yes z) y x = absurd (true≢false (sym (rw z at e)))
+    go (no z) (yes y) x = absurd (true≢false (sym (rw y at e)))
+    go (no z) (no y) (yes x) = absurd (true≢false (sym (rw x at e)))
+    go (no z) (no y) (no x) = rw (ne-eqb b space z, ne-eqb b tab y, ne-eqb b line-feed x) (or-false (eqb b carriage-return))
+
+pub name-blank : (t : List ℕ) → every named t ≡ true → blank (getD t 0 0) ≡ eqb (getD t 0 0) carriage-return
+unfolding every blank
+name-blank [] e = refl
+name-blank (b ∷ t) e = named-blank b (both (named b) (every named t) e .0)
+
+-- whether it begins with what a skip takes, by its first byte b
+module _ (t : List ℕ) (n : every named t ≡ true) (b : ℕ) (e : b ≡ getD t 0 0) where
+  pub first-return : b ≡ carriage-return → true ≡ skips t 0
+  first-return k = rw (name-blank t n, ← e, eq-eqb b carriage-return k)
+
+  module _ (k : b ≡ carriage-return → ⊥) where
+    pub first-hash : b ≡ hash → true ≡ skips t 0
+    first-hash h = rw (name-blank t n, ← e, ne-eqb b carriage-return k, eq-eqb b hash h)
+
+    module _ (h : b ≡ hash → ⊥) where
+      pub first-slash : b ≡ slash → (c : ℕ) → c ≡ getD t 1 0 → eqb c asterisk ≡ skips t 0
+      first-slash g c f = rw (name-blank t n, ← e, ← f, ne-eqb b carriage-return k, ne-eqb b hash h, eq-eqb b slash g)
+
+      pub first-other : (b ≡ slash → ⊥) → false ≡ skips t 0
+      first-other g = rw (name-blank t n, ← e, ne-eqb b carriage-return k, ne-eqb b hash h, ne-eqb b slash g)
+
 module _ (t : List ℕ) where
   pub name-none : length t ≡ 0 → false ≡ name-good t
   unfolding name-good
   name-none h = simp (le-ltb 0 (length t) (omega arith))
 
-  name-parts : (length t ≡ 0 → ⊥) → name-good t ≡ (every named t && not (skipped-first t))
+  name-parts : (length t ≡ 0 → ⊥) → name-good t ≡ (every named t && not (skips t 0))
   unfolding name-good
   name-parts h = simp (lt-ltb 0 (length t) (omega arith))
 
   pub name-bad : (r : Bool) → (length t ≡ 0 → ⊥) → r ≡ every named t → not r ≡ true → false ≡ name-good t
   name-bad r h e f = sym (first-fails (name-good t) (every named t) _ (name-parts h) (sym e ∙ not-true r f))
 
-  pub name-ends : (r q : Bool) → (length t ≡ 0 → ⊥) → r ≡ every named t → not r ≡ false → q ≡ skipped-first t → not q ≡ name-good t
+  -- what `is_skipped_first` asks
+  pub names-asked : (r : Bool) → r ≡ every named t → not r ≡ false → every named t ≡ true
+  names-asked r e f = sym e ∙ not-false r f
+
+  pub name-ends : (r q : Bool) → (length t ≡ 0 → ⊥) → r ≡ every named t → not r ≡ false → q ≡ skips t 0 → not q ≡ name-good t
   name-ends r q h e f g = ap not g ∙ sym (passes-on (name-good t) (every named t) _ (name-parts h) (sym e ∙ not-false r f))
 
 -- ---- a parent: p can be that of node i

@@ -5,9 +5,10 @@ ghost use mathlib.Core.Bool.{true};
 ghost use Prim.Native.Nat.{_*_, _≤_};
 ghost use lib.ListN.{length};
 ghost use Rattle.packing.specs.Tables.{every, fine, packs, things};
+ghost use Rattle.linker_script.specs.Skip.{skips};
 ghost use Rattle.tokens.specs.Tokens.{named};
-ghost use Rattle.book.specs.Layout.{node-form};
-ghost use Rattle.book.specs.Sanity.{name-good, no-semicolon, nodes-good, parent-good, skipped-first};
+ghost use Rattle.book.specs.Layout.{node-form, node-width};
+ghost use Rattle.book.specs.Sanity.{name-good, no-semicolon, nodes-good, parent-good};
 ghost use Rattle.book.specs.View.{any-node};
 use book::NODE_WIDTH;
 use book::nodes::first_named;
@@ -18,7 +19,7 @@ use tokens::names::is_named;
 
 // Whether n rows of nodes are packed up to the byte p of the names.
 fn node_rows(nodes: &[u32], names: &[u8], n: usize, p: u32) -> bool
-    requires { ⌜ 3 * n ≤ length (now nodes) ⌝ }
+    requires { ⌜ node-width * n ≤ length (now nodes) ⌝ }
     ensures { λ r. ⌜ r ≡ fine node-form any-node p n 0 (now (nodes .entry)) (now (names .entry)) ⌝ }
 {
     let mut i = 0;
@@ -57,9 +58,10 @@ pub fn nodes_packed(nodes: &[u32], names: &[u8], n: u32, p: u32) -> bool
     node_rows(nodes, names, n as usize, p)
 }
 
-// A first byte, or two, that the skip before a name would take.
+// A first byte, or two, that the skip before a name would take. Of the blanks only CR is a byte of a name.
 fn is_skipped_first(name: &[u8]) -> bool
-    ensures { λ r. ⌜ r ≡ skipped-first (now (name .entry)) ⌝ }
+    requires { ⌜ every named (now name) ≡ true ⌝ }
+    ensures { λ r. ⌜ r ≡ skips (now (name .entry)) 0 ⌝ }
 {
     let b = byte_at(name, 0);
     if b == b'\r' {

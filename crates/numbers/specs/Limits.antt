@@ -1,5 +1,13 @@
 -- 01's limits, last accepted. An export list is a script here. Assumes nothing.
 use Prim.Native.Nat.{ℕ}
+use mathlib.Core.List.{List}
+use mathlib.Core.Bool.{Bool}
+use lib.Dec.{ltb}
+use lib.ListN.{length}
+
+-- "script, text, trimmed token or name over its limit"
+abbrev pub over : ℕ → List ℕ → Bool
+over limit s = ltb limit (length s)
 
 -- "script 1,048,576 bytes"
 abbrev pub script-limit : ℕ

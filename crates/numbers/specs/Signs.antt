@@ -1,4 +1,4 @@
--- The ASCII signs with which tokens and patterns are spelled. Assumes nothing.
+-- The ASCII signs with which scripts, tokens and patterns are spelled, and what is printed. Assumes nothing.
 use Prim.Native.Nat.{ℕ}
 
 -- `!`
@@ -64,6 +64,10 @@ opening-paren = 40
 -- `)`
 abbrev pub closing-paren : ℕ
 closing-paren = 41
+
+-- `0`, the first of the digits
+abbrev pub nought : ℕ
+nought = 48
 
 -- `/`
 abbrev pub slash : ℕ

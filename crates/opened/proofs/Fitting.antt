@@ -13,7 +13,9 @@ use Rattle.packing.specs.Tables.{packed}
 use Rattle.packing.proofs.TableLaws.{packed-append, packed-set}
 use Rattle.book.specs.Books.{Node, Line, no-node}
 use Rattle.book.specs.Layout.{Buffers, line-form, line-width, node-form, node-width}
-use Rattle.rooms.specs.Rooms.{line-room, node-room}
+use Rattle.rooms.specs.Rooms.{fits-row, line-room, node-room, pool-room, row-room}
+use Rattle.rooms.proofs.Putting.{room-length, room-limit}
+use Rattle.rooms.proofs.Rows.{row-number, row-within}
 
 pub record Roomy (b : Buffers) (xs : List Node) (ys : List Line) : Type 0 where
   pub node-rows : node-width * length xs ≤ length (b .nodes)
@@ -49,11 +51,11 @@ module _ (b : Buffers) (xs : List Node) (ys : List Line) (t : Roomy b xs ys) whe
   pub roomy-node : (x : Node) → node-room b xs (x .name) ≡ true → Roomy b (xs ++ x ∷ []) ys
   unfolding node-room
   roomy-node x e =
-      let a = both (ltb (length xs) node-limit) _ e in
-      let d = both (leb (node-width * (length xs + 1)) (length (b .nodes))) _ (a .1) in
-      let i = ltb-true (length xs) node-limit (a .0) in
-      let j = leb-true (node-width * (length xs + 1)) (length (b .nodes)) (d .0) in
-      let k = leb-true (length (packed node-form xs) + length (x .name)) (length (b .names)) (d .1) in
+      let a = both (row-room node-limit node-width (b .nodes) (length xs)) _ e in
+      let d = both (ltb (length xs) node-limit) _ (a .0) in
+      let i = ltb-true (length xs) node-limit (d .0) in
+      let j = leb-true (node-width * (length xs + 1)) (length (b .nodes)) (d .1) in
+      let k = leb-true (length (packed node-form xs) + length (x .name)) (length (b .names)) (a .1) in
       let n : length (xs ++ x ∷ []) ≡ length xs + 1 = length-append xs (x ∷ []) in
       record {
         node-rows = omega arith;
@@ -68,22 +70,19 @@ module _ (b : Buffers) (xs : List Node) (ys : List Line) (t : Roomy b xs ys) whe
   pub roomy-line : (y : Line) → line-room b ys (y .bytes) ≡ true → Roomy b xs (ys ++ y ∷ [])
   unfolding line-room
   roomy-line y e =
-      let a = both (ltb (length ys) line-limit) _ e in
-      let d = both (leb (line-width * (length ys + 1)) (length (b .lines))) _ (a .1) in
-      let f = both (leb (length (packed line-form ys) + length (y .bytes)) pool-limit) _ (d .1) in
-      let i = ltb-true (length ys) line-limit (a .0) in
-      let j = leb-true (line-width * (length ys + 1)) (length (b .lines)) (d .0) in
-      let k = leb-true (length (packed line-form ys) + length (y .bytes)) pool-limit (f .0) in
-      let l = leb-true (length (packed line-form ys) + length (y .bytes)) (length (b .pool)) (f .1) in
+      let a = both (fits-row (b .lines) (length ys)) _ e in
+      let i = row-number (b .lines) (length ys) (a .0) in
+      let j = row-within (b .lines) (length ys) (a .0) in
+      let k = leb-true (length (packed line-form ys) + length (y .bytes)) (pool-room (b .pool)) (a .1) in
       let n : length (ys ++ y ∷ []) ≡ length ys + 1 = length-append ys (y ∷ []) in
       record {
         node-rows = t .node-rows;
         names = t .names;
         line-rows = omega arith;
-        pool = omega (arith, line-bytes y);
+        pool = omega (arith, line-bytes y, room-length (b .pool));
         few-nodes = t .few-nodes;
         few-lines = omega arith;
-        few-bytes = omega (arith, line-bytes y);
+        few-bytes = omega (arith, line-bytes y, room-limit (b .pool));
       }
 
   -- a parent takes no room

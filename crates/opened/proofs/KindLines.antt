@@ -9,10 +9,11 @@ use borrow.Author.Tests.{eq-eqb, eqb-true, not-false, not-true}
 use lib.Dec.{eqb}
 use lib.ListN.{length}
 use Rattle.numbers.specs.Classes.{all-class, exact-class}
+use Rattle.numbers.specs.Marks.{global, local}
 use Rattle.lists.proofs.Tests.{both}
 use Rattle.packing.specs.Tables.{any, every, packed, rows}
 use Rattle.packing.proofs.TableLaws.{every-append}
-use Rattle.book.specs.Books.{Node, Line, Book, global, local, regular, rust}
+use Rattle.book.specs.Books.{Node, Line, Book, regular, rust}
 use Rattle.book.specs.Layout.{Buffers, edit-form}
 use Rattle.book.specs.Edits.{all-back, journal-fits, stands}
 use Rattle.book.specs.Sanity.{bare-star, in-range, kind-allows, kind-good, line-ok, sane, some-star}

@@ -14,12 +14,12 @@ use lib.Seq.{getD-append-seam, getD-drop, getD-set-other, getD-set-same, getD-ta
 use Rattle.numbers.specs.Signs.{asterisk, carriage-return, slash}
 use Rattle.packing.specs.Tables.{every}
 use Rattle.packing.proofs.TableLaws.{every-from}
-use Rattle.linker_script.specs.Skip.{blank}
+use Rattle.linker_script.specs.Skip.{skips}
 use Rattle.comments.proofs.Skipping.{Stopped}
 use Rattle.tokens.specs.Tokens.{named}
 use Rattle.reading.proofs.Origins.{Named}
 use Rattle.book.specs.Books.{Node, first-named, no-node}
-use Rattle.book.specs.Sanity.{name-good, named-good, no-semicolon, nodes-good, parent-good, skipped-first}
+use Rattle.book.specs.Sanity.{name-good, named-good, no-semicolon, nodes-good, parent-good}
 use Rattle.book.proofs.FirstNamed.{first-front, first-has, first-set, name-set}
 use Rattle.building.specs.Building.{part}
 
@@ -36,20 +36,11 @@ module _ (s : List ℕ) (p n : ℕ) where
   every-part ok f = every-from ok (part s p n) 0 (λ i h. let k : i < n = omega (arith, part-length) in rw (part-at i k) (f i k))
 
 -- ---- a name
-blank-return : (b : ℕ) → blank b ≡ false → eqb b carriage-return ≡ false
-unfolding blank
-blank-return b e = go (ℕ-discrete b carriage-return)
-  where
-    go : Dec (b ≡ carriage-return) → eqb b carriage-return ≡ false
-    go (yes z) = absurd (true≢false (rw z at e))
-    go (no k) = ne-eqb b carriage-return k
-
 -- where a skip stopped, a part of the text does not begin with what a skip takes
-unskipped : (s : List ℕ) (p n : ℕ) → 0 < n → Stopped s p → skipped-first (part s p n) ≡ false
-unfolding skipped-first
+unskipped : (s : List ℕ) (p n : ℕ) → 0 < n → Stopped s p → skips (part s p n) 0 ≡ false
 unskipped s p n h t =
     let z : getD (part s p n) 0 0 ≡ getD s p 0 = rw add-zero at (part-at s p n 0 h) in
-    rw (z, blank-return (getD s p 0) (t .no-blank), t .no-hash) (go (decLt 1 n))
+    rw (z, t .no-blank, t .no-hash) (go (decLt 1 n))
   where
     go : Dec (1 < n) → eqb (getD s p 0) slash && eqb (getD (part s p n) 1 0) asterisk ≡ false
     go (yes k) = rw (part-at s p n 1 k) (t .no-comment)

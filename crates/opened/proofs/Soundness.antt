@@ -8,6 +8,7 @@ use native.Mathlib.Omega.{arith}
 use borrow.Author.Tests.{eq-eqb, le-ltb, ltb-true, ltb-false}
 use lib.Dec.{eqb, ltb}
 use lib.ListN.{length, getD, set, length-append, length-set}
+use Rattle.numbers.specs.Marks.{general, global}
 use Rattle.numbers.specs.Signs.{semicolon}
 use Rattle.packing.specs.Tables.{every}
 use Rattle.packing.proofs.TableLaws.{every-append}
@@ -20,12 +21,12 @@ use Rattle.cursors.specs.Places.{at-list, at-symbol}
 use Rattle.reading.proofs.Parts.{Marked, Parts, node, start-marked}
 use Rattle.reading.proofs.Origins.{Near, Origin, block-place}
 use Rattle.reading.proofs.Origins as origin
-use Rattle.book.specs.Books.{Node, Line, edition-of, export, first-named, general, global, no-node, regular}
+use Rattle.book.specs.Books.{Node, Line, edition-of, export, first-named, new-line, no-node, regular}
 use Rattle.book.specs.Edits.{stands}
 use Rattle.book.specs.Layout.{Buffers, node-width}
 use Rattle.book.specs.Sanity.{kind-allows, line-ok, name-good, no-semicolon}
 use Rattle.rooms.specs.Rooms.{line-room, node-room}
-use Rattle.building.specs.Building.{Building, Taken, on, no, in-block, new-line, out-of-block, part, take-event, take-kept, take-node, take-parent}
+use Rattle.building.specs.Building.{Building, Taken, on, no, in-block, out-of-block, part, take-event, take-kept, take-node, take-parent}
 use Rattle.opening.specs.Opening.{nothing-yet}
 use Rattle.building_lines.proofs.Kept.{kept-line}
 use Rattle.building.proofs.NodeEvents.{every-more}
@@ -217,7 +218,7 @@ module _ (place : ℕ) (b : Buffers) (c d : Cursor) (g : Building) (t : Sound pl
       → (K : Keep) → keep (edition-of regular) token ≡ K → Holds (Sound place b d) (take-kept b g p (c .section) (c .language) K)
   unfolding take-kept every
   sound-kept p token k z w (kept j bs) q = holds-cond (line-room b (g .lines) bs) (λ r.
-      let y : Line = new-line g (c .section) (c .language) (class-number j) bs in
+      let y : Line = new-line (length (g .nodes) - 1) (c .section) (c .language) (class-number j) bs in
       let i = t .agrees .block in
       takes (record {
         few = n .few;

@@ -7,7 +7,7 @@ use native.Mathlib.Omega.{arith}
 use borrow.Author.Tests.{eqb-true}
 use lib.Dec.{eqb, leb, ltb}
 use lib.ListN.{length}
-use Rattle.numbers.specs.Limits.{script-limit}
+use Rattle.numbers.specs.Limits.{over, script-limit, token-limit}
 use Rattle.numbers.specs.Refusals.{bad-extern, bad-pattern, glob-not-utf8, no-room, too-long, unclosed, unknown-parent, unreadable}
 use Rattle.utf8.specs.Utf8.{chars, utf8}
 use Rattle.pattern.specs.declared.Edition.{Edition}
@@ -16,7 +16,7 @@ use Rattle.pattern.specs.Storing.{stored}
 use Rattle.classes.specs.declared.Class.{Class}
 use Rattle.classes.specs.declared.Class.the-variants.{Exact, Escaped, NonStar, Star, All}
 use Rattle.classes.specs.Classes.{lone-star, quoted, scan, unquoted}
-use Rattle.storing.specs.Keeping.{Keep, kept, refused, over, keep, keep-as, keep-class, keep-glob, keep-scanned, keep-when}
+use Rattle.storing.specs.Keeping.{Keep, kept, refused, keep, keep-as, keep-class, keep-glob, keep-scanned, keep-when}
 use Rattle.cursors.specs.declared.Event.{Event}
 use Rattle.cursors.specs.declared.Event.the-variants.{Node, Body, Section, Extern, Closed, Line, Parent}
 use Rattle.reading.specs.Events.{Outcome, accepted, reading}
@@ -65,7 +65,7 @@ as-says e All t = tt
 
 keep-says : (e : Edition) (t : List ℕ) → Kept-says (keep e t)
 unfolding keep keep-class keep-scanned
-keep-says e t = go (over t) (quoted t) (lone-star t)
+keep-says e t = go (over token-limit t) (quoted t) (lone-star t)
   where
     go : (x y z : Bool)
         → Kept-says (cond x (refused too-long) (cond y (kept Exact (unquoted t)) (cond z (kept All []) (keep-as e (scan Exact false t) t))))

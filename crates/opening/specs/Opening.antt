@@ -3,9 +3,9 @@
 use Prim.Native.Nat.{ℕ}
 use mathlib.Core.List.{List, [], _∷_}
 use mathlib.Core.Bool.{Bool, true, false, cond, _&&_, not}
-use lib.Dec.{eqb, leb, ltb}
+use lib.Dec.{eqb, leb}
 use lib.ListN.{length}
-use Rattle.numbers.specs.Limits.{script-limit}
+use Rattle.numbers.specs.Limits.{over, script-limit}
 use Rattle.numbers.specs.Refusals.{no-room, too-long}
 use Rattle.packing.specs.Padding.{zeros}
 use Rattle.cursors.specs.declared.Event.{Event}
@@ -31,6 +31,7 @@ nothing-yet = record { nodes = no-node ∷ []; lines = []; inside = false; mixed
 abbrev pub rust-body : ℕ → Bool → Bool → Bool
 rust-body nodes starred mixed = eqb nodes 1 && (starred && not mixed)
 
+-- an export list's kind is its own; a script's is the Rust kind or Regular
 abbrev pub kind-by : ℕ → Bool → ℕ
 kind-by place rusty = cond (eqb place at-list) export (cond rusty rust regular)
 
@@ -62,7 +63,7 @@ build-reading place b s g r = build place b s g (r .events) (r .outcome)
 -- the text s, read from a place of the grammar on, into buffers with the rooms of b
 unfoldable pub opening : ℕ → Buffers → List ℕ → Opening
 opening place b s =
-    cond (ltb script-limit (length s)) (declined too-long 0)
+    cond (over script-limit s) (declined too-long 0)
     (cond (leb node-width (length (b .nodes))) (build-reading place b s nothing-yet (reading place s))
     (declined no-room 0))
 

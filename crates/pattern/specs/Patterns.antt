@@ -114,6 +114,10 @@ adjacent-from b (one m ∷ p) = adjacent-from false p
 unfoldable pub shaped-from : Edition → Bool → List ℕ → Bool
 shaped-from e b s = sound (element e) s && not (adjacent-from b (pieces (element e) s))
 
--- "glob not UTF-8", then "bracket not closed, or adjacent `*` outside one"; 0 where neither holds
+-- "bracket not closed, or adjacent `*` outside one", of the characters s; 0 where it is not so
+abbrev pub shape-refusal : Edition → List ℕ → ℕ
+shape-refusal e s = cond (shaped-from e false s) 0 bad-pattern
+
+-- "glob not UTF-8", then that
 unfoldable pub refusal : Edition → List ℕ → ℕ
-refusal e p = cond (utf8 p) (cond (shaped-from e false (chars p)) 0 bad-pattern) glob-not-utf8
+refusal e p = cond (utf8 p) (shape-refusal e (chars p)) glob-not-utf8

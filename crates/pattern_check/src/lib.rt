@@ -1,12 +1,11 @@
 // What is refused of a pattern: bytes that are not UTF-8; a bracket that is not closed, or stars side by side outside a bracket. It is asked of the
 // bytes that are, or will be, stored. Of a token these are not written yet, so the walk reads a `^` behind `[` as the `!` that it becomes.
 ghost use mathlib.Core.Path.{_≡_};
-ghost use mathlib.Core.Bool.{cond, false};
+ghost use mathlib.Core.Bool.{false};
 ghost use Prim.Native.Nat.{_≤_};
 ghost use lib.ListN.{length};
-ghost use Rattle.numbers.specs.Refusals.{bad-pattern};
 ghost use Rattle.utf8.specs.Utf8.{chars};
-ghost use Rattle.pattern.specs.Patterns.{refusal, shaped-from};
+ghost use Rattle.pattern.specs.Patterns.{refusal, shape-refusal};
 ghost use Rattle.pattern.specs.Storing.{read-as};
 ghost use Rattle.pattern_check.specs.Post.{Closing-ok, chars-as};
 use numbers::BAD_PATTERN;
@@ -35,7 +34,7 @@ fn closing_of(edition: Edition, p: &[u8], at: usize, token: bool) -> Closing
 
 // 6, or 0 where the brackets are closed and the stars apart.
 fn shape_refusal(edition: Edition, p: &[u8], token: bool) -> u32
-    ensures { λ r. ⌜ r ≡ cond (shaped-from edition false (chars-as token false (chars (now (p .entry))))) 0 bad-pattern ⌝ }
+    ensures { λ r. ⌜ r ≡ shape-refusal edition (chars-as token false (chars (now (p .entry)))) ⌝ }
 {
     let mut at = 0;
     let mut starred = false;

@@ -6,7 +6,7 @@ use mathlib.Core.Bool.{cond}
 use lib.Dec.{ltb}
 use lib.ListN.{length}
 use lib.Seq.{paste}
-use Rattle.numbers.specs.Signs.{bang, line-feed, space}
+use Rattle.numbers.specs.Signs.{bang, line-feed, nought, space}
 use Rattle.lists.specs.Texts.{codes}
 
 -- ---- a text is put into a buffer d: from the place `at` on the buffer has it, everywhere else what it had, and so it is l; r is the place behind the text
@@ -20,7 +20,7 @@ Begins d text l r = (r ≡ length text) × (l ≡ paste d 0 text (length text))
 -- ---- a number in decimal digits, k of them at most
 unfoldable pub spelled : ℕ → ℕ → List ℕ
 spelled zero n = []
-spelled (suc k) n = cond (ltb n 10) ((48 + n) ∷ []) (spelled k (n / 10) ++ (48 + n % 10) ∷ [])
+spelled (suc k) n = cond (ltb n 10) ((nought + n) ∷ []) (spelled k (n / 10) ++ (nought + n % 10) ∷ [])
 
 -- a number below 2^32 has ten at most
 unfoldable pub decimal : ℕ → List ℕ
@@ -43,3 +43,7 @@ numbered word n = spaced word n ++ line-feed ∷ []
 
 unfoldable pub refused-answer : ℕ → List ℕ
 refused-answer n = refused-fields n ++ line-feed ∷ []
+
+-- room for whichever of these lines
+abbrev pub answer-room : ℕ
+answer-room = 128

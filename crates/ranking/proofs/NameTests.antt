@@ -1,15 +1,15 @@
 -- What refuses a name that is looked up (specs/Names.antt), test by test, and what a name that is not refused is. A Bool that is named x or y is what a
 -- function answered of a test, and the code asked whether it is not. Assumes nothing.
 use Prim.Native.Nat.{ℕ, _≤_, _<_}
-use mathlib.Core.Path.{_≡_, refl, sym}
+use mathlib.Core.Path.{_≡_, refl}
 use mathlib.Core.List.{List}
-use mathlib.Core.Bool.{Bool, true, false, cond, _||_, not, false≢true}
+use mathlib.Core.Bool.{Bool, true, false, cond, _||_, not}
 use native.Mathlib.Omega.{arith}
-use lib.Dec.{ltb}
 use lib.ListN.{length}
 use borrow.Author.Tests.{le-ltb, lt-ltb, ltb-false, not-true, not-false}
-use Rattle.numbers.specs.Limits.{name-limit, raw-name-limit}
+use Rattle.numbers.specs.Limits.{name-limit, over, raw-name-limit}
 use Rattle.numbers.specs.Refusals.{name-not-utf8, too-long}
+use Rattle.lists.proofs.Tests.{neither}
 use Rattle.utf8.specs.Utf8.{utf8}
 use Rattle.ranking.specs.Matching.{Name, name-of}
 use Rattle.ranking.specs.Names.{long-name, bad-name, name-refusal}
@@ -49,10 +49,6 @@ pub record Short (n : Name) : Type 0 where
   pub raw : length (n .raw) ≤ raw-name-limit
   pub demangled : length (n .demangled) ≤ name-limit
 
-neither : (a b : Bool) → (a || b) ≡ false → (a ≡ false) × (b ≡ false)
-neither true b e = absurd (false≢true (sym e))
-neither false b e = (refl, e)
-
 not-over : (a : Bool) (k : ℕ) → cond a too-long k ≡ 0 → a ≡ false
 not-over true k e = absurd (omega arith)
 not-over false k e = refl
@@ -61,5 +57,5 @@ pub short-names : (n : Name) (long : Bool) → name-refusal n long ≡ 0 → Sho
 unfolding name-refusal long-name
 short-names n long e =
     let a = neither (long-name n) long (not-over (long-name n || long) _ e) in
-    let b = neither (ltb raw-name-limit (length (n .raw))) (ltb name-limit (length (n .demangled))) (a .0) in
+    let b = neither (over raw-name-limit (n .raw)) (over name-limit (n .demangled)) (a .0) in
     record { raw = ltb-false _ _ (b .0); demangled = ltb-false _ _ (b .1) }

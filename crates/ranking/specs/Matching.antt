@@ -2,13 +2,14 @@
 use Prim.Native.Nat.{ℕ}
 use mathlib.Core.List.{List}
 use mathlib.Core.Bool.{Bool, true, cond, _&&_}
-use lib.Dec.{eqb, leb}
-use Rattle.numbers.specs.Classes.{all-class, escaped-class}
+use lib.Dec.{eqb}
+use Rattle.numbers.specs.Classes.{all-class, by-bytes}
+use Rattle.numbers.specs.Marks.{cxx}
 use Rattle.lists.specs.Same.{same}
 use Rattle.utf8.specs.Utf8.{chars}
 use Rattle.pattern.specs.declared.Edition.{Edition}
 use Rattle.pattern.specs.Patterns.{elements, matches}
-use Rattle.book.specs.Books.{Line, cxx}
+use Rattle.book.specs.Books.{Line}
 use Rattle.book.specs.Edits.{stands}
 
 -- a name, as it stands in the symbol table and as the demangler gives it
@@ -29,7 +30,7 @@ seen n x = cond (eqb (x .language) cxx) (n .demangled) (n .raw)
 
 -- by the class: Exact and Escaped by their bytes, a glob by its pattern, All always
 unfoldable pub class-matches : Edition → ℕ → List ℕ → List ℕ → Bool
-class-matches e class bs n = cond (leb class escaped-class) (same bs n) (cond (eqb class all-class) true (matches (elements e bs) (chars n)))
+class-matches e class bs n = cond (by-bytes class) (same bs n) (cond (eqb class all-class) true (matches (elements e bs) (chars n)))
 
 -- a struck line matches nothing
 unfoldable pub line-matches : Edition → Name → Line → Bool

@@ -1,16 +1,14 @@
 -- What refuses a name that is looked up, before any line is. Assumes nothing.
 use Prim.Native.Nat.{ℕ}
 use mathlib.Core.Bool.{Bool, cond, _&&_, _||_, not}
-use lib.Dec.{ltb}
-use lib.ListN.{length}
-use Rattle.numbers.specs.Limits.{name-limit, raw-name-limit}
+use Rattle.numbers.specs.Limits.{name-limit, over, raw-name-limit}
 use Rattle.numbers.specs.Refusals.{name-not-utf8, too-long}
 use Rattle.utf8.specs.Utf8.{utf8}
 use Rattle.ranking.specs.Matching.{Name}
 
 -- "name over its limit": "raw name … 4,096, demangled 65,536"
 unfoldable pub long-name : Name → Bool
-long-name n = ltb raw-name-limit (length (n .raw)) || ltb name-limit (length (n .demangled))
+long-name n = over raw-name-limit (n .raw) || over name-limit (n .demangled)
 
 -- "raw or demangled name not UTF-8"
 unfoldable pub bad-name : Name → Bool

@@ -9,10 +9,11 @@ use Prim.Native.Nat.{ℕ, zero, suc, _+_}
 use mathlib.Core.List.{List, [], _∷_, _++_}
 use mathlib.Core.Bool.{Bool, cond, _&&_}
 use mathlib.Core.Option.{Option, some, none}
-use lib.Dec.{eqb, leb}
+use lib.Dec.{eqb}
 use lib.ListN.{length}
-use Rattle.numbers.specs.Classes.{all-class, escaped-class, nonstar-class, star-class}
-use Rattle.book.specs.Books.{Line, Book, cxx, edition-of, general, global, local}
+use Rattle.numbers.specs.Classes.{all-class, by-bytes, nonstar-class, star-class}
+use Rattle.numbers.specs.Marks.{cxx, general, global, local}
+use Rattle.book.specs.Books.{Line, Book, edition-of}
 use Rattle.ranking.specs.declared.Deciding.{Deciding}
 use Rattle.ranking.specs.declared.Deciding.the-variants as answer
 use Rattle.ranking.specs.Matching.{Name, line-matches}
@@ -24,7 +25,7 @@ Stage = Line → Bool
 -- "exact or escaped", of a node, a language and a section
 unfoldable pub exact-of : ℕ → ℕ → ℕ → Stage
 exact-of node language section x =
-    leb (x .class) escaped-class && (eqb (x .node) node && (eqb (x .language) language && eqb (x .section) section))
+    by-bytes (x .class) && (eqb (x .node) node && (eqb (x .language) language && eqb (x .section) section))
 
 -- of another class, "(general or C++)"
 unfoldable pub glob-of : ℕ → ℕ → ℕ → Stage
@@ -59,9 +60,12 @@ unfoldable pub walk : (Line → Bool) → List Stage → List Line → Option �
 walk m [] ls = none
 walk m (t ∷ ts) ls = or-else (first-line (λ x. t x && m x) 0 ls) (walk m ts ls)
 
--- the number of the line that decides, of those that match at its stage the lowest
+-- the number of the line that decides, of those that match at its stage the lowest: among the lines ls of a book of that kind with that many nodes
+abbrev pub deciding-among : ℕ → ℕ → Name → List Line → Option ℕ
+deciding-among kind nodes n ls = walk (line-matches (edition-of kind) n) (stages nodes) ls
+
 unfoldable pub deciding : Name → Book → Option ℕ
-deciding n w = walk (line-matches (edition-of (w .kind)) n) (stages (length (w .nodes))) (w .lines)
+deciding n w = deciding-among (w .kind) (length (w .nodes)) n (w .lines)
 
 -- as it is answered
 unfoldable pub decided : Option ℕ → Deciding

@@ -9,20 +9,16 @@ use borrow.Author.Tests.{eq-eqb, eqb-true, eqb-false}
 use lib.Dec.{eqb}
 use lib.ListN.{length, getD, List·getD-eq-default}
 use Rattle.numbers.specs.Signs.{asterisk, closing-brace, hash, line-feed, semicolon, slash}
+use Rattle.lists.proofs.Tests.{neither}
 use Rattle.linker_script.specs.declared.Found.{Found}
 use Rattle.linker_script.specs.declared.Found.the-variants.{Here, Nowhere}
 use Rattle.linker_script.specs.declared.Skipped.the-variants.{At, Open}
 use Rattle.linker_script.specs.Finding.{Test, are, first-from, is}
-use Rattle.linker_script.specs.Skip.{blank, skip}
+use Rattle.linker_script.specs.Skip.{blank, skip, skips}
 use Rattle.linker_script.proofs.Searches.{byte-within, first-here, first-on, first-within, passes}
 use Rattle.comments.proofs.Skipping.{skip-ends, past-blank, past-line, line-opens, stops, past-comment, comment-opens}
 use Rattle.tokens.proofs.Ends.{and-both}
-use Rattle.reading.specs.Rules.{Byte, None, No-pair, skips}
-
--- a test of two parts that fails
-or-neither : (a b : Bool) → a || b ≡ false → (a ≡ false) × (b ≡ false)
-or-neither true b h = absurd (true≢false h)
-or-neither false b h = (refl, h)
+use Rattle.reading.specs.Rules.{Byte, None, No-pair}
 
 -- ---- nothing is found
 module _ (t : Test) (s : List ℕ) (k : ℕ) (l : k < length s) where
@@ -144,8 +140,8 @@ module _ (s : List ℕ) (p : ℕ) where
     where
       go : Dec (p < length s) → skip s p ≡ At p
       go (yes h) =
-          let a = or-neither (blank (getD s p 0)) (eqb (getD s p 0) hash || (eqb (getD s p 0) slash && eqb (getD s (p + 1) 0) asterisk)) e in
-          let b = or-neither (eqb (getD s p 0) hash) (eqb (getD s p 0) slash && eqb (getD s (p + 1) 0) asterisk) (a .1) in
+          let a = neither (blank (getD s p 0)) (eqb (getD s p 0) hash || are slash asterisk (getD s p 0) (getD s (p + 1) 0)) e in
+          let b = neither (eqb (getD s p 0) hash) (are slash asterisk (getD s p 0) (getD s (p + 1) 0)) (a .1) in
           sym (stops s p p refl h false (sym (a .0)) refl (eqb-false (getD s p 0) hash (b .0)) false (sym (b .1)) refl)
       go (no h) = sym (skip-ends s p p refl (omega arith))
 

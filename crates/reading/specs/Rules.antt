@@ -3,16 +3,15 @@
 use Prim.Native.Nat.{ℕ, _+_, _<_, _≤_}
 use mathlib.Core.Path.{_≡_}
 use mathlib.Core.List.{List}
-use mathlib.Core.Bool.{Bool, true, false, _&&_, _||_}
-use lib.Dec.{eqb}
+use mathlib.Core.Bool.{Bool, true, false, _&&_}
 use lib.ListN.{length, getD}
 use Rattle.numbers.specs.Limits.{script-limit, token-limit}
 use Rattle.numbers.specs.Signs.{asterisk, closing-brace, hash, line-feed, opening-brace, semicolon, slash}
 use Rattle.linker_script.specs.declared.Found.{Found}
 use Rattle.linker_script.specs.declared.Found.the-variants.{Here, Nowhere}
 use Rattle.linker_script.specs.Finding.{are, closes, first-from, is}
-use Rattle.linker_script.specs.Skip.{blank}
-use Rattle.tokens.specs.Tokens.{stands-at, named, no-semicolon-before}
+use Rattle.linker_script.specs.Skip.{blank, skips}
+use Rattle.tokens.specs.Tokens.{brace-next, named, stands-at}
 use Rattle.cursors.specs.declared.Cursor.{Cursor}
 use Rattle.matchers.specs.Matchers.{extern-word, cxx-word, c-word, close-word}
 use Rattle.cursors.specs.Places.{at-script, at-node, at-body, in-body, in-body-extern, in-sole, in-sole-extern, at-list, in-list, in-list-extern, at-symbol, in-symbol-extern, at-bare, in-bare-extern}
@@ -41,10 +40,6 @@ pub record Name-byte (s : List ℕ) (p : ℕ) : Type 0 where
   pub within : p < length s
   pub name : named (getD s p 0) ≡ true
 
--- whether a skip goes on at p
-abbrev pub skips : List ℕ → ℕ → Bool
-skips s p = blank (getD s p 0) || (eqb (getD s p 0) hash || (eqb (getD s p 0) slash && eqb (getD s (p + 1) 0) asterisk))
-
 -- ---- the rules
 -- a token: outside an extern block; in one; with `without_semicolon`; in an extern block there
 pub data Token : Type 0 where
@@ -62,9 +57,9 @@ found-any Nowhere = false
 -- one point: with no `};` left, tokens go to `;`."
 abbrev pub to-closing : Token → List ℕ → ℕ → Bool
 to-closing plain-token s p = false
-to-closing extern-token s p = no-semicolon-before (first-from closes s p) (first-from (is semicolon) s p)
+to-closing extern-token s p = brace-next s p
 to-closing bare-token s p = true
-to-closing bare-extern-token s p = found-any (first-from closes s p) && no-semicolon-before (first-from closes s p) (first-from (is semicolon) s p)
+to-closing bare-extern-token s p = found-any (first-from closes s p) && brace-next s p
 
 pub data Rule : Type 0 where
   -- "skip", and then a rule

@@ -4,8 +4,7 @@ use Prim.Native.Nat.{ℕ}
 use mathlib.Core.List.{List}
 use mathlib.Core.Bool.{cond}
 use lib.Dec.{eqb, ltb}
-use lib.ListN.{length}
-use Rattle.numbers.specs.Limits.{script-limit, token-limit}
+use Rattle.numbers.specs.Limits.{over, script-limit, token-limit}
 use Rattle.numbers.specs.Refusals.{too-long}
 use Rattle.numbers.specs.Signs.{opening-brace}
 use Rattle.cursors.specs.declared.Cursor.{Cursor}
@@ -23,7 +22,7 @@ opening-at c s place = skipping s (c .at) (λ p. expecting opening-brace s p (λ
 
 -- ---- "script, text … over its limit"
 abbrev pub within : ℕ → List ℕ → Step → Step
-within limit s r = cond (ltb limit (length s)) (Refused too-long 0) r
+within limit s r = cond (over limit s) (Refused too-long 0) r
 
 -- ---- a step, at each place of a reading
 unfoldable pub start-script : List ℕ → Cursor → Step

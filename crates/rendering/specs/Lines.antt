@@ -63,9 +63,16 @@ unfoldable pub symbol-answered : Option Book → List ℕ → List ℕ
 symbol-answered w t = asked-line w (name-part t) (wanted-part t)
 
 -- ---- in a lent buffer: where a line might not fit, nothing is written, and 0 is answered. What is printed behind a name, or without one, is shorter than 48
--- bytes. A whole listing has room in these and 15 for each byte of the input: an answer has at most 14 bytes besides its name, and its line has one at least
+-- bytes, and the line of the counts than 36
 abbrev pub tail-room : ℕ
 tail-room = 48
+
+abbrev pub counts-room : ℕ
+counts-room = 36
+
+-- a whole listing has room in 48 bytes and 15 for each byte of the input: an answer has at most 14 bytes besides its name, and its line has one at least
+abbrev pub byte-room : ℕ
+byte-room = 15
 
 unfoldable pub line-told : ℕ → List ℕ → ℕ → ℕ
 line-told name line room = cond (leb (name + tail-room) room) (length line) 0

@@ -6,7 +6,7 @@ ghost use lib.ListN.{length};
 ghost use Rattle.book.specs.Layout.{five};
 ghost use Rattle.book.specs.View.{view};
 ghost use Rattle.printing.specs.Printing.{Begins, refused-line};
-ghost use Rattle.rendering.specs.Lines.{Rendered, counts-answered, counts-line};
+ghost use Rattle.rendering.specs.Lines.{Rendered, counts-answered, counts-line, tail-room};
 use book::Counts;
 use counting::Count;
 use counting::parent_count;
@@ -29,7 +29,7 @@ pub fn render_refused(no: u32, out: &mut [u8]) -> usize
 }
 
 fn put_counts_line(out: &mut [u8], n: u32, p: u32) -> usize
-    requires { ⌜ 48 ≤ length (now out) ⌝ }
+    requires { ⌜ tail-room ≤ length (now out) ⌝ }
     ensures { λ r. ⌜ Begins (now (out .entry)) (counts-line (Count.Counted n) (Count.Counted p)) (now (out .exit)) r ⌝ }
 {
     let a = put_text(out, 0, b"nodes ");

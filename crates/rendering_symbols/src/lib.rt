@@ -8,7 +8,7 @@ ghost use Rattle.book.specs.Layout.{five};
 ghost use Rattle.book.specs.View.{view};
 ghost use Rattle.lookups.specs.Lookups.{wanted-of};
 ghost use Rattle.printing.specs.Printing.{Begins, Puts, decimal};
-ghost use Rattle.rendering.specs.Lines.{Rendered, asked-line, fields, symbol-answered, symbol-line};
+ghost use Rattle.rendering.specs.Lines.{Rendered, asked-line, fields, symbol-answered, symbol-line, tail-room};
 use book::Counts;
 use input::splitting::find_at;
 use linker_script::Found;
@@ -54,7 +54,7 @@ fn put_fields(out: &mut [u8], at: usize, v: Version, l: Locality) -> usize
 
 // A symbol's line, with its name.
 pub fn put_symbol_line(out: &mut [u8], name: &[u8], v: Version, l: Locality) -> usize
-    requires { ⌜ length (now name) + 48 ≤ length (now out) ⌝ }
+    requires { ⌜ length (now name) + tail-room ≤ length (now out) ⌝ }
     ensures { λ r. ⌜ Begins (now (out .entry)) (symbol-line (now (name .entry)) v l) (now (out .exit)) r ⌝ }
 {
     let a = put_text(out, 0, name);
@@ -76,7 +76,7 @@ fn render_asked(
     wanted: &[u8],
     out: &mut [u8],
 ) -> usize
-    requires { ⌜ length (now name) + 48 ≤ length (now out) ⌝ }
+    requires { ⌜ length (now name) + tail-room ≤ length (now out) ⌝ }
     ensures { λ r. ⌜ Begins (now (out .entry)) (asked-line (view c (five (now (nodes .entry)) (now (names .entry)) (now (lines .entry)) (now (pool .entry)) (now (journal .entry)))) (now (name .entry)) (wanted-of «has_wanted» (now (wanted .entry)))) (now (out .exit)) r ⌝ }
 {
     let v = version_for_symbol(

@@ -4,16 +4,15 @@ use mathlib.Core.Path.{_≡_, sym, ap, _∙_}
 use mathlib.Core.List.{List}
 use mathlib.Core.Bool.{true, false, true≢false}
 use native.Mathlib.Omega.{arith}
-use borrow.Author.Tests.{le-leb, leb-true, lt-ltb, ltb-true}
-use lib.Dec.{leb, ltb}
+use borrow.Author.Tests.{le-leb, leb-true, lt-ltb}
 use lib.ListN.{length}
-use Rattle.numbers.specs.Limits.{line-limit, pool-limit}
+use Rattle.numbers.specs.Limits.{line-limit}
 use Rattle.lists.proofs.Tests.{both, fails}
 use Rattle.packing.specs.Tables.{packed}
 use Rattle.book.specs.Books.{Edit, Line}
 use Rattle.book.specs.Layout.{Buffers, line-form, line-width}
 use Rattle.rooms.specs.Rooms.{edit-room, edit-row, fits-row, line-room, pool-room}
-use Rattle.rooms.proofs.Putting.{room-both, room-length, room-limit}
+use Rattle.rooms.proofs.Rows.{row-number, row-within}
 
 -- room in l and q for the row of line n and for k bytes from p on
 pub record Line-room (n p : ℕ) (l q : List ℕ) (k : ℕ) : Type 0 where
@@ -25,13 +24,11 @@ module _ (b : Buffers) (xs : List Line) (n p : ℕ) (c : n ≡ length xs) (t : p
   pub room-is : line-room b xs bs ≡ true → Line-room n p (b .lines) (b .pool) (length bs)
   unfolding line-room
   room-is r =
-      let x = both (ltb (length xs) line-limit) _ r in
-      let y = both (leb (line-width * (length xs + 1)) (length (b .lines))) _ (x .1) in
-      let z = both (leb (length (packed line-form xs) + length bs) pool-limit) _ (y .1) in
+      let x = both (fits-row (b .lines) (length xs)) _ r in
       record {
-        number = rw c (ltb-true _ _ (x .0));
-        row = rw c (leb-true _ _ (y .0));
-        pool = rw t (room-both (b .pool) _ (leb-true _ _ (z .1)) (leb-true _ _ (z .0)));
+        number = rw c (row-number (b .lines) (length xs) (x .0));
+        row = rw c (row-within (b .lines) (length xs) (x .0));
+        pool = rw t (leb-true _ _ (x .1));
       }
 
   pub is-room : Line-room n p (b .lines) (b .pool) (length bs) → line-room b xs bs ≡ true
@@ -42,9 +39,8 @@ module _ (b : Buffers) (xs : List Line) (n p : ℕ) (c : n ≡ length xs) (t : p
         ← t,
         lt-ltb n line-limit (r .number),
         le-leb (line-width * (n + 1)) (length (b .lines)) (r .row),
-        le-leb (p + length bs) pool-limit (omega (arith, r .pool, room-limit (b .pool))),
       )
-      (le-leb (p + length bs) (length (b .pool)) (omega (arith, r .pool, room-length (b .pool))))
+      (le-leb (p + length bs) (pool-room (b .pool)) (r .pool))
 
   -- no row is left, or not that much of the pool
   pub no-row : fits-row (b .lines) n ≡ false → line-room b xs bs ≡ false

@@ -7,7 +7,7 @@ use mathlib.Core.Bool.{Bool, cond, _&&_}
 use lib.Dec.{leb, ltb}
 use lib.ListN.{length}
 use lib.Seq.{paste}
-use Rattle.numbers.specs.Limits.{edit-limit, line-limit, node-limit, pool-limit}
+use Rattle.numbers.specs.Limits.{edit-limit, line-limit, node-limit, over, pool-limit}
 use Rattle.numbers.specs.Refusals.{no-room}
 use Rattle.packing.specs.Tables.{packed}
 use Rattle.storing.specs.declared.Stored.{Stored}
@@ -16,28 +16,26 @@ use Rattle.storing.specs.Keeping.{Keep, kept, refused}
 use Rattle.book.specs.Books.{Edit, Line, Node}
 use Rattle.book.specs.Layout.{Buffers, edit-width, line-form, line-width, node-form, node-width}
 
+-- a row of that width for thing i in l, within a limit
+abbrev pub row-room : ℕ → ℕ → List ℕ → ℕ → Bool
+row-room limit width l i = ltb i limit && leb (width * (i + 1)) (length l)
+
 -- ---- a node more, with its name
 unfoldable pub node-room : Buffers → List Node → List ℕ → Bool
 node-room b xs name =
-    ltb (length xs) node-limit
-    && (leb (node-width * (length xs + 1)) (length (b .nodes))
-    && leb (length (packed node-form xs) + length name) (length (b .names)))
+    row-room node-limit node-width (b .nodes) (length xs) && leb (length (packed node-form xs) + length name) (length (b .names))
 
--- ---- a line more, with its bytes
-unfoldable pub line-room : Buffers → List Line → List ℕ → Bool
-line-room b xs bs =
-    ltb (length xs) line-limit
-    && (leb (line-width * (length xs + 1)) (length (b .lines))
-    && (leb (length (packed line-form xs) + length bs) pool-limit
-    && leb (length (packed line-form xs) + length bs) (length (b .pool))))
-
--- a row for line i in l
+-- ---- a line more: a row for line i in l
 abbrev pub fits-row : List ℕ → ℕ → Bool
-fits-row l i = ltb i line-limit && leb (line-width * (i + 1)) (length l)
+fits-row l i = row-room line-limit line-width l i
 
 -- how far the pool q can be filled
 abbrev pub pool-room : List ℕ → ℕ
-pool-room q = cond (ltb pool-limit (length q)) pool-limit (length q)
+pool-room q = cond (over pool-limit q) pool-limit (length q)
+
+-- both, for a line behind the lines xs with the bytes bs
+unfoldable pub line-room : Buffers → List Line → List ℕ → Bool
+line-room b xs bs = fits-row (b .lines) (length xs) && leb (length (packed line-form xs) + length bs) (pool-room (b .pool))
 
 -- what is kept of a token, put into the pool q from `at` on where it can be. A refusal leaves the pool as it was
 abbrev pub Put : Keep → List ℕ → ℕ → Stored → List ℕ → Type 0
@@ -48,7 +46,7 @@ Put (refused n) q at r q′ = (r ≡ stored.Refused n) × (q′ ≡ q)
 
 -- ---- an edit more: a row for edit i of the journal j
 abbrev pub edit-row : List ℕ → ℕ → Bool
-edit-row j i = ltb i edit-limit && leb (edit-width * (i + 1)) (length j)
+edit-row j i = row-room edit-limit edit-width j i
 
 unfoldable pub edit-room : Buffers → List Edit → Bool
 edit-room b es = edit-row (b .journal) (length es)

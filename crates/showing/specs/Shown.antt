@@ -7,7 +7,7 @@ use Rattle.lists.specs.Texts.{codes}
 use Rattle.book.specs.declared.Counts.{Counts}
 use Rattle.book.specs.Books.{Line}
 use Rattle.book.specs.Layout.{Buffers, edit-width, line-width, node-width}
-use Rattle.printing.specs.Printing.{decimal, spaced}
+use Rattle.printing.specs.Printing.{answer-room, decimal, spaced}
 
 -- ---- `counts`: `kind K nodes N names B lines L pool P edits E`
 unfoldable pub counts-shown : Counts → List ℕ
@@ -44,4 +44,4 @@ dump-shown c b =
 
 -- ---- a room for whichever of these is shown: a number has ten digits at most, a byte three, each with a blank before it
 unfoldable pub shown-room : Counts → ℕ
-shown-room c = 128 + (33 * c .nodes + (4 * c .names + (78 * c .lines + (4 * c .pool + 22 * c .edits))))
+shown-room c = answer-room + (33 * c .nodes + (4 * c .names + (78 * c .lines + (4 * c .pool + 22 * c .edits))))

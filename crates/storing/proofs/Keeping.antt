@@ -11,7 +11,7 @@ use borrow.Author.Tests.{eq-eqb, ne-eqb, lt-ltb, le-ltb, ltb-true, ltb-false}
 use lib.Dec.{eqb, ltb}
 use lib.ListN.{length, getD, take, drop, length-take, length-drop, drop-of-length-le}
 use lib.Seq.{drop-cons, drop-drop}
-use Rattle.numbers.specs.Limits.{token-limit}
+use Rattle.numbers.specs.Limits.{over, token-limit}
 use Rattle.lists.specs.Pieces.{piece}
 use Rattle.lists.proofs.PiecesLaws.{pieces-cons, pieces-end, pieces-few}
 use Rattle.pattern.specs.Storing.{stored, stored-byte, negated-from}
@@ -20,7 +20,7 @@ use Rattle.pattern.specs.Patterns.{refusal}
 use Rattle.classes.specs.declared.Class.{Class}
 use Rattle.classes.specs.declared.Class.the-variants.{Exact, Escaped, NonStar, Star, All}
 use Rattle.classes.specs.Classes.{class-of, lone-star, quoted, scan, unquoted}
-use Rattle.storing.specs.Keeping.{over, unescaped, unescape, Keep, kept, refused, keep, keep-as, keep-class, keep-glob, keep-scanned, keep-when}
+use Rattle.storing.specs.Keeping.{unescaped, unescape, Keep, kept, refused, keep, keep-as, keep-class, keep-glob, keep-scanned, keep-when}
 
 pub byte-here : (s : List ℕ) (i : ℕ) → i < length s → drop i s ≡ getD s i 0 ∷ drop (i + 1) s
 byte-here s i h = rw (add-one i) (drop-cons s i 0 h)
@@ -239,7 +239,7 @@ as-class e All k t b h = cc
 
 pub kept-class : (e : Edition) (k : Class) (t b : List ℕ) → keep e t ≡ kept k b → k ≡ class-of t
 unfolding keep keep-class keep-scanned class-of
-kept-class e k t b = go (over t) (quoted t) (lone-star t)
+kept-class e k t b = go (over token-limit t) (quoted t) (lone-star t)
   where
     go : (x y z : Bool) → cond x (refused 1) (cond y (kept Exact (unquoted t)) (cond z (kept All []) (keep-as e (scan Exact false t) t))) ≡ kept k b
         → k ≡ cond y Exact (cond z All (scan Exact false t))

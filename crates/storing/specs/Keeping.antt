@@ -2,10 +2,9 @@
 use Prim.Native.Nat.{ℕ}
 use mathlib.Core.List.{List, [], _∷_}
 use mathlib.Core.Bool.{Bool, false, cond}
-use lib.Dec.{eqb, ltb}
-use lib.ListN.{length}
-use Rattle.numbers.specs.Limits.{token-limit}
-use Rattle.numbers.specs.Refusals.{too-long}
+use lib.Dec.{eqb}
+use Rattle.numbers.specs.Limits.{over, token-limit}
+use Rattle.numbers.specs.Refusals.{no-room, too-long}
 use Rattle.numbers.specs.Signs.{backslash}
 use Rattle.lists.specs.Pieces.{piece, Reader, pieces}
 use Rattle.pattern.specs.declared.Edition.{Edition}
@@ -27,6 +26,11 @@ unescape t = pieces unescaped t
 pub data Keep : Type 0 where
   kept : Class → List ℕ → Keep
   refused : ℕ → Keep
+
+-- what is made of it, where its bytes have room, and of the number that refuses it: "its 1, 5, 6, 8, in this order"
+abbrev pub kept-where : {A : Type 0} → (List ℕ → Bool) → (Class → List ℕ → A) → (ℕ → A) → Keep → A
+kept-where fits made says (kept k b) = cond (fits b) (made k b) (says no-room)
+kept-where fits made says (refused n) = says n
 
 unfoldable pub keep-when : ℕ → Class → List ℕ → Keep
 keep-when n k b = cond (eqb n 0) (kept k b) (refused n)
@@ -51,10 +55,6 @@ keep-scanned e t = cond (lone-star t) (kept All []) (keep-as e (scan Exact false
 unfoldable pub keep-class : Edition → List ℕ → Keep
 keep-class e t = cond (quoted t) (kept Exact (unquoted t)) (keep-scanned e t)
 
--- over the limit, quotes counted
-abbrev pub over : List ℕ → Bool
-over t = ltb token-limit (length t)
-
--- "trimmed token … over its limit", then by its class
+-- "trimmed token … over its limit", quotes counted, then by its class
 unfoldable pub keep : Edition → List ℕ → Keep
-keep e t = cond (over t) (refused too-long) (keep-class e t)
+keep e t = cond (over token-limit t) (refused too-long) (keep-class e t)

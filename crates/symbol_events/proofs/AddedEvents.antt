@@ -5,10 +5,11 @@ use mathlib.Core.List.{List}
 use mathlib.Core.Bool.{true}
 use native.Mathlib.Omega.{arith}
 use lib.ListN.{length, take, drop}
+use Rattle.numbers.specs.Marks.{global}
 use Rattle.cursors.specs.declared.Event.{Event}
 use Rattle.cursors.specs.declared.Event.the-variants.{Node, Body, Section, Extern, Closed, Line, Parent}
 use Rattle.book.specs.declared.Counts.{Counts}
-use Rattle.book.specs.Books.{Book, global}
+use Rattle.book.specs.Books.{Book}
 use Rattle.book.specs.Layout.{Buffers, five}
 use Rattle.book.specs.View.{book-of, laid}
 use Rattle.book.proofs.Views.{laid-packs}

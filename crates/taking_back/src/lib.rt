@@ -1,11 +1,10 @@
 // The latest edit of a book in lent buffers taken back. Definitions: specs/Latest.antt, of the buffers; what it makes of the book is changes/specs/Trial.antt
 // (`undo-asked`), from document 01, 'The book', and is shown where it is asked: the crate `undoing`.
 ghost use mathlib.Core.Path.{_≡_};
-ghost use Prim.Native.Nat.{_+_, _-_, _*_, _≤_};
-ghost use lib.ListN.{length, getD, set};
-ghost use lib.Seq.{paste};
-ghost use Rattle.packing.specs.Padding.{zeros};
-ghost use Rattle.taking_back.specs.Latest.{Undoable, counts-back, journal-back, lines-back, pool-back};
+ghost use Prim.Native.Nat.{_+_, _*_, _≤_};
+ghost use lib.ListN.{length};
+ghost use Rattle.taking_back.specs.Latest.{Undoable, code-told, counts-back, emptied, journal-back, lines-back, pool-back, row-back, start-of, unstruck};
+ghost use Rattle.book.specs.Layout.{line-width, struck-mark};
 use book::Counts;
 use book::EDIT_WIDTH;
 use book::LINE_WIDTH;
@@ -17,10 +16,10 @@ use packing::clear_numbers;
 
 // An add taken back: its row and its bytes are zero again. Where its bytes started is answered.
 fn undo_add(lines: &mut [u32], pool: &mut [u8], line: usize, end: usize) -> u32
-    requires { ⌜ (4 * line + 4 ≤ length (now lines)) × (getD (now lines) (4 * line + 2) 0 ≤ end) × (end ≤ length (now pool)) ⌝ }
-    ensures { λ r. ⌜ (r ≡ getD (now (lines .entry)) (4 * line + 2) 0)
-        × (now (lines .exit) ≡ paste (now (lines .entry)) (4 * line) (zeros 4) 4)
-        × (now (pool .exit) ≡ paste (now (pool .entry)) r (zeros (end - r)) (end - r)) ⌝ }
+    requires { ⌜ (line-width * line + line-width ≤ length (now lines)) × (start-of (now lines) line ≤ end) × (end ≤ length (now pool)) ⌝ }
+    ensures { λ r. ⌜ (r ≡ start-of (now (lines .entry)) line)
+        × (now (lines .exit) ≡ row-back (now (lines .entry)) line)
+        × (now (pool .exit) ≡ emptied (now (pool .entry)) r end) ⌝ }
 {
     let at = LINE_WIDTH * line;
     let start = lines[at + 2];
@@ -32,8 +31,8 @@ fn undo_add(lines: &mut [u32], pool: &mut [u8], line: usize, end: usize) -> u32
 
 // A strike taken back: the line stands again.
 fn undo_strike(lines: &mut [u32], line: usize)
-    requires { ⌜ (4 * line + 4 ≤ length (now lines)) × (32 ≤ getD (now lines) (4 * line + 1) 0) ⌝ }
-    ensures { λ _. ⌜ now (lines .exit) ≡ set (now (lines .entry)) (4 * line + 1) (getD (now (lines .entry)) (4 * line + 1) 0 - 32) ⌝ }
+    requires { ⌜ (line-width * line + line-width ≤ length (now lines)) × (struck-mark ≤ code-told (now lines) line) ⌝ }
+    ensures { λ _. ⌜ now (lines .exit) ≡ unstruck (now (lines .entry)) line ⌝ }
 {
     let at = LINE_WIDTH * line + 1;
     lines[at] = lines[at] - STRUCK;

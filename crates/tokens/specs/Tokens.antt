@@ -60,9 +60,12 @@ no-semicolon-before (Here c) (Here q) = ltb c q
 no-semicolon-before (Here c) Nowhere = true
 no-semicolon-before Nowhere q = true
 
+abbrev pub brace-next : List ℕ → ℕ → Bool
+brace-next s p = no-semicolon-before (first-from closes s p) (first-from (is semicolon) s p)
+
 -- (what `next` asks instead, and why the two are the same, stands below)
 unfoldable pub to-either : List ℕ → ℕ → TokenEnd
-to-either s p = cond (no-semicolon-before (first-from closes s p) (first-from (is semicolon) s p)) (to-brace s p) (to-semicolon s p)
+to-either s p = cond (brace-next s p) (to-brace s p) (to-semicolon s p)
 
 -- the same of `last`, behind which no `};` is left: asked once of the text, and not anew at each token. The two are the same where `last` is that of the
 -- text (proofs/Ends.antt)
@@ -83,7 +86,7 @@ unfoldable pub bare-end : List ℕ → TokenEnd
 bare-end s = end-bare (first-from (is closing-brace) s 0)
   where
     end-bare : Found → TokenEnd
-    end-bare (Here q) = cond (ltb 0 q) (To q) (Refused unreadable)
+    end-bare (Here q) = end-at 0 unreadable (Here q)
     end-bare Nowhere = To (length s)
 
 -- "and the skip after it starts at the text's first byte": else it starts at the token's end

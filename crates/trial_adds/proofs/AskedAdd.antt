@@ -6,11 +6,12 @@ use mathlib.Core.List.{List}
 use mathlib.Core.Bool.{Bool, true, false, not, _&&_, _||_}
 use borrow.Author.Tests.{eq-eqb, leb-true, ltb-true, ne-eqb, not-true, not-false}
 use lib.Dec.{eqb, leb, ltb}
+use Rattle.numbers.specs.Marks.{cxx, global, local}
 use Rattle.numbers.specs.Refusals.{no-book, no-such, wrong-kind}
 use Rattle.lists.proofs.Tests.{both}
 use Rattle.linker_script.specs.Trim.{trim-end}
 use Rattle.book.specs.declared.Counts.{Counts}
-use Rattle.book.specs.Books.{cxx, export, global, local, rust}
+use Rattle.book.specs.Books.{export, rust}
 use Rattle.book.specs.Layout.{Buffers, five}
 use Rattle.book.specs.Sanity.{sane}
 use Rattle.book.specs.View.{book-of, holds, laid, view}

@@ -1,13 +1,10 @@
 // "Add (node, section, language, token)" of the trial book. A refusal changes nothing. Definitions: changes/specs/Trial.antt (`add-asked`), from document 01,
 // 'The book'. It asks first whether the buffers hold a book (14); what it does then is the crate `adding`.
-ghost use mathlib.Core.Bool.{_&&_, _||_, not};
 ghost use mathlib.Core.Path.{_≡_};
-ghost use lib.Dec.{eqb, leb, ltb};
-ghost use Rattle.book.specs.Books.{cxx, export, global, local};
 ghost use Rattle.book.specs.Layout.{five};
 ghost use Rattle.book.specs.View.{view};
 ghost use Rattle.changes.specs.Changes.{after, edited};
-ghost use Rattle.changes.specs.Trial.{add-asked};
+ghost use Rattle.changes.specs.Trial.{add-asked, may-stand-in};
 use adding::append;
 use book::Counts;
 use book::EXPORT;
@@ -21,7 +18,7 @@ use numbers::WRONG_KIND;
 
 // Whether a line may stand in that node, section and language of a book of that kind.
 fn may_stand(kind: u32, nodes: u32, node: u32, section: u32, language: u32) -> bool
-    ensures { λ r. ⌜ r ≡ ltb node nodes && (leb section local && (leb language cxx && (not (eqb kind export) || (eqb section global && eqb node 0)))) ⌝ }
+    ensures { λ r. ⌜ r ≡ may-stand-in kind nodes node section language ⌝ }
 {
     if nodes <= node {
         return false;

@@ -1,6 +1,6 @@
 -- `mark` meets its contract. Assumes nothing.
 use borrow.Author.Needs.{needs}
-use Rattle.classes.specs.Classes.{sign}
+use Rattle.classes.specs.Classes.{nonstar, sign}
 use Rattle.classes.proofs.Scanning.{mark-byte}
 use Rattle.classes.proofs.mark.Statement.{statement}
 use Rattle.classes.proofs.mark.Tie as tie
@@ -9,7 +9,7 @@ cast-result : tie.Need-cast-result
 cast-result c = search needs
 
 returns : tie.Need-returns
-unfolding sign
+unfolding sign nonstar
 returns c = mark-byte (sign (c .args .c))
 
 pub mark-spec : {M : Type 1} → statement M

@@ -1,5 +1,5 @@
 -- `is_name` meets its contract, part by part. Assumes nothing.
-use Rattle.node_check.proofs.NodeChecks.{name-none, name-bad, name-ends}
+use Rattle.node_check.proofs.NodeChecks.{name-none, name-bad, name-ends, names-asked}
 use borrow.Author.Needs.{needs}
 use Rattle.node_check.proofs.is_name.Statement.{statement}
 use Rattle.node_check.proofs.is_name.Tie as tie
@@ -14,7 +14,7 @@ returns-2 : tie.Need-returns-2
 returns-2 c = search name-bad
 
 is-skipped-first-requires : tie.Need-is-skipped-first-requires
-is-skipped-first-requires c κs = search needs
+is-skipped-first-requires c κs = search names-asked
 
 returns-3 : tie.Need-returns-3
 returns-3 c = search name-ends
