@@ -31,9 +31,8 @@ use Rattle.rooms.proofs.Putting.{Refused-as, room-both, room-length, room-limit
 use Rattle.rooms.proofs.Rows.{edit-within, row-number, row-within}
 use Rattle.changes.specs.declared.Edited.{Edited}
 use Rattle.changes.specs.declared.Edited.the-variants as answer
-use Rattle.changes.specs.Changes.{Change, after, edited, no as says-no, to}
+use Rattle.changes.specs.Changes.{Answers, Change, after, edited, no as says-no, to}
 use Rattle.changes.specs.Trial.{append, append-kept, unplaced, with-line}
-use Rattle.changes.proofs.Answers.{Answers}
 use Rattle.adding.proofs.Laying.{bytes-laid, bytes-more, row-laid}
 
 -- ---- what refuses a token that has no row: r is what `store_token` answers with no room at all

@@ -7,7 +7,7 @@ ghost use Rattle.book.specs.Books.{edition-of};
 ghost use Rattle.book.specs.Layout.{five};
 ghost use Rattle.book.specs.View.{book-of, laid};
 ghost use Rattle.changes.specs.declared.Edited.the-variants as answer;
-ghost use Rattle.changes.specs.Changes.{after, edited};
+ghost use Rattle.changes.specs.Changes.{Answers};
 ghost use Rattle.changes.specs.Trial.{append, unplaced};
 use book::Counts;
 use book::EDIT_WIDTH;
@@ -50,9 +50,9 @@ pub fn append(
     token: &[u8],
 ) -> Edited
     requires { ⌜ (laid c (five (now nodes) (now names) (now lines) (now pool) (now journal)) ≡ true) × (node < c .nodes) × (section ≤ 1) × (language ≤ 1) ⌝ }
-    ensures { λ r. ⌜ (r ≡ edited (append (five (now (nodes .entry)) (now (names .entry)) (now (lines .entry)) (now (pool .entry)) (now (journal .entry))) (book-of c (five (now (nodes .entry)) (now (names .entry)) (now (lines .entry)) (now (pool .entry)) (now (journal .entry)))) node section language (now (token .entry))))
-        × (five (now (nodes .entry)) (now (names .entry)) (now (lines .exit)) (now (pool .exit)) (now (journal .exit))
-        ≡ after (five (now (nodes .entry)) (now (names .entry)) (now (lines .entry)) (now (pool .entry)) (now (journal .entry))) (append (five (now (nodes .entry)) (now (names .entry)) (now (lines .entry)) (now (pool .entry)) (now (journal .entry))) (book-of c (five (now (nodes .entry)) (now (names .entry)) (now (lines .entry)) (now (pool .entry)) (now (journal .entry)))) node section language (now (token .entry)))) ⌝ }
+    ensures { λ r. ⌜ Answers r (five (now (nodes .entry)) (now (names .entry)) (now (lines .entry)) (now (pool .entry)) (now (journal .entry)))
+        (five (now (nodes .entry)) (now (names .entry)) (now (lines .exit)) (now (pool .exit)) (now (journal .exit)))
+        (append (five (now (nodes .entry)) (now (names .entry)) (now (lines .entry)) (now (pool .entry)) (now (journal .entry))) (book-of c (five (now (nodes .entry)) (now (names .entry)) (now (lines .entry)) (now (pool .entry)) (now (journal .entry)))) node section language (now (token .entry))) ⌝ }
 {
     let n = c.lines as usize;
     let e = c.edits as usize;

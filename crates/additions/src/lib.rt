@@ -3,12 +3,11 @@
 ghost use mathlib.Core.Path.{_≡_};
 ghost use Prim.Native.Nat.{_-_, _≤_};
 ghost use lib.ListN.{length};
-ghost use Rattle.lists.specs.Front.{front};
 ghost use Rattle.book.specs.Layout.{five};
 ghost use Rattle.book.specs.View.{view};
 ghost use Rattle.changes.specs.Symbols.{symbol-asked};
 ghost use Rattle.changes.specs.Trial.{add-asked};
-ghost use Rattle.answering.specs.Answers.{Runs, added, edit-ran, editing, symbols-added};
+ghost use Rattle.answering.specs.Answers.{Finishes, Runs, added, editing, symbols-added};
 ghost use Rattle.printing.specs.Printing.{answer-room};
 use answering::Ran;
 use answering::printed;
@@ -22,7 +21,7 @@ use trial_adds::add;
 // What an add answered.
 fn finish_add(c: Counts, r: Edited, out: &mut [u8]) -> Ran
     requires { ⌜ answer-room ≤ length (now out) ⌝ }
-    ensures { λ n. ⌜ (n ≡ edit-ran c (added c) r) × (now (out .exit) ≡ front (added c r) (now (out .entry))) ⌝ }
+    ensures { λ n. ⌜ Finishes c (added c) r (now (out .entry)) (now (out .exit)) n ⌝ }
 {
     match r {
         Edited::Refused(no) => printed(c, put_refused_answer(out, no)),
@@ -43,7 +42,7 @@ fn excess(a: u32, b: u32) -> u32
 // What an `add_symbol` answered.
 fn finish_symbols(c: Counts, r: Edited, out: &mut [u8]) -> Ran
     requires { ⌜ answer-room ≤ length (now out) ⌝ }
-    ensures { λ n. ⌜ (n ≡ edit-ran c (symbols-added c) r) × (now (out .exit) ≡ front (symbols-added c r) (now (out .entry))) ⌝ }
+    ensures { λ n. ⌜ Finishes c (symbols-added c) r (now (out .entry)) (now (out .exit)) n ⌝ }
 {
     match r {
         Edited::Refused(no) => printed(c, put_refused_answer(out, no)),

@@ -8,27 +8,18 @@ use Rattle.book.specs.declared.Counts.{Counts}
 use Rattle.book.specs.Layout.{Buffers}
 use Rattle.changes.specs.declared.Edited.{Edited}
 use Rattle.changes.specs.declared.Edited.the-variants as answer
-use Rattle.changes.specs.Changes.{Change, counts-after, edited, no, to}
-use Rattle.changes.proofs.Answers.{Answers}
+use Rattle.changes.specs.Changes.{Answers, Change, counts-after, edited, no, to}
 use Rattle.printing.proofs.Pieces.{Begins, begins-front}
 use Rattle.answering.specs.declared.Ran.{Ran}
-use Rattle.answering.specs.Answers.{Runs, edit-ran, editing, ran}
-
--- k bytes are printed, behind the counts c
-abbrev pub told : Counts → ℕ → Ran
-told c k = record { counts = c; length = k; known = true; refusal = 0 }
-
--- what an edit answered (a) is told by `say`
-abbrev pub Finishes : Counts → (Edited → List ℕ) → Edited → List ℕ → List ℕ → Ran → Type 0
-Finishes c say a d l r = (r ≡ edit-ran c say a) × (l ≡ front (say a) d)
+use Rattle.answering.specs.Answers.{Finishes, Runs, edit-ran, editing, ran, ran-with}
 
 -- ---- behind an edit that is refused, and behind one that is done
 module _ (c : Counts) (say : Edited → List ℕ) (a : Edited) (d l : List ℕ) (k : ℕ) (r : Ran) where
-  pub refused-finishes : (n : ℕ) → a ≡ answer.Refused n → Begins d (say (answer.Refused n)) l k → r ≡ told c k → Finishes c say a d l r
-  refused-finishes n e p q = rw e (q ∙ ap (λ (n : ℕ). told c n) (p .0), begins-front d (say (answer.Refused n)) l k p)
+  pub refused-finishes : (n : ℕ) → a ≡ answer.Refused n → Begins d (say (answer.Refused n)) l k → r ≡ ran-with c k true → Finishes c say a d l r
+  refused-finishes n e p q = rw e (q ∙ ap (λ (n : ℕ). ran-with c n true) (p .0), begins-front d (say (answer.Refused n)) l k p)
 
-  pub done-finishes : (v : Counts) → a ≡ answer.Done v → Begins d (say (answer.Done v)) l k → r ≡ told v k → Finishes c say a d l r
-  done-finishes v e p q = rw e (q ∙ ap (λ (n : ℕ). told v n) (p .0), begins-front d (say (answer.Done v)) l k p)
+  pub done-finishes : (v : Counts) → a ≡ answer.Done v → Begins d (say (answer.Done v)) l k → r ≡ ran-with v k true → Finishes c say a d l r
+  done-finishes v e p q = rw e (q ∙ ap (λ (n : ℕ). ran-with v n true) (p .0), begins-front d (say (answer.Done v)) l k p)
 
 -- ---- an edit x that answers a and leaves b′, and what is told of the answer
 pub edit-runs : (c : Counts) (b b′ : Buffers) (say : Edited → List ℕ) (x : Change) (a : Edited) (d l : List ℕ) (r : Ran)

@@ -68,6 +68,10 @@ abbrev pub edit-ran : Counts → (Edited → List ℕ) → Edited → Ran
 edit-ran c say (answer.Done d) = ran-with d (length (say (answer.Done d))) true
 edit-ran c say (answer.Refused n) = ran-with c (length (say (answer.Refused n))) true
 
+-- what an edit answered (a) is told by `say`, with the counts c before it: n is answered, and the text stands at the front of d, which is l then
+abbrev pub Finishes : Counts → (Edited → List ℕ) → Edited → List ℕ → List ℕ → Ran → Type 0
+Finishes c say a d l n = (n ≡ edit-ran c say a) × (l ≡ front (say a) d)
+
 -- s has run: r is answered, it stands at the front of `out`, and the buffers are as it leaves them
 unfoldable pub Runs : Step → List ℕ → Ran → List ℕ → Buffers → Type 0
 Runs s out r out′ b′ = (r ≡ ran s) × (out′ ≡ front (s .printed) out) × (b′ ≡ s .left)

@@ -2,6 +2,7 @@
 use Prim.Native.Nat.{ℕ, _+_, _≤_}
 use mathlib.Core.Path.{_≡_, refl, sym, ap, _∙_}
 use mathlib.Core.List.{List, [], _∷_, _++_}
+use mathlib.Core.Bool.{true}
 use mathlib.Core.Option.{Option}
 use native.Mathlib.Omega.{arith}
 use borrow.Author.Tests.{eq-eqb, ne-eqb}
@@ -26,8 +27,7 @@ use Rattle.printing.proofs.Pieces.{Begins, Puts, begins, begins-front, few-refu
 use Rattle.rendering.specs.Lines.{symbol-answered}
 use Rattle.rendering.proofs.Rendered.{Rendered, rendered-some}
 use Rattle.answering.specs.declared.Ran.{Ran}
-use Rattle.answering.specs.Answers.{Runs, telling}
-use Rattle.answering.proofs.Answered.{told}
+use Rattle.answering.specs.Answers.{Runs, ran-with, telling}
 use Rattle.asking.specs.Asked.{asked, member-answered, member-fields, member-line}
 
 -- ---- a name and whether it is in an export list
@@ -96,14 +96,14 @@ pub member-asked : (d t name : List ℕ) (w : Option Book) (m : Membership) (l :
 unfolding member-answered
 member-asked d t name w m l r e f p = rw (← e, ← f) p
 
-module _ (c : Counts) (b : Buffers) (w : Option Book) (t d l : List ℕ) (k : ℕ) (r : Ran) (q : r ≡ told c k) where
+module _ (c : Counts) (b : Buffers) (w : Option Book) (t d l : List ℕ) (k : ℕ) (r : Ran) (q : r ≡ ran-with c k true) where
   pub list-asked : c .kind ≡ export → Begins d (member-answered w t) l k → Runs (telling c b (asked (c .kind) w t)) d r l b
   unfolding Runs asked
-  list-asked e p = rw (eq-eqb (c .kind) export e) (q ∙ ap (λ (n : ℕ). told c n) (p .0), begins-front d (member-answered w t) l k p, refl)
+  list-asked e p = rw (eq-eqb (c .kind) export e) (q ∙ ap (λ (n : ℕ). ran-with c n true) (p .0), begins-front d (member-answered w t) l k p, refl)
 
   pub script-asked : (c .kind ≡ export → ⊥) → length t + 48 ≤ length d → Rendered (length t) (symbol-answered w t) d l k
       → Runs (telling c b (asked (c .kind) w t)) d r l b
   unfolding Runs asked
   script-asked h room p =
       let y = rendered-some (length t) (symbol-answered w t) d l k room p in
-      rw (ne-eqb (c .kind) export h) (q ∙ ap (λ (n : ℕ). told c n) (y .0), y .1, refl)
+      rw (ne-eqb (c .kind) export h) (q ∙ ap (λ (n : ℕ). ran-with c n true) (y .0), y .1, refl)

@@ -3,13 +3,13 @@
 ghost use mathlib.Core.Path.{_≡_};
 ghost use Prim.Native.Nat.{_+_, _≤_};
 ghost use lib.ListN.{length};
-ghost use lib.Seq.{paste};
 ghost use Rattle.book.specs.Layout.{five};
 ghost use Rattle.book.specs.View.{view};
 ghost use Rattle.input.specs.Splitting.{name-part};
 ghost use Rattle.answering.specs.Answers.{Runs, telling};
 ghost use Rattle.asking.specs.Asked.{asked, member-answered, member-line};
 ghost use Rattle.rendering.specs.Lines.{tail-room};
+ghost use Rattle.printing.specs.Printing.{Begins};
 use answering::Ran;
 use answering::printed;
 use book::Counts;
@@ -25,8 +25,7 @@ use rendering_symbols::render_symbol;
 // A name and whether it is in an export list, as a line.
 fn put_member(out: &mut [u8], name: &[u8], m: Membership) -> usize
     requires { ⌜ length (now name) + tail-room ≤ length (now out) ⌝ }
-    ensures { λ r. ⌜ (r ≡ length (member-line (now (name .entry)) m))
-        × (now (out .exit) ≡ paste (now (out .entry)) 0 (member-line (now (name .entry)) m) (length (member-line (now (name .entry)) m))) ⌝ }
+    ensures { λ r. ⌜ Begins (now (out .entry)) (member-line (now (name .entry)) m) (now (out .exit)) r ⌝ }
 {
     let a = put_text(out, 0, name);
     let b = put_text(out, a, b" ");
@@ -62,9 +61,7 @@ fn ask_member(
     out: &mut [u8],
 ) -> usize
     requires { ⌜ length (now t) + tail-room ≤ length (now out) ⌝ }
-    ensures { λ r. ⌜ (r ≡ length (member-answered (view c (five (now (nodes .entry)) (now (names .entry)) (now (lines .entry)) (now (pool .entry)) (now (journal .entry)))) (now (t .entry))))
-        × (now (out .exit) ≡ paste (now (out .entry)) 0 (member-answered (view c (five (now (nodes .entry)) (now (names .entry)) (now (lines .entry)) (now (pool .entry)) (now (journal .entry)))) (now (t .entry)))
-        (length (member-answered (view c (five (now (nodes .entry)) (now (names .entry)) (now (lines .entry)) (now (pool .entry)) (now (journal .entry)))) (now (t .entry))))) ⌝ }
+    ensures { λ r. ⌜ Begins (now (out .entry)) (member-answered (view c (five (now (nodes .entry)) (now (names .entry)) (now (lines .entry)) (now (pool .entry)) (now (journal .entry)))) (now (t .entry))) (now (out .exit)) r ⌝ }
 {
     let name = name_part(t);
     let m = contains(c, nodes, names, lines, pool, journal, name, name);

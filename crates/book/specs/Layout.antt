@@ -1,7 +1,7 @@
 -- How a book stands in lent buffers, as 01 has it under 'The book'. Assumes nothing.
 use Prim.Native.Nat.{ℕ, _+_, _*_, _/_, _%_}
 use mathlib.Core.List.{List, [], _∷_}
-use mathlib.Core.Bool.{Bool, true}
+use mathlib.Core.Bool.{true}
 use lib.Dec.{eqb}
 use lib.ListN.{length, getD}
 use Rattle.packing.specs.Padding.{pad}

@@ -17,11 +17,7 @@ use Rattle.book.proofs.Asking.{held-book}
 use Rattle.book.proofs.Views.{Layout, Rooms, laid-out-same, laid-packs, layout-buffers, layout-counts}
 use Rattle.changes.specs.declared.Edited.{Edited}
 use Rattle.changes.specs.declared.Edited.the-variants as answer
-use Rattle.changes.specs.Changes.{Change, after, counts-after, edit-refusal, edited, no, to}
-
--- r is answered, and b is left as b′
-abbrev pub Answers : Edited → Buffers → Buffers → Change → Type 0
-Answers r b b′ x = (r ≡ edited x) × (b′ ≡ after b x)
+use Rattle.changes.specs.Changes.{Change, Answers, after, counts-after, edit-refusal, edited, no, to}
 
 pub refusal-answers : (b : Buffers) (x : Change) (n : ℕ) → x ≡ no n → Answers (answer.Refused n) b b x
 unfolding edited after

@@ -1,5 +1,6 @@
 -- What an edit comes to: another book, or the number that says no; what is answered then, and what is left in the lent buffers. Assumes nothing.
 use Prim.Native.Nat.{ℕ}
+use mathlib.Core.Path.{_≡_}
 use Rattle.book.specs.declared.Counts.{Counts}
 use Rattle.book.specs.Books.{Book}
 use Rattle.book.specs.Layout.{Buffers, counts-of, laid-out}
@@ -19,6 +20,10 @@ edited (no n) = answer.Refused n
 unfoldable pub after : Buffers → Change → Buffers
 after b (to w) = laid-out b w
 after b (no n) = b
+
+-- an edit that comes to x has that answer r, and leaves b as b′
+abbrev pub Answers : Edited → Buffers → Buffers → Change → Type 0
+Answers r b b′ x = (r ≡ edited x) × (b′ ≡ after b x)
 
 -- the paper's number of an answer, 0 where the edit is done
 abbrev pub edit-refusal : Edited → ℕ

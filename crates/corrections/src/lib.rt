@@ -1,13 +1,11 @@
 // Corrections of a trial book, each answered into a lent buffer: a line struck, the latest edit taken back, the struck lines dropped. Definitions:
 // answering/specs/Answers.antt. These functions are the release desk's own leaves: they ask for room.
-ghost use mathlib.Core.Path.{_≡_};
 ghost use Prim.Native.Nat.{_≤_};
 ghost use lib.ListN.{length};
-ghost use Rattle.lists.specs.Front.{front};
 ghost use Rattle.book.specs.Layout.{five};
 ghost use Rattle.book.specs.View.{view};
 ghost use Rattle.changes.specs.Trial.{settle-asked, strike-asked, undo-asked};
-ghost use Rattle.answering.specs.Answers.{Runs, edit-ran, editing, settled, struck, undone};
+ghost use Rattle.answering.specs.Answers.{Finishes, Runs, editing, settled, struck, undone};
 ghost use Rattle.printing.specs.Printing.{answer-room};
 use answering::Ran;
 use answering::printed;
@@ -23,7 +21,7 @@ use undoing::undo_latest;
 // What a strike answered.
 fn finish_strike(c: Counts, line: u32, r: Edited, out: &mut [u8]) -> Ran
     requires { ⌜ answer-room ≤ length (now out) ⌝ }
-    ensures { λ n. ⌜ (n ≡ edit-ran c (struck line) r) × (now (out .exit) ≡ front (struck line r) (now (out .entry))) ⌝ }
+    ensures { λ n. ⌜ Finishes c (struck line) r (now (out .entry)) (now (out .exit)) n ⌝ }
 {
     match r {
         Edited::Refused(no) => printed(c, put_refused_answer(out, no)),
@@ -34,7 +32,7 @@ fn finish_strike(c: Counts, line: u32, r: Edited, out: &mut [u8]) -> Ran
 // An undo.
 fn finish_undo(c: Counts, r: Edited, out: &mut [u8]) -> Ran
     requires { ⌜ answer-room ≤ length (now out) ⌝ }
-    ensures { λ n. ⌜ (n ≡ edit-ran c undone r) × (now (out .exit) ≡ front (undone r) (now (out .entry))) ⌝ }
+    ensures { λ n. ⌜ Finishes c undone r (now (out .entry)) (now (out .exit)) n ⌝ }
 {
     match r {
         Edited::Refused(no) => printed(c, put_refused_answer(out, no)),
@@ -45,7 +43,7 @@ fn finish_undo(c: Counts, r: Edited, out: &mut [u8]) -> Ran
 // A settle.
 fn finish_settle(c: Counts, r: Edited, out: &mut [u8]) -> Ran
     requires { ⌜ answer-room ≤ length (now out) ⌝ }
-    ensures { λ n. ⌜ (n ≡ edit-ran c settled r) × (now (out .exit) ≡ front (settled r) (now (out .entry))) ⌝ }
+    ensures { λ n. ⌜ Finishes c settled r (now (out .entry)) (now (out .exit)) n ⌝ }
 {
     match r {
         Edited::Refused(no) => printed(c, put_refused_answer(out, no)),

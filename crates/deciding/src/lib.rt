@@ -6,7 +6,6 @@ ghost use Prim.Native.Nat.{_≤_};
 ghost use lib.ListN.{length};
 ghost use Rattle.numbers.specs.Limits.{name-limit, node-limit, token-limit};
 ghost use Rattle.packing.specs.Tables.{packs, things};
-ghost use Rattle.book.specs.Books.{edition-of};
 ghost use Rattle.book.specs.Layout.{line-form, line-of};
 ghost use Rattle.book.specs.Sanity.{line-ok};
 ghost use Rattle.ranking.specs.Matching.{class-matches, line-matches, name-of};

@@ -1,6 +1,5 @@
 // An edit of the release desk's input, done on a trial book and answered into a lent buffer. Definitions: specs/Edits.antt. This function is the release desk's own
 // leaf: it asks for room.
-ghost use mathlib.Core.Path.{_≡_};
 ghost use Prim.Native.Nat.{_≤_};
 ghost use lib.ListN.{length};
 ghost use Rattle.book.specs.Layout.{five};

@@ -20,8 +20,7 @@ use Rattle.commands.specs.declared.Question.{Question}
 use Rattle.commands.specs.declared.Question.the-variants as question
 use Rattle.showing.specs.Shown.{counts-shown, dump-shown, lines-shown, shown-room}
 use Rattle.answering.specs.declared.Ran.{Ran}
-use Rattle.answering.specs.Answers.{Runs, telling}
-use Rattle.answering.proofs.Answered.{told}
+use Rattle.answering.specs.Answers.{Runs, ran-with, telling}
 use Rattle.asking.specs.Asked.{asked}
 use Rattle.desk_questions.specs.Questions.{of-book, question-step}
 
@@ -30,10 +29,10 @@ module _ (c : Counts) (b : Buffers) (x : Bool) (e : x ≡ holds c b) where
   pub held : not x ≡ false → holds c b ≡ true
   held h = sym e ∙ not-false x h
 
-  module _ (show : Book → List ℕ) (d l : List ℕ) (k : ℕ) (r : Ran) (q : r ≡ told c k) where
+  module _ (show : Book → List ℕ) (d l : List ℕ) (k : ℕ) (r : Ran) (q : r ≡ ran-with c k true) where
     shown-runs : (t : List ℕ) → of-book (view c b) show ≡ t → Begins d t l k → Runs (telling c b (of-book (view c b) show)) d r l b
     unfolding Runs
-    shown-runs t f p = rw f (q ∙ ap (λ (n : ℕ). told c n) (p .0), begins-front d t l k p, refl)
+    shown-runs t f p = rw f (q ∙ ap (λ (n : ℕ). ran-with c n true) (p .0), begins-front d t l k p, refl)
 
     pub no-book-shown : not x ≡ true → Begins d (refused-answer no-book) l k → Runs (telling c b (of-book (view c b) show)) d r l b
     no-book-shown h p = shown-runs (refused-answer no-book) (rw (asked-none c b x e h)) p

@@ -1,6 +1,5 @@
 // A question of the release desk's input: of a symbol's line, or of what the book holds; answered into a lent buffer. Definitions: specs/Questions.antt. These
 // functions are the release desk's own leaves: they ask for room.
-ghost use mathlib.Core.Path.{_≡_};
 ghost use Prim.Native.Nat.{_+_, _≤_};
 ghost use lib.ListN.{length};
 ghost use Rattle.book.specs.Layout.{five};

@@ -1,6 +1,6 @@
 -- Whether a name is in an export list, as 01 has it under 'Ranking'. Assumes nothing.
 use Prim.Native.Nat.{ℕ}
-use mathlib.Core.Bool.{Bool, false, cond}
+use mathlib.Core.Bool.{false, cond}
 use mathlib.Core.Option.{Option, some, none}
 use lib.Dec.{eqb}
 use Rattle.numbers.specs.Refusals.{no-book, wrong-kind}

@@ -1,9 +1,9 @@
 // export_list.rs, the book's side: an export list opened into lent buffers, and whether it contains a name. Definitions: specs/Membership.antt, from document
 // 01, 'Ranking'; the opening's is that of the crate `opening`. The question asks first whether the buffers hold a book (14).
-ghost use mathlib.Core.Path.{_≡_};
 ghost use Rattle.cursors.specs.Places.{at-list};
 ghost use Rattle.book.specs.Layout.{five};
-ghost use Rattle.opening.specs.Opening.{left, opening, told};
+ghost use Rattle.opening.specs.Opening.{opening};
+ghost use Rattle.opening.specs.State.{Filled};
 use cursors::places::AT_LIST;
 use opening::Opened;
 
@@ -25,10 +25,9 @@ pub fn open(
     pool: &mut [u8],
     journal: &mut [u32],
 ) -> Opened
-    ensures { λ r. ⌜ (r ≡ told (opening at-list (five (now (nodes .entry)) (now (names .entry)) (now (lines .entry)) (now (pool .entry)) (now (journal .entry))) (now (text .entry))))
-        × (five (now (nodes .exit)) (now (names .exit)) (now (lines .exit)) (now (pool .exit)) (now (journal .exit))
-        ≡ left (five (now (nodes .entry)) (now (names .entry)) (now (lines .entry)) (now (pool .entry)) (now (journal .entry)))
-        (opening at-list (five (now (nodes .entry)) (now (names .entry)) (now (lines .entry)) (now (pool .entry)) (now (journal .entry))) (now (text .entry)))) ⌝ }
+    ensures { λ r. ⌜ Filled (opening at-list (five (now (nodes .entry)) (now (names .entry)) (now (lines .entry)) (now (pool .entry)) (now (journal .entry))) (now (text .entry))) r
+        (five (now (nodes .entry)) (now (names .entry)) (now (lines .entry)) (now (pool .entry)) (now (journal .entry)))
+        (five (now (nodes .exit)) (now (names .exit)) (now (lines .exit)) (now (pool .exit)) (now (journal .exit))) ⌝ }
 {
     opening::open(AT_LIST, text, nodes, names, lines, pool, journal)
 }

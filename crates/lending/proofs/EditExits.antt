@@ -12,16 +12,11 @@ use Rattle.book.specs.Layout.{Buffers}
 use Rattle.book.specs.View.{view}
 use Rattle.changes.specs.declared.Edited.{Edited}
 use Rattle.changes.specs.declared.Edited.the-variants as answer
-use Rattle.changes.specs.Changes.{Change, after, edit-refusal, edited, no, to}
+use Rattle.changes.specs.Changes.{Answers, Change, after, edit-refusal, edited, no, to}
 use Rattle.changes.specs.Symbols.{symbol-asked}
 use Rattle.changes.specs.Trial.{add-asked, settle-asked, strike-asked, undo-asked}
-use Rattle.changes.proofs.Answers.{Answers}
-use Rattle.lending.specs.Calls.{Edits, counts-edited, counts-put, counts-told, lent, lent-counts, six}
+use Rattle.lending.specs.Calls.{Edits, Finishes, counts-edited, counts-put, counts-told, lent, lent-counts, six}
 use Rattle.lending.proofs.Lending.{lent-viewed}
-
--- what is told of an answer a, with r answered
-abbrev pub Finishes : List ℕ → Edited → ℕ → List ℕ → Type 0
-Finishes l a r l′ = (r ≡ edit-refusal a) × (l′ ≡ counts-told l a)
 
 -- ---- an edit that is done: its counts are written
 pub counts-written : (l l′ : List ℕ) (a : Edited) (d : Counts) → a ≡ answer.Done d → l′ ≡ counts-put l d → Finishes l a 0 l′

@@ -87,6 +87,10 @@ abbrev pub counts-told : List ℕ → Edited → List ℕ
 counts-told l (answer.Done c) = counts-put l c
 counts-told l (answer.Refused n) = l
 
+-- what is told of the answer a: r, and the counts l become l′
+abbrev pub Finishes : List ℕ → Edited → ℕ → List ℕ → Type 0
+Finishes l a r l′ = (r ≡ edit-refusal a) × (l′ ≡ counts-told l a)
+
 -- what an edit that is asked of a lent book leaves: r answered, the counts l′ and the buffers b′
 unfoldable pub Edits : List ℕ → Buffers → (Buffers → Option Book → Change) → ℕ → List ℕ → Buffers → Type 0
 Edits l b ask r l′ b′ =

@@ -1,7 +1,6 @@
 // A book that is lent as numbers and slices, the way a C program has it: its counts, six numbers, a number handed back, and what an edit answered. Definitions: specs/Calls.antt.
 ghost use mathlib.Core.Path.{_≡_};
-ghost use Rattle.changes.specs.Changes.{edit-refusal};
-ghost use Rattle.lending.specs.Calls.{counts-put, counts-told, lent-counts, number-told, value-left};
+ghost use Rattle.lending.specs.Calls.{Finishes, counts-put, lent-counts, number-told, value-left};
 use book::Counts;
 use changes::Edited;
 use numbers::NO_ROOM;
@@ -67,7 +66,7 @@ pub fn answer(no: u32, value: u32, out: &mut [u32]) -> u32
 
 // What an edit answered, with the counts of the book behind it.
 pub fn finish(r: Edited, counts: &mut [u32]) -> u32
-    ensures { λ n. ⌜ (n ≡ edit-refusal r) × (now (counts .exit) ≡ counts-told (now (counts .entry)) r) ⌝ }
+    ensures { λ n. ⌜ Finishes (now (counts .entry)) r n (now (counts .exit)) ⌝ }
 {
     match r {
         Edited::Refused(no) => no,

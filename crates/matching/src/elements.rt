@@ -1,7 +1,6 @@
 // The element at a place of a pattern, held against a character.
-ghost use mathlib.Core.Path.{_≡_};
 ghost use Prim.Native.Nat.{_+_, _<_, _≤_};
-ghost use lib.ListN.{length, drop};
+ghost use lib.ListN.{length};
 ghost use Rattle.matching.specs.Post.{Element-ok, Bracket-at-ok};
 use pattern::Edition;
 use pattern::bracket::bracket_takes;

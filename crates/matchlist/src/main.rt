@@ -5,6 +5,7 @@ use classes::Class;
 use libc::STDERR_FILENO;
 use libc::STDIN_FILENO;
 use libc::STDOUT_FILENO;
+use meanings::front;
 use pattern::Edition;
 use storing::Stored;
 
@@ -100,14 +101,6 @@ fn print_names(class: Class, stored: &[u8], text: &[u8]) {
         print_name(class, stored, &text[at..end]);
         at = end + 1;
     }
-}
-
-// The first n bytes of s, or all of it.
-fn front(s: &[u8], n: usize) -> &[u8] {
-    if n < s.len() {
-        return &s[0..n];
-    }
-    s
 }
 
 // What stands from a place of s on, or nothing.

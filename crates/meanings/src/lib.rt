@@ -1,12 +1,22 @@
-// What the numbers that say no mean, for a person, on standard error.
+// What the programs share: the front of a buffer, and what the numbers that say no mean, for a person, on standard error.
+use input::positions::position_of;
 use libc::STDERR_FILENO;
 
-fn say(text: &[u8]) {
+// The first n bytes of s, or all of it.
+pub fn front(s: &[u8], n: usize) -> &[u8] {
+    if n < s.len() {
+        return &s[0..n];
+    }
+    s
+}
+
+// On standard error.
+pub fn say(text: &[u8]) {
     io::write_all(STDERR_FILENO, text);
 }
 
 // Where in a text: `line L, column C: `.
-pub fn say_place(line: usize, column: usize) {
+fn say_place(line: usize, column: usize) {
     say(b"line ");
     io::print_decimal(STDERR_FILENO, line as u64);
     say(b", column ");
@@ -72,4 +82,12 @@ pub fn say_meaning(no: u32) {
         return say(b"this is no book\n");
     }
     say_no_number();
+}
+
+// A text that a program refuses: where in it, and why.
+pub fn say_refused(program: &[u8], text: &[u8], place: usize, no: u32) {
+    let position = position_of(text, place);
+    say(program);
+    say_place(position.line, position.column);
+    say_meaning(no);
 }

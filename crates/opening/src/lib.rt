@@ -1,8 +1,8 @@
 // Opening a text into lent buffers: the events of its reading, taken one by one (the crate `building_events`). Definitions: specs/Opening.antt, from document 01,
 // 'Reading', 'Ranking' (the Rust kind), 'The book' and 'Numbers that say no'.
-ghost use mathlib.Core.Path.{_≡_};
 ghost use Rattle.book.specs.Layout.{five};
-ghost use Rattle.opening.specs.Opening.{left, opening, told};
+ghost use Rattle.opening.specs.Opening.{opening};
+ghost use Rattle.opening.specs.State.{Filled};
 use crate::events::fill;
 use book::Counts;
 use building::clear_book;
@@ -33,10 +33,9 @@ pub fn open(
     pool: &mut [u8],
     journal: &mut [u32],
 ) -> Opened
-    ensures { λ r. ⌜ (r ≡ told (opening place (five (now (nodes .entry)) (now (names .entry)) (now (lines .entry)) (now (pool .entry)) (now (journal .entry))) (now (text .entry))))
-        × (five (now (nodes .exit)) (now (names .exit)) (now (lines .exit)) (now (pool .exit)) (now (journal .exit))
-        ≡ left (five (now (nodes .entry)) (now (names .entry)) (now (lines .entry)) (now (pool .entry)) (now (journal .entry)))
-        (opening place (five (now (nodes .entry)) (now (names .entry)) (now (lines .entry)) (now (pool .entry)) (now (journal .entry))) (now (text .entry)))) ⌝ }
+    ensures { λ r. ⌜ Filled (opening place (five (now (nodes .entry)) (now (names .entry)) (now (lines .entry)) (now (pool .entry)) (now (journal .entry))) (now (text .entry))) r
+        (five (now (nodes .entry)) (now (names .entry)) (now (lines .entry)) (now (pool .entry)) (now (journal .entry)))
+        (five (now (nodes .exit)) (now (names .exit)) (now (lines .exit)) (now (pool .exit)) (now (journal .exit))) ⌝ }
 {
     clear_book(nodes, names, lines, pool);
     clear_numbers(journal);

@@ -1,7 +1,6 @@
 // Brackets: where one closes, and whether it takes a character.
 ghost use mathlib.Core.Path.{_≡_};
-ghost use mathlib.Core.List.{List};
-ghost use Prim.Native.Nat.{_+_, _<_, _≤_};
+ghost use Prim.Native.Nat.{_+_, _<_};
 ghost use lib.ListN.{length, drop};
 ghost use Rattle.lists.specs.Pieces.{pieces};
 ghost use Rattle.utf8.specs.Utf8.{chars};

@@ -13,13 +13,13 @@
 ghost use Prim.Native.Nat.{_+_, _≤_};
 ghost use lib.ListN.{length};
 use glob_match::exports::glob_match_store;
+use meanings::front;
 use numbers::BAD_EXTERN;
 use numbers::UNREADABLE;
 use reading_rows::reading_events;
 use replay::Counts;
 use replay::byte_or_zero;
 use replay::digit;
-use replay::front;
 use replay::print_counts;
 use replay::print_different;
 use replay::read_cases;

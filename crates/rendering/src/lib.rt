@@ -1,6 +1,5 @@
 // Lines that verlist prints, each into a lent buffer: a refusal's, and the counts'. Definitions: specs/Lines.antt, from document 01, 'Known points' (the program
 // `verlist`), which has the symbols' lines too.
-ghost use mathlib.Core.Path.{_≡_};
 ghost use Prim.Native.Nat.{_≤_};
 ghost use lib.ListN.{length};
 ghost use Rattle.book.specs.Layout.{five};

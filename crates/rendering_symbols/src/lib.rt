@@ -1,6 +1,5 @@
 // The lines that verlist prints for symbols, each into a lent buffer. Definitions: rendering's specs/Lines.antt, from document 01, 'Known points' (the program
 // `verlist`).
-ghost use mathlib.Core.Path.{_≡_};
 ghost use Prim.Native.Nat.{_+_, _≤_};
 ghost use mathlib.Core.List.{_++_};
 ghost use lib.ListN.{length};

@@ -101,14 +101,6 @@ pub fn read_field(line: &[u8], from: usize) -> Field
     }
 }
 
-// The first n bytes of s, or all of it.
-pub fn front(s: &[u8], n: usize) -> &[u8] {
-    if n < s.len() {
-        return &s[0..n];
-    }
-    s
-}
-
 // Reads the cases, and answers how many bytes they are.
 pub fn read_cases(text: &mut [u8]) -> usize {
     let fd = os::open_read(b"cases.txt");

@@ -2,7 +2,6 @@
 // a token to its stored bytes. It asks the token's limit; what it calls does not ask it again. Definitions: specs/Keeping.antt and specs/Answers.antt, from
 // document 01.
 ghost use mathlib.Core.Path.{_≡_};
-ghost use mathlib.Core.List.{List, []};
 ghost use Prim.Native.Nat.{_≤_};
 ghost use lib.ListN.{length};
 ghost use Rattle.lists.specs.Front.{front};

@@ -16,10 +16,10 @@ use Rattle.book.proofs.Views.{laid-packs}
 use Rattle.building_events.specs.Events.{Lies}
 use Rattle.changes.specs.declared.Edited.{Edited}
 use Rattle.changes.specs.declared.Edited.the-variants as answer
-use Rattle.changes.specs.Changes.{to}
+use Rattle.changes.specs.Changes.{Answers, to}
 use Rattle.changes.specs.Trial.{append}
 use Rattle.changes.specs.Symbols.{add-event}
-use Rattle.changes.proofs.Answers.{Answers, layout-answers}
+use Rattle.changes.proofs.Answers.{layout-answers}
 
 module _ (c : Counts) (n m l q j s : List ℕ) (e : Event) (pre : (laid c (five n m l q j) ≡ true) × (0 < c .nodes) × Lies s e) where
   abbrev lent : Buffers

@@ -6,7 +6,7 @@ ghost use Prim.Native.Nat.{_<_};
 ghost use Rattle.book.specs.Layout.{five};
 ghost use Rattle.book.specs.View.{book-of, laid};
 ghost use Rattle.building_events.specs.Events.{Lies};
-ghost use Rattle.changes.specs.Changes.{after, edited};
+ghost use Rattle.changes.specs.Changes.{Answers};
 ghost use Rattle.changes.specs.Symbols.{add-event};
 use adding::append;
 use book::Counts;
@@ -25,9 +25,9 @@ pub fn add_event(
     e: Event,
 ) -> Edited
     requires { ⌜ (laid c (five (now nodes) (now names) (now lines) (now pool) (now journal)) ≡ true) × (0 < c .nodes) × Lies (now s) e ⌝ }
-    ensures { λ r. ⌜ (r ≡ edited (add-event (five (now (nodes .entry)) (now (names .entry)) (now (lines .entry)) (now (pool .entry)) (now (journal .entry))) (now (s .entry)) (book-of c (five (now (nodes .entry)) (now (names .entry)) (now (lines .entry)) (now (pool .entry)) (now (journal .entry)))) e))
-        × (five (now (nodes .entry)) (now (names .entry)) (now (lines .exit)) (now (pool .exit)) (now (journal .exit))
-        ≡ after (five (now (nodes .entry)) (now (names .entry)) (now (lines .entry)) (now (pool .entry)) (now (journal .entry))) (add-event (five (now (nodes .entry)) (now (names .entry)) (now (lines .entry)) (now (pool .entry)) (now (journal .entry))) (now (s .entry)) (book-of c (five (now (nodes .entry)) (now (names .entry)) (now (lines .entry)) (now (pool .entry)) (now (journal .entry)))) e)) ⌝ }
+    ensures { λ r. ⌜ Answers r (five (now (nodes .entry)) (now (names .entry)) (now (lines .entry)) (now (pool .entry)) (now (journal .entry)))
+        (five (now (nodes .entry)) (now (names .entry)) (now (lines .exit)) (now (pool .exit)) (now (journal .exit)))
+        (add-event (five (now (nodes .entry)) (now (names .entry)) (now (lines .entry)) (now (pool .entry)) (now (journal .entry))) (now (s .entry)) (book-of c (five (now (nodes .entry)) (now (names .entry)) (now (lines .entry)) (now (pool .entry)) (now (journal .entry)))) e) ⌝ }
 {
     match e {
         Event::Node { start: _, len: _ } => Edited::Done(c),

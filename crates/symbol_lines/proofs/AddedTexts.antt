@@ -28,9 +28,9 @@ use Rattle.building_events.specs.Events.{Lies}
 use Rattle.opening.proofs.EachEvent.{parts-lie}
 use Rattle.changes.specs.declared.Edited.{Edited}
 use Rattle.changes.specs.declared.Edited.the-variants as answer
-use Rattle.changes.specs.Changes.{Change, after, edited, no, to}
+use Rattle.changes.specs.Changes.{Answers, Change, after, edited, no, to}
 use Rattle.changes.specs.Symbols.{add-event, add-events, add-reading, on-change}
-use Rattle.changes.proofs.Answers.{Answers, layout-answers, refusal-answers}
+use Rattle.changes.proofs.Answers.{layout-answers, refusal-answers}
 use Rattle.changes.proofs.Growth.{Grown, back-asks, event-grows, grown-none, taken-back}
 use Rattle.changes.proofs.SameRooms.{event-same}
 

@@ -7,7 +7,7 @@ ghost use Rattle.reading.specs.Events.{reading};
 ghost use Rattle.book.specs.Books.{export};
 ghost use Rattle.book.specs.Layout.{five};
 ghost use Rattle.book.specs.View.{book-of, laid};
-ghost use Rattle.changes.specs.Changes.{after, edited};
+ghost use Rattle.changes.specs.Changes.{Answers};
 ghost use Rattle.changes.specs.Symbols.{add-reading};
 use book::Counts;
 use changes::Edited;
@@ -29,9 +29,9 @@ pub fn add_lines(
     place: u32,
 ) -> Edited
     requires { ⌜ (laid c (five (now nodes) (now names) (now lines) (now pool) (now journal)) ≡ true) × (0 < c .nodes) × (c .kind ≡ export) ⌝ }
-    ensures { λ r. ⌜ (r ≡ edited (add-reading (five (now (nodes .entry)) (now (names .entry)) (now (lines .entry)) (now (pool .entry)) (now (journal .entry))) (now (s .entry)) (book-of c (five (now (nodes .entry)) (now (names .entry)) (now (lines .entry)) (now (pool .entry)) (now (journal .entry)))) (reading place (now (s .entry)))))
-        × (five (now (nodes .entry)) (now (names .entry)) (now (lines .exit)) (now (pool .exit)) (now (journal .exit))
-        ≡ after (five (now (nodes .entry)) (now (names .entry)) (now (lines .entry)) (now (pool .entry)) (now (journal .entry))) (add-reading (five (now (nodes .entry)) (now (names .entry)) (now (lines .entry)) (now (pool .entry)) (now (journal .entry))) (now (s .entry)) (book-of c (five (now (nodes .entry)) (now (names .entry)) (now (lines .entry)) (now (pool .entry)) (now (journal .entry)))) (reading place (now (s .entry))))) ⌝ }
+    ensures { λ r. ⌜ Answers r (five (now (nodes .entry)) (now (names .entry)) (now (lines .entry)) (now (pool .entry)) (now (journal .entry)))
+        (five (now (nodes .entry)) (now (names .entry)) (now (lines .exit)) (now (pool .exit)) (now (journal .exit)))
+        (add-reading (five (now (nodes .entry)) (now (names .entry)) (now (lines .entry)) (now (pool .entry)) (now (journal .entry))) (now (s .entry)) (book-of c (five (now (nodes .entry)) (now (names .entry)) (now (lines .entry)) (now (pool .entry)) (now (journal .entry)))) (reading place (now (s .entry)))) ⌝ }
 {
     let mut at = start_at(place, s);
     let mut k = c;

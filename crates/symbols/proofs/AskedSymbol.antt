@@ -20,10 +20,10 @@ use Rattle.book.specs.View.{book-of, holds, laid, view}
 use Rattle.book.proofs.Asking.{Held, asked-held, asked-none}
 use Rattle.changes.specs.declared.Edited.{Edited}
 use Rattle.changes.specs.declared.Edited.the-variants as answer
-use Rattle.changes.specs.Changes.{Change}
+use Rattle.changes.specs.Changes.{Answers, Change}
 use Rattle.changes.specs.Symbols.{add-reading, symbol-asked, symbol-place}
 use Rattle.changes.proofs.AddedLines.{some-node}
-use Rattle.changes.proofs.Answers.{Answers, refusal-answers}
+use Rattle.changes.proofs.Answers.{refusal-answers}
 
 module _ (c : Counts) (n m l q j s : List ℕ) (bare : Bool) (x : Bool) (e : x ≡ holds c (five n m l q j)) where
   abbrev asked : Change

@@ -1,7 +1,6 @@
 // Words, names and the ends of tokens: the leaves of the reader. Definitions: specs/Tokens.antt, from document 01, 'Reading'.
 ghost use mathlib.Core.Path.{_≡_};
-ghost use Prim.Native.Nat.{_+_, _<_, _≤_};
-ghost use lib.ListN.{length};
+ghost use Prim.Native.Nat.{_+_, _<_};
 ghost use Rattle.tokens.specs.Tokens.{stands-at, name-end, to-semicolon, to-brace, extern-end, bare-extern-end, bare-end, bare-skip};
 use crate::names::is_named;
 use linker_script::Found;

@@ -18,9 +18,8 @@ use Rattle.book.specs.View.{book-of, holds, laid, view}
 use Rattle.book.proofs.Asking.{Held, asked-none, asked-held}
 use Rattle.changes.specs.declared.Edited.{Edited}
 use Rattle.changes.specs.declared.Edited.the-variants as answer
-use Rattle.changes.specs.Changes.{after, edited}
+use Rattle.changes.specs.Changes.{Answers, after, edited}
 use Rattle.changes.specs.Trial.{add-asked, append, may-stand}
-use Rattle.changes.proofs.Answers.{Answers}
 
 module _ (c : Counts) (n m l q j : List ℕ) (node section language : ℕ) (t : List ℕ) (x : Bool) (e : x ≡ holds c (five n m l q j)) where
   abbrev lent : Buffers

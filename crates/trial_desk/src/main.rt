@@ -15,9 +15,7 @@ use book::Counts;
 use cursors::places::AT_LIST;
 use cursors::places::AT_SCRIPT;
 use desk::run_line;
-use input::positions::position_of;
 use input::splitting::find_mark;
-use libc::STDERR_FILENO;
 use libc::STDIN_FILENO;
 use libc::STDOUT_FILENO;
 use line_parts::Numeral;
@@ -25,6 +23,10 @@ use line_parts::line_end;
 use line_parts::number_at;
 use linker_script::Found;
 use linker_script::byte_at;
+use meanings::front;
+use meanings::say;
+use meanings::say_meaning;
+use meanings::say_refused;
 use numbers::TOO_LONG;
 use packing::same_bytes;
 use rendering::render_refused;
@@ -32,26 +34,11 @@ use rendering::render_refused;
 // The longest input.
 const INPUT_LIMIT: usize = 65536;
 
-// The first n bytes of s, or all of it.
-fn front(s: &[u8], n: usize) -> &[u8] {
-    if n < s.len() {
-        return &s[0..n];
-    }
-    s
-}
-
-fn say(text: &[u8]) {
-    io::write_all(STDERR_FILENO, text);
-}
-
 // A text that is refused: the number, and for a person where and why.
 fn refuse(text: &[u8], no: u32, place: usize, out: &mut [u8; 1048576]) {
     let length = render_refused(no, out);
     io::write_all(STDOUT_FILENO, front(out, length));
-    let position = position_of(text, place);
-    say(b"trial_desk: ");
-    meanings::say_place(position.line, position.column);
-    meanings::say_meaning(no);
+    say_refused(b"trial_desk: ", text, place, no);
 }
 
 // What a line `! N` means.
@@ -64,7 +51,7 @@ fn explain(printed: &[u8]) {
         Numeral::Number { value, end } => {
             if byte_at(printed, end) == b'\n' {
                 say(b"trial_desk: ");
-                meanings::say_meaning(value);
+                say_meaning(value);
             }
         }
     }

@@ -1,9 +1,8 @@
 // Settle, of the trial book. A refusal changes nothing. Definitions: changes/specs/Trial.antt (`settle-asked`), from document 01, 'The book'. It asks first
 // whether the buffers hold a book (14); what it does then is the crate `settling`.
-ghost use mathlib.Core.Path.{_≡_};
 ghost use Rattle.book.specs.Layout.{five};
 ghost use Rattle.book.specs.View.{view};
-ghost use Rattle.changes.specs.Changes.{after, edited};
+ghost use Rattle.changes.specs.Changes.{Answers};
 ghost use Rattle.changes.specs.Trial.{settle-asked};
 use book::Counts;
 use book_check::is_book;
@@ -20,9 +19,9 @@ pub fn settle(
     pool: &mut [u8],
     journal: &mut [u32],
 ) -> Edited
-    ensures { λ r. ⌜ (r ≡ edited (settle-asked (view c (five (now (nodes .entry)) (now (names .entry)) (now (lines .entry)) (now (pool .entry)) (now (journal .entry))))))
-        × (five (now (nodes .entry)) (now (names .entry)) (now (lines .exit)) (now (pool .exit)) (now (journal .exit))
-        ≡ after (five (now (nodes .entry)) (now (names .entry)) (now (lines .entry)) (now (pool .entry)) (now (journal .entry))) (settle-asked (view c (five (now (nodes .entry)) (now (names .entry)) (now (lines .entry)) (now (pool .entry)) (now (journal .entry)))))) ⌝ }
+    ensures { λ r. ⌜ Answers r (five (now (nodes .entry)) (now (names .entry)) (now (lines .entry)) (now (pool .entry)) (now (journal .entry)))
+        (five (now (nodes .entry)) (now (names .entry)) (now (lines .exit)) (now (pool .exit)) (now (journal .exit)))
+        (settle-asked (view c (five (now (nodes .entry)) (now (names .entry)) (now (lines .entry)) (now (pool .entry)) (now (journal .entry))))) ⌝ }
 {
     if !is_book(c, nodes, names, lines, pool, journal) {
         return Edited::Refused(NO_BOOK);

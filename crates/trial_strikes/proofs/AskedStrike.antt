@@ -24,11 +24,11 @@ use Rattle.book.proofs.Forms.{edit-laws, line-laws}
 use Rattle.book.proofs.Views.{Layout}
 use Rattle.rooms.specs.Rooms.{edit-room, edit-row}
 use Rattle.changes.specs.declared.Edited.the-variants as answer
-use Rattle.changes.specs.Changes.{no, to}
+use Rattle.changes.specs.Changes.{Answers, no, to}
 use Rattle.changes.specs.Trial.{strike-asked, strike-line, with-strike}
 use Rattle.changes.proofs.Marking.{marked-ok}
 use Rattle.changes.proofs.Marks.{code-stands, code-struck, line-code, line-right, line-room, line-within}
-use Rattle.changes.proofs.Answers.{Answers, Shown, layout-answers, refusal-answers, shown}
+use Rattle.changes.proofs.Answers.{Shown, layout-answers, refusal-answers, shown}
 
 -- ---- what a strike makes of the book
 module _ (c : Counts) (b : Buffers) (w : Book) (t : Layout c b w) (i : ℕ) where

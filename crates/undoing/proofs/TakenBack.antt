@@ -25,10 +25,10 @@ use Rattle.book.proofs.Asking.{asked-none}
 use Rattle.book.proofs.Forms.{edit-laws, line-laws}
 use Rattle.book.proofs.Views.{Layout, no-bytes}
 use Rattle.changes.specs.declared.Edited.the-variants as answer
-use Rattle.changes.specs.Changes.{to}
+use Rattle.changes.specs.Changes.{Answers, to}
 use Rattle.changes.specs.Trial.{latest, undo-asked, without-latest}
 use Rattle.taking_back.specs.Latest.{Undoable, counts-back, journal-back, line-told, lines-back, pool-back, start-of, what-told}
-use Rattle.changes.proofs.Answers.{Answers, Shown, layout-answers, refusal-answers, shown}
+use Rattle.changes.proofs.Answers.{Shown, layout-answers, refusal-answers, shown}
 use Rattle.changes.proofs.Marking.{marked-ok}
 use Rattle.changes.proofs.Marks.{line-code, line-ranged, line-right, line-room, line-within}
 

@@ -3,7 +3,7 @@
 ghost use mathlib.Core.Path.{_≡_};
 ghost use Rattle.book.specs.Layout.{five};
 ghost use Rattle.book.specs.View.{view};
-ghost use Rattle.changes.specs.Changes.{after, counts-after, edit-refusal, edited};
+ghost use Rattle.changes.specs.Changes.{Answers, after, counts-after, edit-refusal, edited};
 ghost use Rattle.changes.specs.Trial.{undo-asked};
 use book::Counts;
 use book_check::is_book;
@@ -21,9 +21,9 @@ pub fn undo_latest(
     pool: &mut [u8],
     journal: &mut [u32],
 ) -> Edited
-    ensures { λ r. ⌜ (r ≡ edited (undo-asked (view c (five (now (nodes .entry)) (now (names .entry)) (now (lines .entry)) (now (pool .entry)) (now (journal .entry))))))
-        × (five (now (nodes .entry)) (now (names .entry)) (now (lines .exit)) (now (pool .exit)) (now (journal .exit))
-        ≡ after (five (now (nodes .entry)) (now (names .entry)) (now (lines .entry)) (now (pool .entry)) (now (journal .entry))) (undo-asked (view c (five (now (nodes .entry)) (now (names .entry)) (now (lines .entry)) (now (pool .entry)) (now (journal .entry)))))) ⌝ }
+    ensures { λ r. ⌜ Answers r (five (now (nodes .entry)) (now (names .entry)) (now (lines .entry)) (now (pool .entry)) (now (journal .entry)))
+        (five (now (nodes .entry)) (now (names .entry)) (now (lines .exit)) (now (pool .exit)) (now (journal .exit)))
+        (undo-asked (view c (five (now (nodes .entry)) (now (names .entry)) (now (lines .entry)) (now (pool .entry)) (now (journal .entry))))) ⌝ }
 {
     if !is_book(c, nodes, names, lines, pool, journal) {
         return Edited::Refused(NO_BOOK);

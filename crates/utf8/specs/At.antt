@@ -1,7 +1,7 @@
 -- What the code answers at a place of a text. Assumes nothing.
 use Prim.Native.Nat.{ℕ, _+_}
 use mathlib.Core.List.{List}
-use mathlib.Core.Bool.{Bool, false, cond}
+use mathlib.Core.Bool.{false, cond}
 use lib.ListN.{length}
 use lib.Dec.{ltb}
 use Rattle.lists.specs.Pieces.{Piece, piece-at}

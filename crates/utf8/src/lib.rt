@@ -1,12 +1,10 @@
 // UTF-8 (RFC 3629): the character at a place of a text with the place behind it, and whether a text is UTF-8. It knows of
 // no pattern and no book. Definitions: specs/Utf8.antt. No function has a `requires` that a caller outside has to meet.
 ghost use mathlib.Core.Path.{_≡_};
-ghost use mathlib.Core.Bool.{Bool, _&&_};
+ghost use mathlib.Core.Bool.{_&&_};
 ghost use Prim.Native.Nat.{_+_, _<_, _≤_};
-ghost use lib.ListN.{length, getD, drop};
-ghost use lib.Dec.{leb};
-ghost use Rattle.lists.specs.Pieces.{piece-at};
-ghost use Rattle.utf8.specs.Utf8.{scalar, tail, two, three, four, starts, none, character, read, utf8};
+ghost use lib.ListN.{length, getD};
+ghost use Rattle.utf8.specs.Utf8.{scalar, tail, two, three, four, starts, none, character, utf8};
 ghost use Rattle.utf8.specs.At.{placed, character-at};
 
 // The character at a place: its number, the place behind it, and whether one starts there. Where none does it is U+FFFD and

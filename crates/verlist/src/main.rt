@@ -3,28 +3,12 @@
 // error says where, and what the number means.
 ghost use mathlib.Core.Path.{_≡_};
 ghost use Rattle.listing.specs.Listing.{listed, out-left, verlist-room};
-use input::positions::position_of;
-use libc::STDERR_FILENO;
 use libc::STDIN_FILENO;
 use libc::STDOUT_FILENO;
 use listing::listed::render_listing;
 use listing_script::Listed;
-
-// The first n bytes of s, or all of it.
-fn front(s: &[u8], n: usize) -> &[u8] {
-    if n < s.len() {
-        return &s[0..n];
-    }
-    s
-}
-
-// Where the script is refused, and why.
-fn explain(text: &[u8], listed: Listed) {
-    let position = position_of(text, listed.place);
-    io::write_all(STDERR_FILENO, b"verlist: ");
-    meanings::say_place(position.line, position.column);
-    meanings::say_meaning(listed.refusal);
-}
+use meanings::front;
+use meanings::say_refused;
 
 // What is printed for an input, rendered into `out`, in 01's room: "1,024 nodes, 2,048 lines, 65,536 bytes each of names and pool".
 fn render(text: &[u8], out: &mut [u8; 983104]) -> Listed
@@ -50,7 +34,7 @@ fn print_listing(text: &[u8], out: &mut [u8; 983104]) {
     let listed = render(text, out);
     io::write_all(STDOUT_FILENO, front(out, listed.length));
     if listed.refusal != 0 {
-        explain(text, listed);
+        say_refused(b"verlist: ", text, listed.place, listed.refusal);
     }
 }
 

@@ -1,9 +1,9 @@
 // version_script.rs, the book's side: a version script opened into lent buffers. Definitions: those of the crate `opening`. Its counts and its nodes are asked in
 // counting.
-ghost use mathlib.Core.Path.{_≡_};
 ghost use Rattle.cursors.specs.Places.{at-script};
 ghost use Rattle.book.specs.Layout.{five};
-ghost use Rattle.opening.specs.Opening.{left, opening, told};
+ghost use Rattle.opening.specs.Opening.{opening};
+ghost use Rattle.opening.specs.State.{Filled};
 use cursors::places::AT_SCRIPT;
 use opening::Opened;
 
@@ -16,10 +16,9 @@ pub fn open(
     pool: &mut [u8],
     journal: &mut [u32],
 ) -> Opened
-    ensures { λ r. ⌜ (r ≡ told (opening at-script (five (now (nodes .entry)) (now (names .entry)) (now (lines .entry)) (now (pool .entry)) (now (journal .entry))) (now (text .entry))))
-        × (five (now (nodes .exit)) (now (names .exit)) (now (lines .exit)) (now (pool .exit)) (now (journal .exit))
-        ≡ left (five (now (nodes .entry)) (now (names .entry)) (now (lines .entry)) (now (pool .entry)) (now (journal .entry)))
-        (opening at-script (five (now (nodes .entry)) (now (names .entry)) (now (lines .entry)) (now (pool .entry)) (now (journal .entry))) (now (text .entry)))) ⌝ }
+    ensures { λ r. ⌜ Filled (opening at-script (five (now (nodes .entry)) (now (names .entry)) (now (lines .entry)) (now (pool .entry)) (now (journal .entry))) (now (text .entry))) r
+        (five (now (nodes .entry)) (now (names .entry)) (now (lines .entry)) (now (pool .entry)) (now (journal .entry)))
+        (five (now (nodes .exit)) (now (names .exit)) (now (lines .exit)) (now (pool .exit)) (now (journal .exit))) ⌝ }
 {
     opening::open(AT_SCRIPT, text, nodes, names, lines, pool, journal)
 }
