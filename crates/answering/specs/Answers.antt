@@ -1,45 +1,16 @@
--- What the release desk prints for an edit of a trial book, and what a command leaves. Assumes nothing.
-use Prim.Native.Nat.{ℕ, _-_}
+-- What a command of the release desk prints and leaves, and what is answered when it has run. Assumes nothing.
+use Prim.Native.Nat.{ℕ}
 use mathlib.Core.Path.{_≡_}
-use mathlib.Core.List.{List, [], _∷_, _++_}
+use mathlib.Core.List.{List}
 use mathlib.Core.Bool.{Bool, true}
 use lib.ListN.{length}
-use Rattle.numbers.specs.Signs.{line-feed}
 use Rattle.lists.specs.Front.{front}
-use Rattle.lists.specs.Texts.{codes}
 use Rattle.book.specs.declared.Counts.{Counts}
 use Rattle.book.specs.Layout.{Buffers}
 use Rattle.changes.specs.declared.Edited.{Edited}
 use Rattle.changes.specs.declared.Edited.the-variants as answer
 use Rattle.changes.specs.Changes.{Change, after, counts-after, edited}
-use Rattle.printing.specs.Printing.{numbered, refused-answer}
 use Rattle.answering.specs.declared.Ran.{Ran}
-
--- ---- what is printed for an edit: of the counts c before it, and what it answers; a refusal is `! N`
--- `added LINE`
-unfoldable pub added : Counts → Edited → List ℕ
-added c (answer.Done d) = numbered (codes "added") (c .lines)
-added c (answer.Refused n) = refused-answer n
-
--- `struck LINE`
-unfoldable pub struck : ℕ → Edited → List ℕ
-struck i (answer.Done d) = numbered (codes "struck") i
-struck i (answer.Refused n) = refused-answer n
-
--- `undone`
-unfoldable pub undone : Edited → List ℕ
-undone (answer.Done d) = codes "undone" ++ line-feed ∷ []
-undone (answer.Refused n) = refused-answer n
-
--- `settled LINES`: how many are left
-unfoldable pub settled : Edited → List ℕ
-settled (answer.Done d) = numbered (codes "settled") (d .lines)
-settled (answer.Refused n) = refused-answer n
-
--- `added COUNT`: how many lines were added
-unfoldable pub symbols-added : Counts → Edited → List ℕ
-symbols-added c (answer.Done d) = numbered (codes "added") (d .lines - c .lines)
-symbols-added c (answer.Refused n) = refused-answer n
 
 -- ---- a command: what is printed, the counts and the buffers behind it, and whether it is a command at all
 pub record Step : Type 0 where

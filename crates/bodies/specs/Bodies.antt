@@ -10,7 +10,7 @@ use Rattle.numbers.specs.Refusals.{unreadable}
 use Rattle.numbers.specs.Signs.{closing-brace, opening-brace, semicolon}
 use Rattle.linker_script.specs.declared.Found.{Found}
 use Rattle.linker_script.specs.declared.Found.the-variants.{Here, Nowhere}
-use Rattle.linker_script.specs.Finding.{first-from, is}
+use Rattle.linker_script.specs.Finding.{behind, first-from, is}
 use Rattle.tokens.specs.Tokens.{stands-at, name-end}
 use Rattle.cursors.specs.declared.Cursor.{Cursor}
 use Rattle.cursors.specs.declared.Event.the-variants.{Node, Body, Section, Parent}
@@ -63,8 +63,8 @@ sole-end s p = skipping s p (λ q. expecting semicolon s q (λ r. end-behind s r
 -- at the place p, where no `}` stands; an extern block goes on at `inner`
 unfoldable pub inside-body : Cursor → List ℕ → ℕ → ℕ → Step
 inside-body c s inner p =
-    cond (stands-at global-word s p) (Go (Section global) (moved (in-section c global) (c .place) (p + 7)))
-    (cond (stands-at local-word s p) (Go (Section local) (moved (in-section c local) (c .place) (p + 6)))
+    cond (stands-at global-word s p) (Go (Section global) (moved (in-section c global) (c .place) (behind global-word p)))
+    (cond (stands-at local-word s p) (Go (Section local) (moved (in-section c local) (c .place) (behind local-word p)))
     (matcher c s inner (c .place) p))
 
 unfoldable pub body-at : Cursor → List ℕ → ℕ → Step
@@ -75,4 +75,4 @@ sole-at c s p = cond (eqb (getD s p 0) closing-brace) (sole-end s (p + 1)) (insi
 
 -- ---- "Export list: skip, `{`, matchers, `};` with nothing between, skip, end. Section words mean nothing there."
 unfoldable pub list-at : Cursor → List ℕ → ℕ → Step
-list-at c s p = cond (stands-at close-word s p) (end-behind s (p + 2)) (matcher c s in-list-extern in-list p)
+list-at c s p = cond (stands-at close-word s p) (end-behind s (behind close-word p)) (matcher c s in-list-extern in-list p)

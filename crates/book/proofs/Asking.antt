@@ -8,7 +8,8 @@ use borrow.Author.Tests.{not-true, not-false}
 use lib.ListN.{length}
 use Rattle.numbers.specs.Limits.{node-limit}
 use Rattle.lists.proofs.Tests.{both}
-use Rattle.packing.specs.Tables.{every, packs}
+use Rattle.lists.specs.Each.{every}
+use Rattle.packing.specs.Tables.{packs}
 use Rattle.packing.proofs.Packings.{is-packs}
 use Rattle.book.specs.declared.Counts.{Counts}
 use Rattle.book.specs.Books.{Book}

@@ -9,7 +9,8 @@ use borrow.Author.Tests.{leb-true}
 use lib.ListN.{length, drop, getD, take}
 use Rattle.numbers.specs.Limits.{token-limit}
 use Rattle.lists.proofs.Tests.{both}
-use Rattle.packing.specs.Tables.{every, packed, packs, things}
+use Rattle.lists.specs.Each.{every}
+use Rattle.packing.specs.Tables.{packed, packs, things}
 use Rattle.packing.proofs.TableLaws.{every-at}
 use Rattle.packing.proofs.Packings.{Packs, packs-is, row-cell, bytes-at, bytes-room}
 use Rattle.book.specs.Books.{Line, no-line}

@@ -12,7 +12,8 @@ use lib.ListN.{length}
 use Rattle.numbers.specs.Limits.{edit-limit, line-limit, node-limit, pool-limit}
 use Rattle.lists.proofs.Tests.{both}
 use Rattle.packing.specs.Padding.{pad}
-use Rattle.packing.specs.Tables.{every, packed, packs, rows}
+use Rattle.lists.specs.Each.{every}
+use Rattle.packing.specs.Tables.{packed, packs, rows}
 use Rattle.packing.proofs.PaddingLaws.{length-pad}
 use Rattle.packing.proofs.TableLaws.{length-rows}
 use Rattle.packing.proofs.Packings.{Packs, packs-is, is-packs, packs-from, packs-rooms}

@@ -5,7 +5,7 @@ use mathlib.Core.Bool.{Bool, false, cond, _&&_, not}
 use mathlib.Core.Option.{Option, some, none}
 use lib.Dec.{eqb, ltb}
 use lib.ListN.{length, getD, set, take}
-use Rattle.packing.specs.Tables.{every}
+use Rattle.lists.specs.Each.{every}
 use Rattle.book.specs.Books.{Line, Edit, add, no-line}
 
 abbrev pub stands : Line → Bool

@@ -9,7 +9,7 @@ use Rattle.numbers.specs.Limits.{token-limit}
 use Rattle.numbers.specs.Marks.{general, global, is-language, is-section, local}
 use Rattle.numbers.specs.Signs.{semicolon}
 use Rattle.lists.specs.Same.{same}
-use Rattle.packing.specs.Tables.{any, every}
+use Rattle.lists.specs.Each.{any, every}
 use Rattle.linker_script.specs.Skip.{skips}
 use Rattle.pattern.specs.declared.Edition.{Edition}
 use Rattle.pattern.specs.Patterns.{refusal}

@@ -7,7 +7,8 @@ use mathlib.Core.Option.{Option, some, none}
 use lib.Dec.{leb}
 use lib.ListN.{length}
 use Rattle.numbers.specs.Limits.{edit-limit, line-limit, node-limit, pool-limit}
-use Rattle.packing.specs.Tables.{every, packed, packs, things}
+use Rattle.lists.specs.Each.{every}
+use Rattle.packing.specs.Tables.{packed, packs, things}
 use Rattle.book.specs.declared.Counts.{Counts}
 use Rattle.book.specs.Books.{Node, Book}
 use Rattle.book.specs.Layout.{node-form, node-width, line-form, line-width, edit-form, edit-width, Buffers}

@@ -12,7 +12,8 @@ use lib.Seq.{paste}
 use Rattle.numbers.specs.Limits.{node-limit, script-limit}
 use Rattle.numbers.specs.Refusals.{no-room, unknown-parent}
 use Rattle.lists.proofs.Tests.{both, fails}
-use Rattle.packing.specs.Tables.{every, things}
+use Rattle.lists.specs.Each.{every}
+use Rattle.packing.specs.Tables.{things}
 use Rattle.packing.proofs.Packings.{Packs, put-thing, set-thing}
 use Rattle.book.specs.Books.{Node, Line, first-named, no-node, regular}
 use Rattle.book.specs.Layout.{five, line-form, node-form, node-width}

@@ -9,7 +9,8 @@ use lib.Dec.{leb, ltb}
 use Rattle.numbers.specs.Limits.{line-limit, node-limit, pool-limit, script-limit}
 use Rattle.lists.proofs.Tests.{both}
 use Rattle.packing.specs.Padding.{pad}
-use Rattle.packing.specs.Tables.{every, packed, rows, things}
+use Rattle.lists.specs.Each.{every}
+use Rattle.packing.specs.Tables.{packed, rows, things}
 use Rattle.packing.proofs.Packings.{Packs}
 use Rattle.book.specs.Books.{Node, Line, Book, regular}
 use Rattle.book.specs.Layout.{edit-form, five, line-form, node-form}

@@ -3,7 +3,8 @@ use Prim.Native.Nat.{ℕ, _-_}
 use mathlib.Core.List.{List, [], _∷_, _++_}
 use mathlib.Core.Bool.{Bool, true, false, cond, _&&_, _||_, not}
 use lib.Dec.{eqb, ltb}
-use lib.ListN.{length, getD, set, take, drop}
+use lib.ListN.{length, getD, set}
+use Rattle.linker_script.specs.Finding.{part}
 use Rattle.numbers.specs.Classes.{all-class, exact-class}
 use Rattle.numbers.specs.Marks.{global, local}
 use Rattle.numbers.specs.Refusals.{no-room, unknown-parent}
@@ -29,10 +30,6 @@ pub record Building : Type 0 where
 pub data Taken : Type 0 where
   on : Building → Taken
   no : ℕ → ℕ → Taken
-
--- the part of the text s that starts at p and has n bytes
-abbrev pub part : List ℕ → ℕ → ℕ → List ℕ
-part s p n = take n (drop p s)
 
 -- ---- a named node begins: "A node's room is asked after its name"
 abbrev pub with-node : Building → List ℕ → Building

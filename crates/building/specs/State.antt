@@ -6,7 +6,7 @@ use mathlib.Core.Bool.{Bool, true, false, _&&_}
 use lib.Dec.{leb, ltb}
 use lib.ListN.{length}
 use Rattle.numbers.specs.Limits.{script-limit}
-use Rattle.packing.specs.Padding.{zeros}
+use Rattle.packing.specs.Padding.{zeroed}
 use Rattle.storing.specs.Keeping.{keep}
 use Rattle.book.specs.declared.Counts.{Counts}
 use Rattle.book.specs.Books.{edition-of, regular}
@@ -83,11 +83,11 @@ outside-block g = record {
 -- ---- before the first event
 -- a buffer that was cleared
 abbrev pub Clear : List ℕ → Type 0
-Clear l = l ≡ zeros (length l)
+Clear l = l ≡ zeroed l
 
 -- and those that an opening fills, from n m l q
 pub record Cleared (n m l q n′ m′ l′ q′ : List ℕ) : Type 0 where
-  pub nodes : n′ ≡ zeros (length n)
-  pub names : m′ ≡ zeros (length m)
-  pub lines : l′ ≡ zeros (length l)
-  pub pool : q′ ≡ zeros (length q)
+  pub nodes : n′ ≡ zeroed n
+  pub names : m′ ≡ zeroed m
+  pub lines : l′ ≡ zeroed l
+  pub pool : q′ ≡ zeroed q

@@ -5,6 +5,7 @@ use mathlib.Core.List.{List, []}
 use mathlib.Core.Bool.{true}
 use native.Mathlib.Omega.{arith}
 use lib.ListN.{length, take, drop, length-take, length-drop}
+use Rattle.linker_script.specs.Finding.{part}
 use Rattle.numbers.specs.Limits.{node-limit, script-limit}
 use Rattle.packing.specs.Tables.{packs}
 use Rattle.packing.proofs.Packings.{is-packs}
@@ -18,7 +19,7 @@ use Rattle.rooms.proofs.Putting.{room-both}
 use Rattle.building.specs.declared.Progress.{Progress}
 use Rattle.building.specs.declared.Taking.{Taking}
 use Rattle.building.specs.declared.Taking.the-variants.{On}
-use Rattle.building.specs.Building.{part, take-event}
+use Rattle.building.specs.Building.{take-event}
 use Rattle.building.specs.State.{Took, Took-line, Took-node, Took-parent, building, built, inside-block, outside-block}
 use Rattle.building.proofs.States.{is-state, nodes-of}
 use Rattle.building_events.specs.Events.{Lies}

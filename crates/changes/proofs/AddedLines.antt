@@ -11,7 +11,8 @@ use lib.ListN.{length, length-append}
 use Rattle.numbers.specs.Limits.{edit-limit, line-limit, pool-limit}
 use Rattle.numbers.specs.Marks.{global}
 use Rattle.lists.proofs.Tests.{both}
-use Rattle.packing.specs.Tables.{every, packed}
+use Rattle.lists.specs.Each.{every}
+use Rattle.packing.specs.Tables.{packed}
 use Rattle.packing.proofs.TableLaws.{every-append, packed-append}
 use Rattle.classes.specs.declared.Class.{Class}
 use Rattle.classes.specs.Classes.{class-number}

@@ -8,6 +8,7 @@ use native.Mathlib.Omega.{arith}
 use lib.Dec.{eqb}
 use lib.ListN.{length, length-append}
 use lib.Seq.{paste}
+use Rattle.linker_script.specs.Finding.{part}
 use Rattle.numbers.specs.Marks.{global}
 use Rattle.lists.proofs.Tests.{both}
 use Rattle.packing.specs.Padding.{pad, zeros}
@@ -27,7 +28,6 @@ use Rattle.book.specs.View.{Fits}
 use Rattle.book.proofs.Forms.{edit-laws, line-laws}
 use Rattle.book.proofs.Views.{Layout, Rooms}
 use Rattle.rooms.specs.Rooms.{edit-room, line-room}
-use Rattle.building.specs.Building.{part}
 use Rattle.building_events.specs.Events.{Lies}
 use Rattle.changes.specs.Changes.{Change, no, to}
 use Rattle.changes.specs.Trial.{append, append-kept, with-line}

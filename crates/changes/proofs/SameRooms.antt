@@ -2,6 +2,7 @@
 use Prim.Native.Nat.{ℕ}
 use mathlib.Core.Path.{_≡_, refl}
 use mathlib.Core.List.{List}
+use Rattle.linker_script.specs.Finding.{part}
 use Rattle.numbers.specs.Marks.{global}
 use Rattle.storing.specs.Keeping.{Keep, kept, refused, keep}
 use Rattle.cursors.specs.declared.Event.{Event}
@@ -11,7 +12,6 @@ use Rattle.book.specs.Books as book
 use Rattle.book.specs.Layout.{Buffers}
 use Rattle.book.proofs.Views.{Rooms}
 use Rattle.rooms.specs.Rooms.{edit-room, line-room}
-use Rattle.building.specs.Building.{part}
 use Rattle.changes.specs.Trial.{append, append-kept}
 use Rattle.changes.specs.Symbols.{add-event}
 

@@ -8,7 +8,8 @@ use native.Mathlib.Omega.{arith}
 use lib.ListN.{length, take, length-append}
 use lib.Seq.{take-suc}
 use Rattle.lists.proofs.Tests.{both}
-use Rattle.packing.specs.Tables.{every, packed}
+use Rattle.lists.specs.Each.{every}
+use Rattle.packing.specs.Tables.{packed}
 use Rattle.book.specs.Books.{Line, no-line}
 use Rattle.book.specs.Edits.{line-at, stands}
 use Rattle.book.specs.Layout.{line-form}

@@ -4,6 +4,7 @@ use mathlib.Core.List.{List, [], _∷_}
 use mathlib.Core.Bool.{Bool, cond}
 use mathlib.Core.Option.{Option, some, none}
 use lib.Dec.{eqb}
+use Rattle.linker_script.specs.Finding.{part}
 use Rattle.numbers.specs.Limits.{over, token-limit}
 use Rattle.numbers.specs.Marks.{global}
 use Rattle.numbers.specs.Refusals.{no-book, too-long, wrong-kind}
@@ -13,7 +14,6 @@ use Rattle.cursors.specs.Places.{at-bare, at-symbol}
 use Rattle.reading.specs.Events.{Outcome, accepted, refused, Reading, reading}
 use Rattle.book.specs.Books.{Book, export}
 use Rattle.book.specs.Layout.{Buffers}
-use Rattle.building.specs.Building.{part}
 use Rattle.changes.specs.Changes.{Change, to, no}
 use Rattle.changes.specs.Trial.{append}
 

@@ -8,7 +8,7 @@ use lib.ListN.{getD, length, take}
 use Rattle.numbers.specs.Marks.{global, is-language, is-section}
 use Rattle.numbers.specs.Refusals.{no-book, no-room, no-such, nothing-to-undo, wrong-kind}
 use Rattle.linker_script.specs.Trim.{trim-end}
-use Rattle.packing.specs.Tables.{every}
+use Rattle.lists.specs.Each.{every}
 use Rattle.classes.specs.Classes.{class-number}
 use Rattle.storing.specs.Keeping.{Keep, keep, kept-where}
 use Rattle.book.specs.Books.{Book, Edit, Line, add, edition-of, export, new-line, no-edits, rust, strike, with-lines}

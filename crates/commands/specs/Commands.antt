@@ -26,20 +26,20 @@ on-blank l p on = cond (eqb (getD l p 0) space) (on (p + 1)) command.Unknown
 -- `add NODE SECTION LANGUAGE TOKEN`: three numbers; the token is the rest of the line after one blank, and may be empty
 unfoldable pub add-command : List ℕ → Command
 add-command l =
-    on-number (number-at l 4) (λ node p. on-blank l p (λ q.
+    on-number (number-at l (length (codes "add "))) (λ node p. on-blank l p (λ q.
     on-number (number-at l q) (λ section r. on-blank l r (λ s.
     on-number (number-at l s) (λ language t. on-blank l t (λ at.
     command.Edits (edit.Add node section language at)))))))
 
 -- `strike LINE`
 unfoldable pub strike-command : List ℕ → Command
-strike-command l = on-number (number-at l 7) (λ line p. cond (eqb p (length l)) (command.Edits (edit.Strike line)) command.Unknown)
+strike-command l = on-number (number-at l (length (codes "strike "))) (λ line p. cond (eqb p (length l)) (command.Edits (edit.Strike line)) command.Unknown)
 
 -- ---- a line: one of the ten commands, or none of them
 -- those that change nothing
 unfoldable pub question-of : List ℕ → Command
 question-of l =
-    cond (begins (codes "ask ") l) (command.Asks (question.Ask 4))
+    cond (begins (codes "ask ") l) (command.Asks (question.Ask (length (codes "ask "))))
     (cond (same l (codes "counts")) (command.Asks question.Counts)
     (cond (same l (codes "lines")) (command.Asks question.Lines)
     (cond (same l (codes "dump")) (command.Asks question.Dump)
@@ -51,6 +51,6 @@ command-of l =
     (cond (begins (codes "strike ") l) (strike-command l)
     (cond (same l (codes "undo")) (command.Edits edit.Undo)
     (cond (same l (codes "settle")) (command.Edits edit.Settle)
-    (cond (begins (codes "symbol ") l) (command.Edits (edit.Symbol 7 false))
-    (cond (begins (codes "symbol! ") l) (command.Edits (edit.Symbol 8 true))
+    (cond (begins (codes "symbol ") l) (command.Edits (edit.Symbol (length (codes "symbol ")) false))
+    (cond (begins (codes "symbol! ") l) (command.Edits (edit.Symbol (length (codes "symbol! ")) true))
     (question-of l))))))

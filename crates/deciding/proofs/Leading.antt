@@ -8,7 +8,8 @@ use native.Mathlib.Omega.{arith}
 use borrow.Author.Count.{below-more}
 use lib.ListN.{length, drop, getD, take}
 use Rattle.lists.proofs.Tests.{fails}
-use Rattle.packing.specs.Tables.{every, packs, things}
+use Rattle.lists.specs.Each.{every}
+use Rattle.packing.specs.Tables.{packs, things}
 use Rattle.pattern.specs.declared.Edition.{Edition}
 use Rattle.book.specs.Books.{Line, edition-of, no-line}
 use Rattle.book.specs.Edits.{line-at}

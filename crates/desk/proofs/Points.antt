@@ -22,7 +22,8 @@ use Rattle.bodies.specs.Bodies.{name-to, node-at, script-at, parent-to, parent-
 use Rattle.reading.specs.Scripts.{opening-at, start-script, go-node, go-body, go-sole, go-list, next-script, next-list, next-symbol, next}
 use Rattle.reading.specs.Events.{reading-within, reading-from, reading}
 use Rattle.packing.specs.Padding.{all-zero, pad, zeros}
-use Rattle.packing.specs.Tables.{any, every, fine, packed, packs, rows, things}
+use Rattle.lists.specs.Each.{any, every}
+use Rattle.packing.specs.Tables.{fine, packed, packs, rows, things}
 use Rattle.book.specs.Books.{first-named}
 use Rattle.book.specs.Edits.{add-back, all-back, journal-fits, strike-back, take-back}
 use Rattle.book.specs.Layout.{Buffers, counts-of, edit-form, edit-width, five, laid-out, line-form, line-width, node-form, node-width}
@@ -46,10 +47,9 @@ use Rattle.rendering.specs.Lines.{asked-line, fields, index-field, symbol-answe
 use Rattle.line_parts.specs.Parts.{digit, digits, number-at, number-of, worth}
 use Rattle.commands.specs.Commands.{add-command, command-of, question-of, strike-command}
 use Rattle.showing.specs.Shown.{buffer-shown, counts-shown, dump-shown, fields-shown, line-shown, lines-shown, numbers-shown}
-use Rattle.answering.specs.Answers.{Step, added, struck, symbols-added, telling, undone}
-use Rattle.answering.specs.Answers as answers
+use Rattle.answering.specs.Answers.{Step, telling}
 use Rattle.asking.specs.Asked.{asked, member-answered, member-line}
-use Rattle.desk_edits.specs.Edits.{edit-step}
+use Rattle.desk_edits.specs.Edits.{done-said, edit-asked, edit-step, said}
 use Rattle.desk_questions.specs.Questions.{question-step}
 use Rattle.desk.specs.Desk.{line-step, step}
 
@@ -158,6 +158,6 @@ unfolding pieces pieces-past sound sound-past same
     asked-line fields index-field symbol-answered symbol-line with-locality
     add-command command-of question-of digit digits number-at number-of strike-command worth
     buffer-shown counts-shown dump-shown fields-shown line-shown lines-shown numbers-shown
-    added asked member-answered member-line struck symbols-added undone answers.settled
-    edit-step question-step line-step step printed-from codes
+    asked member-answered member-line
+    done-said edit-asked edit-step said question-step line-step step printed-from codes
 points = record { script-points = refl; list-points = refl; none-points = refl }

@@ -1,1 +1,2 @@
-mod Edited
+mod Made
+mod Said

@@ -9,7 +9,8 @@ use borrow.Author.Tests.{eq-eqb, ne-eqb}
 use lib.ListN.{length, getD}
 use Rattle.numbers.specs.Limits.{name-limit, node-limit}
 use Rattle.numbers.specs.Refusals.{no-book, wrong-kind}
-use Rattle.packing.specs.Tables.{any, every, packs, things}
+use Rattle.lists.specs.Each.{any, every}
+use Rattle.packing.specs.Tables.{packs, things}
 use Rattle.book.specs.declared.Counts.{Counts}
 use Rattle.book.specs.Books.{Line, edition-of, export, no-line}
 use Rattle.book.specs.Layout.{five, line-form}

@@ -4,7 +4,7 @@ use mathlib.Core.Bool.{false, cond}
 use mathlib.Core.Option.{Option, some, none}
 use lib.Dec.{eqb}
 use Rattle.numbers.specs.Refusals.{no-book, wrong-kind}
-use Rattle.packing.specs.Tables.{any}
+use Rattle.lists.specs.Each.{any}
 use Rattle.book.specs.Books.{Book, edition-of, export}
 use Rattle.ranking.specs.Matching.{Name, line-matches}
 use Rattle.ranking.specs.Names.{name-refusal}

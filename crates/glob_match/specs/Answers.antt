@@ -43,9 +43,13 @@ abbrev pub answer-told : Bool → ℕ
 answer-told true = done 1
 answer-told false = done 0
 
+-- a pattern or a name over its limit
+abbrev pub long-either : List ℕ → List ℕ → Bool
+long-either p n = over token-limit p || over name-limit n
+
 -- the matcher alone, on bytes as they stand: the pattern's and the name's refusals are not asked
 unfoldable pub unasked-told : Edition → List ℕ → List ℕ → ℕ
-unasked-told e p n = cond (over token-limit p || over name-limit n) too-long (answer-told (matches (elements e p) (chars n)))
+unasked-told e p n = cond (long-either p n) too-long (answer-told (matches (elements e p) (chars n)))
 
 -- "Refusals, in order: 1 …, 5, 6, 9" (02, request 08, of the other matcher): the pattern's, then the name's
 unfoldable pub match-when : ℕ → Bool → Bool → ℕ
@@ -53,4 +57,4 @@ match-when r good matched = cond (eqb r 0) (cond good (answer-told matched) name
 
 -- of stored bytes p, not a token, and a name n
 unfoldable pub match-told : Edition → List ℕ → List ℕ → ℕ
-match-told e p n = cond (over token-limit p || over name-limit n) too-long (match-when (refusal e p) (utf8 n) (matches (elements e p) (chars n)))
+match-told e p n = cond (long-either p n) too-long (match-when (refusal e p) (utf8 n) (matches (elements e p) (chars n)))

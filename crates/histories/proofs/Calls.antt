@@ -13,7 +13,7 @@ use Rattle.numbers.specs.Marks.{cxx, global, local}
 use Rattle.numbers.specs.Refusals.{nothing-to-undo}
 use Rattle.lists.proofs.Tests.{both}
 use Rattle.linker_script.specs.Trim.{trim-end}
-use Rattle.packing.specs.Tables.{every}
+use Rattle.lists.specs.Each.{every}
 use Rattle.classes.specs.Classes.{class-number}
 use Rattle.storing.specs.Keeping.{Keep, kept, refused, keep}
 use Rattle.book.specs.Books.{Book, Edit, Line, add, edition-of, export, new-line, rust, strike}

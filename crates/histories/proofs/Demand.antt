@@ -11,7 +11,7 @@ use lib.ListN.{length}
 use Rattle.numbers.specs.Limits.{script-limit}
 use Rattle.numbers.specs.Refusals.{no-room, too-long}
 use Rattle.linker_script.specs.Trim.{trim-end}
-use Rattle.packing.specs.Tables.{every}
+use Rattle.lists.specs.Each.{every}
 use Rattle.classes.specs.declared.Class.{Class}
 use Rattle.storing.specs.Keeping.{kept, keep}
 use Rattle.cursors.specs.declared.Event.{Event}

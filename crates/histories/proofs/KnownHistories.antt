@@ -18,7 +18,8 @@ use Rattle.bodies.specs.Bodies.{name-to, node-at, script-at, parent-to, parent-
 use Rattle.reading.specs.Scripts.{opening-at, start-script, go-node, go-body, go-sole, go-list, next-script, next-list, next-symbol, next}
 use Rattle.reading.specs.Events.{reading-within, reading-from, reading}
 use Rattle.packing.specs.Padding.{all-zero, pad}
-use Rattle.packing.specs.Tables.{any, every, fine, packed, packs, rows, things}
+use Rattle.lists.specs.Each.{any, every}
+use Rattle.packing.specs.Tables.{fine, packed, packs, rows, things}
 use Rattle.book.specs.Books.{first-named}
 use Rattle.book.specs.Edits.{add-back, all-back, journal-fits, strike-back, take-back}
 use Rattle.book.specs.Layout.{counts-of, edit-form, laid-out, line-form, node-form}

@@ -4,7 +4,7 @@ use mathlib.Core.Path.{_≡_, refl, ap, _∙_}
 use mathlib.Core.List.{List, [], _∷_, _++_}
 use mathlib.Core.Bool.{Bool, true, false, _||_}
 use lib.Seq.{append-snoc}
-use Rattle.packing.specs.Tables.{any}
+use Rattle.lists.specs.Each.{any}
 use Rattle.book.specs.Books.{Line}
 use Rattle.book.specs.Edits.{stands}
 use Rattle.ranking.specs.Walk.{Stage, walk}

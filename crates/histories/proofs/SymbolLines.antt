@@ -7,6 +7,7 @@ use mathlib.Core.Option.{some}
 use native.Mathlib.Omega.{arith}
 use lib.Dec.{eqb, ltb}
 use lib.ListN.{length}
+use Rattle.linker_script.specs.Finding.{part}
 use Rattle.numbers.specs.Limits.{token-limit}
 use Rattle.numbers.specs.Marks.{global}
 use Rattle.lists.proofs.Tests.{both}
@@ -25,7 +26,6 @@ use Rattle.book.specs.Books.{Book, Edit, edition-of, export, rust}
 use Rattle.book.specs.Layout.{Buffers}
 use Rattle.book.specs.Sanity.{nodes-good, sane}
 use Rattle.book.proofs.Views.{Rooms}
-use Rattle.building.specs.Building.{part}
 use Rattle.changes.specs.Changes.{Change}
 use Rattle.changes.specs.Trial.{append}
 use Rattle.changes.specs.Symbols.{add-event, add-events, add-reading, on-change, symbol-asked, symbol-place}

@@ -13,7 +13,8 @@ use Rattle.numbers.specs.Classes.{all-class}
 use Rattle.numbers.specs.Limits.{edit-limit}
 use Rattle.numbers.specs.Marks.{local}
 use Rattle.lists.proofs.Tests.{both}
-use Rattle.packing.specs.Tables.{every, packed}
+use Rattle.lists.specs.Each.{every}
+use Rattle.packing.specs.Tables.{packed}
 use Rattle.packing.proofs.TableLaws.{every-append, every-at, every-set, packed-set}
 use Rattle.book.specs.Books.{Book, Edit, Line, add, no-line, rust}
 use Rattle.book.specs.Edits.{all-back, journal-fits, line-at, marked, take-back}

@@ -11,7 +11,7 @@ use Rattle.classes.specs.declared.Class.{Class}
 use Rattle.storing.specs.Keeping.{kept, keep}
 use Rattle.linker_script.specs.Trim.{trim-end}
 use Rattle.book.specs.Books.{Book, Edit, edition-of, rust, with-lines}
-use Rattle.packing.specs.Tables.{every}
+use Rattle.lists.specs.Each.{every}
 use Rattle.book.specs.Edits.{line-at, stands}
 use Rattle.book.specs.Layout.{Buffers, counts-of, laid-out}
 use Rattle.book.specs.View.{view}

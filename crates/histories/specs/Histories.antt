@@ -4,9 +4,10 @@ use Prim.Native.Nat.{ℕ, zero, suc}
 use mathlib.Core.List.{List, [], _∷_, _++_}
 use mathlib.Core.Bool.{Bool, cond}
 use lib.Dec.{eqb}
+use Rattle.linker_script.specs.Finding.{part}
 use Rattle.numbers.specs.Marks.{global}
 use Rattle.linker_script.specs.Trim.{trim-end}
-use Rattle.packing.specs.Tables.{every}
+use Rattle.lists.specs.Each.{every}
 use Rattle.pattern.specs.declared.Edition.{Edition}
 use Rattle.classes.specs.Classes.{class-number}
 use Rattle.storing.specs.Keeping.{Keep, kept, refused, keep}
@@ -18,7 +19,6 @@ use Rattle.book.specs.Books.{Line, new-line}
 use Rattle.book.specs.Edits.{marked-at, stands}
 use Rattle.book.specs.Layout.{Buffers}
 use Rattle.book.specs.View.{view}
-use Rattle.building.specs.Building.{part}
 use Rattle.changes.specs.Changes.{Change, after, counts-after, edit-refusal, edited}
 use Rattle.changes.specs.Trial.{add-asked, settle-asked, standing, strike-asked, undo-asked}
 use Rattle.changes.specs.Symbols.{symbol-asked, symbol-place}

@@ -12,7 +12,8 @@ use lib.Dec.{eqb, ltb}
 use lib.ListN.{length, take, drop, getD, set, length-set, drop-of-length-le}
 use lib.Seq.{drop-cons, getD-drop, take-suc, take-all}
 use Rattle.packing.specs.Padding.{all-zero, zeros}
-use Rattle.packing.specs.Tables.{Form, every, fine, packs, things}
+use Rattle.lists.specs.Each.{every}
+use Rattle.packing.specs.Tables.{Form, fine, packs, things}
 use Rattle.packing.proofs.Turns.{left, left-all, thing-bad, row-more, end-good, packs-no, packs-rows}
 use Rattle.book.specs.Books.{Line, Edit, no-line}
 use Rattle.book.specs.Layout.{edit-form, line-form}
@@ -71,7 +72,7 @@ module _ (l : List ℕ) (n : ℕ) where
   edits-short h = packs-no edit-form edit-laws n 0 l [] (λ t. omega (arith, t .rowroom))
 
   pub edits-left : (r : Bool) → r ≡ fine edit-form edit-ok 0 n 0 l [] → r ≡ packs edit-form edit-ok n 0 l []
-  unfolding all-zero
+  unfolding all-zero every
   edits-left r q = packs-rows edit-form edit-laws n 0 l [] true r (omega arith) refl refl q
 
 -- ---- lines that stand again

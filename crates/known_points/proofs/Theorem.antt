@@ -18,7 +18,8 @@ use Rattle.reading.specs.Scripts.{opening-at, start-script, go-node, go-body, g
 use Rattle.reading.specs.Events.{reading-within, reading-from, reading}
 use Rattle.lists.specs.Same.{same}
 use Rattle.packing.specs.Padding.{all-zero, pad}
-use Rattle.packing.specs.Tables.{every, fine, packed, packs, rows, things}
+use Rattle.lists.specs.Each.{any, every}
+use Rattle.packing.specs.Tables.{fine, packed, packs, rows, things}
 use Rattle.book.specs.Books.{first-named}
 use Rattle.book.specs.Edits.{all-back, journal-fits}
 use Rattle.book.specs.Layout.{counts-of, edit-form, laid-out, line-form, node-form}
@@ -51,7 +52,7 @@ unfolding pieces pieces-past sound sound-past
     name-to node-at script-at parent-to parent-at node-end sole-end inside-body body-at sole-at list-at opening-at
     start-script go-node go-body go-sole go-list next-script next-list next-symbol next
     reading-within reading-from reading
-    same all-zero pad every fine packed packs rows things
+    same all-zero pad any every fine packed packs rows things
     first-named all-back journal-fits counts-of edit-form laid-out line-form node-form
     content-good glob-stands in-range kind-allows kind-good line-ok name-good named-good nodes-good parent-good sane
     book-of laid view within-limits view.holds

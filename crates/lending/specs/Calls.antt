@@ -9,12 +9,12 @@ use lib.Dec.{eqb}
 use lib.ListN.{length, getD, set}
 use Rattle.numbers.specs.Limits.{node-limit, over, script-limit}
 use Rattle.numbers.specs.Refusals.{no-room, too-long}
-use Rattle.packing.specs.Padding.{zeros}
+use Rattle.packing.specs.Padding.{zeroed}
 use Rattle.book.specs.declared.Counts.{Counts}
 use Rattle.book.specs.Books.{Book}
 use Rattle.book.specs.Layout.{Buffers, counts-of}
 use Rattle.book.specs.View.{view}
-use Rattle.opening.specs.Opening.{Opening, opens, declined, left, opening}
+use Rattle.opening.specs.Opening.{Opening, opens, declined, left, opening, told}
 use Rattle.changes.specs.declared.Edited.{Edited}
 use Rattle.changes.specs.declared.Edited.the-variants as answer
 use Rattle.changes.specs.Changes.{Change, to, no, after, edit-refusal, edited}
@@ -54,13 +54,12 @@ opening-with place l b s = cond (over script-limit s) (declined too-long 0) (con
 
 -- 0, or the number with 256 times its place
 unfoldable pub opening-told : Opening → ℕ
-opening-told (opens w) = 0
-opening-told (declined n p) = n + 256 * p
+opening-told o = told o .refusal + 256 * told o .place
 
 -- the counts, or zeros
 unfoldable pub counts-left : List ℕ → Opening → List ℕ
 counts-left l (opens w) = counts-row (counts-of w)
-counts-left l (declined n p) = zeros (length l)
+counts-left l (declined n p) = zeroed l
 
 -- what an opening of the text s leaves: r answered, the counts l′ and the buffers b′
 unfoldable pub Opens : ℕ → List ℕ → Buffers → List ℕ → ℕ → List ℕ → Buffers → Type 0

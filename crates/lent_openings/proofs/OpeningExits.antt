@@ -25,7 +25,7 @@ module _ (place : ℕ) (l : List ℕ) (b : Buffers) (s : List ℕ) where
   -- ---- counts that are not six numbers: all is cleared
   pub uncounted : (length l ≡ 6 → ⊥) → (r : ℕ) (l′ : List ℕ) (b′ : Buffers) → r ≡ cond (ltb script-limit (length s)) too-long no-room
       → l′ ≡ zeros (length l) → b′ ≡ cleared b → Opens place l b s r l′ b′
-  unfolding Opens opening-with opening-told counts-left left
+  unfolding Opens opening-with opening-told told counts-left left
   uncounted h r l′ b′ x y z = rw (ne-eqb (length l) 6 h) (go (ltb script-limit (length s)) x)
     where
       go : (t : Bool) → r ≡ cond t too-long no-room → Tells l b (cond t (declined too-long 0) (declined no-room 0)) r l′ b′

@@ -6,7 +6,7 @@ ghost use mathlib.Core.Bool.{cond};
 ghost use lib.ListN.{length};
 ghost use Rattle.numbers.specs.Limits.{over, script-limit};
 ghost use Rattle.numbers.specs.Refusals.{no-room, too-long};
-ghost use Rattle.packing.specs.Padding.{zeros};
+ghost use Rattle.packing.specs.Padding.{zeroed};
 ghost use Rattle.book.specs.Layout.{five};
 ghost use Rattle.opening.specs.Opening.{cleared};
 ghost use Rattle.lending.specs.Calls.{Opens, counts-put};
@@ -28,7 +28,7 @@ fn clear_all(
     pool: &mut [u8],
     journal: &mut [u32],
 )
-    ensures { λ _. ⌜ (now (counts .exit) ≡ zeros (length (now (counts .entry))))
+    ensures { λ _. ⌜ (now (counts .exit) ≡ zeroed (now (counts .entry)))
         × (five (now (nodes .exit)) (now (names .exit)) (now (lines .exit)) (now (pool .exit)) (now (journal .exit))
         ≡ cleared (five (now (nodes .entry)) (now (names .entry)) (now (lines .entry)) (now (pool .entry)) (now (journal .entry)))) ⌝ }
 {

@@ -11,7 +11,8 @@ use borrow.Author.Tests.{eq-eqb, ne-eqb, not-true, not-false}
 use lib.ListN.{length, take, drop, getD, drop-of-length-le}
 use lib.Seq.{drop-cons, getD-drop}
 use Rattle.packing.specs.Padding.{all-zero}
-use Rattle.packing.specs.Tables.{Form, any, fine, packs, things}
+use Rattle.lists.specs.Each.{any}
+use Rattle.packing.specs.Tables.{Form, fine, packs, things}
 use Rattle.packing.proofs.Turns.{left, starts-at, size-at, thing-at, left-all, row-bad, size-bad, thing-bad, row-more, end-bad, end-good, packs-no, packs-zero, packs-rows}
 use Rattle.book.specs.Books.{Line, no-line}
 use Rattle.book.specs.Layout.{line-form, line-of}

@@ -31,7 +31,7 @@ use Rattle.counting.specs.Questions.{counted, parent-count, version-count}
 use Rattle.input.specs.Splitting.{lines-in}
 use Rattle.printing.specs.Printing.{Begins, Puts, refused-line}
 use Rattle.printing.proofs.Digits.{few-digits}
-use Rattle.printing.proofs.Pieces.{begins-front, puts-both}
+use Rattle.printing.proofs.Pieces.{begins-front, few-numbered, puts-both}
 use Rattle.rendering.specs.Lines.{counts-answered, counts-line}
 use Rattle.rendering.proofs.Rendered.{Rendered, rendered-some}
 use Rattle.listing_symbols.specs.SymbolLines.{answers}
@@ -44,6 +44,7 @@ told-as n refusal place = record { length = n; refusal = refusal; place = place 
 
 pub refused-listed : (n place : ℕ) (d l : List ℕ) (r : ℕ) → 48 ≤ length d → Rendered 0 (refused-line n) d l r
     → (told-as r n place ≡ with-refusal (length (refused-line n)) (declined n place)) × (l ≡ front (refused-line n) d)
+unfolding told
 refused-listed n place d l r h p =
     let z = rendered-some 0 (refused-line n) d l r h p in
     (ap (λ (k : ℕ). told-as k n place) (z .0), z .1)
@@ -62,7 +63,7 @@ all-cleared n m l p j n′ m′ l′ p′ j′ e f g h k = λ i. five (e i) (f i
 -- ---- lengths
 refused-few : (n : ℕ) → length (refused-line n) ≤ 19
 unfolding refused-line codes
-refused-few n = simp length-append (omega (arith, few-digits n))
+refused-few n = few-numbered (codes "refused") n
 
 counts-line-few : (x y : Count) → length (counts-line x y) ≤ 36
 unfolding counts-line codes
@@ -154,12 +155,7 @@ module _ (b : Buffers) (s : List ℕ) (x : Opened) (e : x ≡ told (opening at-s
             rw (z, ne-eqb n 0 (λ (k : n ≡ 0). omega arith))
 
     script-told : (n : ℕ) → told-as n (x .refusal) (x .place) ≡ with-refusal n (opening at-script b s)
-    unfolding told
-    script-told n = go (opening at-script b s) e
-      where
-        go : (o : Opening) → x ≡ told o → told-as n (x .refusal) (x .place) ≡ with-refusal n o
-        go (opens w) g = ap (λ (y : Opened). told-as n (y .refusal) (y .place)) g
-        go (declined m p) g = ap (λ (y : Opened). told-as n (y .refusal) (y .place)) g
+    script-told n = ap (λ (y : Opened). told-as n (y .refusal) (y .place)) e
 
     pub script-listed : (l : List ℕ) (n : ℕ) → Begins d (opened-printed (x .refusal) (view (x .counts) b′) symbols) l n
         → Prints b (opening at-script b s) symbols d b′ l (told-as n (x .refusal) (x .place))

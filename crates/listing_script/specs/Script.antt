@@ -9,7 +9,7 @@ use lib.ListN.{length}
 use Rattle.lists.specs.Front.{front}
 use Rattle.book.specs.Books.{Book}
 use Rattle.book.specs.Layout.{Buffers}
-use Rattle.opening.specs.Opening.{Opening, opens, declined, left}
+use Rattle.opening.specs.Opening.{Opening, opens, declined, left, told}
 use Rattle.listing_script.specs.declared.Listed.{Listed}
 use Rattle.input.specs.Splitting.{lines-in}
 use Rattle.printing.specs.Printing.{refused-line}
@@ -31,8 +31,7 @@ opened-printed refusal w symbols = cond (eqb refusal 0) (book-printed w symbols)
 
 -- how many bytes are printed, and the script's refusal with its place, or 0
 abbrev pub with-refusal : ℕ → Opening → Listed
-with-refusal n (opens w) = record { length = n; refusal = 0; place = 0 }
-with-refusal n (declined m p) = record { length = n; refusal = m; place = p }
+with-refusal n o = record { length = n; refusal = told o .refusal; place = told o .place }
 
 -- the same of what is printed for an opening
 abbrev pub printed-told : Opening → List ℕ → Listed

@@ -12,7 +12,8 @@ use lib.ListN.{drop, getD, take, drop-of-length-le}
 use lib.Seq.{drop-cons}
 use Rattle.numbers.specs.Marks.{global}
 use Rattle.lists.specs.Same.{same}
-use Rattle.packing.specs.Tables.{any, packs, things}
+use Rattle.lists.specs.Each.{any}
+use Rattle.packing.specs.Tables.{packs, things}
 use Rattle.book.specs.Books.{Line, no-line}
 use Rattle.book.specs.Layout.{line-form}
 use Rattle.book.specs.Sanity.{line-ok}

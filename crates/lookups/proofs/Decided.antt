@@ -8,7 +8,8 @@ use native.Mathlib.Omega.{arith}
 use borrow.Author.Tests.{eq-eqb, ne-eqb}
 use lib.ListN.{getD}
 use Rattle.numbers.specs.Limits.{node-limit}
-use Rattle.packing.specs.Tables.{every, packs, things}
+use Rattle.lists.specs.Each.{every}
+use Rattle.packing.specs.Tables.{packs, things}
 use Rattle.book.specs.Books.{Line, edition-of, no-line}
 use Rattle.book.specs.Layout.{line-form}
 use Rattle.book.specs.Sanity.{in-range, line-ok}

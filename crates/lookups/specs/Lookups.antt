@@ -8,7 +8,7 @@ use Rattle.numbers.specs.Limits.{over, version-limit}
 use Rattle.numbers.specs.Marks.{global}
 use Rattle.numbers.specs.Refusals.{no-book, unknown-version, wrong-kind}
 use Rattle.lists.specs.Same.{same}
-use Rattle.packing.specs.Tables.{any}
+use Rattle.lists.specs.Each.{any}
 use Rattle.book.specs.Books.{Node, Line, Book, export, rust}
 use Rattle.book.specs.Edits.{line-at}
 use Rattle.ranking.specs.Matching.{Name}

@@ -1,10 +1,11 @@
 -- Matchers, as 01 has them under 'Reading'. Here p, q and r are places of the text, and `place` and `inner` places of the grammar (cursors/specs/Places.antt):
 -- where the reading goes on. Assumes nothing.
 use Prim.Native.Nat.{ℕ, _+_}
-use mathlib.Core.List.{List, [], _∷_}
+use mathlib.Core.List.{List, [], _∷_, _++_}
 use mathlib.Core.Bool.{cond}
 use lib.Dec.{eqb}
 use lib.ListN.{length, getD}
+use Rattle.linker_script.specs.Finding.{behind}
 use Rattle.numbers.specs.Marks.{cxx, general}
 use Rattle.numbers.specs.Refusals.{bad-extern}
 use Rattle.numbers.specs.Signs.{closing-brace, opening-brace, quote, semicolon, space}
@@ -55,15 +56,15 @@ extern-open c s place language p =
 -- "`extern ` (one space), then `"C++"` or `"C"`": else refused 4; p is the place of `extern `
 unfoldable pub extern-at : Cursor → List ℕ → ℕ → ℕ → Step
 extern-at c s place p =
-    cond (stands-at cxx-word s (p + 7)) (extern-open c s place cxx (p + 12))
-    (cond (stands-at c-word s (p + 7)) (extern-open c s place general (p + 10))
+    cond (stands-at cxx-word s (behind extern-word p)) (extern-open c s place cxx (behind (extern-word ++ cxx-word) p))
+    (cond (stands-at c-word s (behind extern-word p)) (extern-open c s place general (behind (extern-word ++ c-word) p))
     (Refused bad-extern p))
 
 -- "In … an extern block a skip stands before each … token and before the closing `};`"; "`};`, skip"; "`extern ` within it is refused 4 at once";
 -- behind the block the reading goes on at `place`, and e is the end of the token at p
 unfoldable pub extern-inside : Cursor → List ℕ → ℕ → ℕ → TokenEnd → Step
 extern-inside c s place p e =
-    cond (stands-at close-word s p) (skipping s (p + 2) (λ r. Go Closed (moved (in-language c general) place r)))
+    cond (stands-at close-word s p) (skipping s (behind close-word p) (λ r. Go Closed (moved (in-language c general) place r)))
     (cond (stands-at extern-word s p) (Refused bad-extern p)
     (line-to c s (c .place) p e))
 

@@ -14,7 +14,8 @@ use lib.Seq.{drop-cons, getD-drop, length-take-le}
 use Rattle.numbers.specs.Signs.{asterisk, carriage-return, hash, line-feed, slash, space, tab}
 use Rattle.lists.proofs.Tests.{both, first-fails, passes-on}
 use Rattle.packing.specs.Padding.{all-zero}
-use Rattle.packing.specs.Tables.{every, fine, packs, things}
+use Rattle.lists.specs.Each.{every}
+use Rattle.packing.specs.Tables.{fine, packs, things}
 use Rattle.packing.proofs.Turns.{left, left-all, starts-at, size-at, row-bad, size-bad, row-more, end-bad, end-good, packs-no, packs-zero, packs-rows}
 use Rattle.linker_script.specs.Skip.{blank, skips}
 use Rattle.tokens.specs.Tokens.{named}

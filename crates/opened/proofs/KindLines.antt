@@ -11,7 +11,8 @@ use lib.ListN.{length}
 use Rattle.numbers.specs.Classes.{all-class, exact-class}
 use Rattle.numbers.specs.Marks.{global, local}
 use Rattle.lists.proofs.Tests.{both}
-use Rattle.packing.specs.Tables.{any, every, packed, rows}
+use Rattle.lists.specs.Each.{any, every}
+use Rattle.packing.specs.Tables.{packed, rows}
 use Rattle.packing.proofs.TableLaws.{every-append}
 use Rattle.book.specs.Books.{Node, Line, Book, regular, rust}
 use Rattle.book.specs.Layout.{Buffers, edit-form}

@@ -11,8 +11,9 @@ use borrow.Author.Tests.{eq-eqb, ne-eqb, lt-ltb}
 use lib.Dec.{eqb}
 use lib.ListN.{length, getD, set, drop, length-append, length-drop, length-set, length-take, List·getD-append, List·getD-eq-default}
 use lib.Seq.{getD-append-seam, getD-drop, getD-set-other, getD-set-same, getD-take}
+use Rattle.linker_script.specs.Finding.{part}
 use Rattle.numbers.specs.Signs.{asterisk, carriage-return, slash}
-use Rattle.packing.specs.Tables.{every}
+use Rattle.lists.specs.Each.{every}
 use Rattle.packing.proofs.TableLaws.{every-from}
 use Rattle.linker_script.specs.Skip.{skips}
 use Rattle.comments.proofs.Skipping.{Stopped}
@@ -21,7 +22,6 @@ use Rattle.reading.proofs.Origins.{Named}
 use Rattle.book.specs.Books.{Node, first-named, no-node}
 use Rattle.book.specs.Sanity.{name-good, named-good, no-semicolon, nodes-good, parent-good}
 use Rattle.book.proofs.FirstNamed.{first-front, first-has, first-set, name-set}
-use Rattle.building.specs.Building.{part}
 
 -- ---- a part of the text
 module _ (s : List ℕ) (p n : ℕ) where

@@ -11,7 +11,7 @@ use lib.ListN.{length}
 use Rattle.numbers.specs.Limits.{script-limit}
 use Rattle.numbers.specs.Refusals.{no-room, too-long}
 use Rattle.lists.proofs.Tests.{both}
-use Rattle.packing.specs.Tables.{every}
+use Rattle.lists.specs.Each.{every}
 use Rattle.cursors.specs.declared.Cursor.{Cursor}
 use Rattle.cursors.specs.declared.Step.{Step}
 use Rattle.cursors.specs.declared.Step.the-variants.{Go, End, Refused}

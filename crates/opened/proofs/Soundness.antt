@@ -8,9 +8,10 @@ use native.Mathlib.Omega.{arith}
 use borrow.Author.Tests.{eq-eqb, le-ltb, ltb-true, ltb-false}
 use lib.Dec.{eqb, ltb}
 use lib.ListN.{length, getD, set, length-append, length-set}
+use Rattle.linker_script.specs.Finding.{part}
 use Rattle.numbers.specs.Marks.{general, global}
 use Rattle.numbers.specs.Signs.{semicolon}
-use Rattle.packing.specs.Tables.{every}
+use Rattle.lists.specs.Each.{every}
 use Rattle.packing.proofs.TableLaws.{every-append}
 use Rattle.classes.specs.Classes.{class-number}
 use Rattle.storing.specs.Keeping.{Keep, kept, refused, keep}
@@ -26,7 +27,7 @@ use Rattle.book.specs.Edits.{stands}
 use Rattle.book.specs.Layout.{Buffers, node-width}
 use Rattle.book.specs.Sanity.{kind-allows, line-ok, name-good, no-semicolon}
 use Rattle.rooms.specs.Rooms.{line-room, node-room}
-use Rattle.building.specs.Building.{Building, Taken, on, no, in-block, out-of-block, part, take-event, take-kept, take-node, take-parent}
+use Rattle.building.specs.Building.{Building, Taken, on, no, in-block, out-of-block, take-event, take-kept, take-node, take-parent}
 use Rattle.opening.specs.Opening.{nothing-yet}
 use Rattle.building_lines.proofs.Kept.{kept-line}
 use Rattle.building.proofs.NodeEvents.{every-more}

@@ -3,6 +3,7 @@ use Prim.Native.Nat.{ℕ}
 use mathlib.Core.Path.{_≡_, refl, ap, _∙_}
 use mathlib.Core.List.{List, [], _∷_}
 use lib.ListN.{length}
+use Rattle.linker_script.specs.Finding.{part}
 use Rattle.storing.specs.Keeping.{Keep, kept, refused, keep}
 use Rattle.cursors.specs.declared.Event.{Event}
 use Rattle.cursors.specs.declared.Event.the-variants.{Node, Body, Section, Extern, Closed, Line, Parent}
@@ -11,7 +12,7 @@ use Rattle.reading.proofs.Parts.{Parts, node, body, section as section-word, ex
 use Rattle.book.specs.Books.{edition-of, regular}
 use Rattle.book.specs.Layout.{Buffers}
 use Rattle.rooms.specs.Rooms.{line-room, node-room}
-use Rattle.building.specs.Building.{Building, Taken, on, no, part, take-event, take-kept, take-node}
+use Rattle.building.specs.Building.{Building, Taken, on, no, take-event, take-kept, take-node}
 use Rattle.building_events.specs.Events.{Lies}
 use Rattle.opening.specs.Opening.{Opening, build, build-reading, nothing-yet, on-taken, opening}
 

@@ -6,6 +6,7 @@ use mathlib.Core.Bool.{Bool, true, false, cond}
 use native.Mathlib.Omega.{arith}
 use lib.Dec.{leb, ltb}
 use lib.ListN.{length}
+use Rattle.linker_script.specs.Finding.{part}
 use Rattle.numbers.specs.Limits.{script-limit}
 use Rattle.numbers.specs.Refusals.{no-room, too-long, unknown-parent}
 use Rattle.storing.specs.Keeping.{Keep, kept, refused, keep}
@@ -23,7 +24,7 @@ use Rattle.reading.proofs.Refusals.{standing-refuses}
 use Rattle.book.specs.Books.{edition-of, first-named, regular}
 use Rattle.book.specs.Layout.{Buffers, node-width}
 use Rattle.rooms.specs.Rooms.{line-room, node-room}
-use Rattle.building.specs.Building.{Building, Taken, no, on, part, take-event, take-kept, take-node, take-parent}
+use Rattle.building.specs.Building.{Building, Taken, no, on, take-event, take-kept, take-node, take-parent}
 use Rattle.building_events.specs.Events.{Lies}
 use Rattle.opening.specs.Opening.{Opening, build, build-reading, declined, nothing-yet, on-taken, opening, opens}
 use Rattle.opening.proofs.EachEvent.{parts-lie}

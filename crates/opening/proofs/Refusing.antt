@@ -7,6 +7,7 @@ use native.Mathlib.Omega.{arith}
 use borrow.Author.Tests.{eqb-true}
 use lib.Dec.{eqb, leb, ltb}
 use lib.ListN.{length}
+use Rattle.linker_script.specs.Finding.{part}
 use Rattle.numbers.specs.Limits.{over, script-limit, token-limit}
 use Rattle.numbers.specs.Refusals.{bad-extern, bad-pattern, glob-not-utf8, no-room, too-long, unclosed, unknown-parent, unreadable}
 use Rattle.utf8.specs.Utf8.{chars, utf8}
@@ -25,7 +26,7 @@ use Rattle.reading.proofs.Refusals.{of-reader, reading-refuses}
 use Rattle.book.specs.Books.{edition-of, first-named, regular}
 use Rattle.book.specs.Layout.{Buffers, node-width}
 use Rattle.rooms.specs.Rooms.{line-room, node-room}
-use Rattle.building.specs.Building.{Building, Taken, no, on, part, take-event, take-kept, take-node, take-parent}
+use Rattle.building.specs.Building.{Building, Taken, no, on, take-event, take-kept, take-node, take-parent}
 use Rattle.opening.specs.Opening.{Opening, build, build-reading, declined, ended, nothing-yet, on-taken, opening, opens}
 
 -- a number of a refused opening

@@ -6,7 +6,8 @@ use mathlib.Core.Bool.{true, false}
 use native.Mathlib.Omega.{arith}
 use lib.ListN.{length}
 use Rattle.packing.specs.Padding.{pad, zeros}
-use Rattle.packing.specs.Tables.{every, packed, rows}
+use Rattle.lists.specs.Each.{every}
+use Rattle.packing.specs.Tables.{packed, rows}
 use Rattle.packing.proofs.PaddingLaws.{pad-nil}
 use Rattle.packing.proofs.Packings.{packs-from}
 use Rattle.book.specs.declared.Counts.{Counts}

@@ -7,7 +7,7 @@ use lib.Dec.{eqb, leb}
 use lib.ListN.{length}
 use Rattle.numbers.specs.Limits.{over, script-limit}
 use Rattle.numbers.specs.Refusals.{no-room, too-long}
-use Rattle.packing.specs.Padding.{zeros}
+use Rattle.packing.specs.Padding.{zeroed}
 use Rattle.cursors.specs.declared.Event.{Event}
 use Rattle.cursors.specs.Places.{at-list}
 use Rattle.reading.specs.Events.{Outcome, accepted, refused, Reading, reading}
@@ -77,11 +77,11 @@ told (declined n p) = record { refusal = n; place = p; counts = no-counts }
 
 unfoldable pub cleared : Buffers → Buffers
 cleared b = record {
-  nodes = zeros (length (b .nodes));
-  names = zeros (length (b .names));
-  lines = zeros (length (b .lines));
-  pool = zeros (length (b .pool));
-  journal = zeros (length (b .journal));
+  nodes = zeroed (b .nodes);
+  names = zeroed (b .names);
+  lines = zeroed (b .lines);
+  pool = zeroed (b .pool);
+  journal = zeroed (b .journal);
 }
 
 unfoldable pub left : Buffers → Opening → Buffers

@@ -10,6 +10,7 @@ use native.Mathlib.Omega.{arith}
 use borrow.Author.Tests.{ne-eqb}
 use lib.ListN.{length, drop, getD, set, length-replicate, getD-replicate, drop-of-length-le}
 use lib.Seq.{drop-cons, drop-length, take-all}
+use Rattle.lists.specs.Each.{every}
 use Rattle.lists.specs.Same.{same}
 use Rattle.lists.proofs.SameLaws.{same-equal, same-refl}
 use Rattle.lists.proofs.Tests.{fails}
@@ -44,17 +45,17 @@ module _ (d l : List ℕ) (i : ℕ) (z : Cleared d l i) where
 module _ (s : List ℕ) (from i : ℕ) (z : all-zero (drop from s) ≡ all-zero (drop i s)) where
   -- a number that is not zero answers no
   pub zero-stops : i < length s → (getD s i 0 ≡ 0 → ⊥) → false ≡ all-zero (drop from s)
-  unfolding all-zero
+  unfolding all-zero every
   zero-stops h f = sym (z ∙ rw (drop-cons s i 0 h, ne-eqb (getD s i 0) 0 f))
 
   -- behind a zero the rest decides
   pub zero-more : i < length s → getD s i 0 ≡ 0 → all-zero (drop from s) ≡ all-zero (drop (i + 1) s)
-  unfolding all-zero
+  unfolding all-zero every
   zero-more h e = z ∙ rw (add-one, drop-cons s i 0 h, e)
 
   -- at the end the answer is yes
   pub zero-ends : length s ≤ i → true ≡ all-zero (drop from s)
-  unfolding all-zero
+  unfolding all-zero every
   zero-ends h = sym (z ∙ rw (drop-of-length-le s h))
 
 -- ---- whether two lists are the same: lists of one length that are equal from i on

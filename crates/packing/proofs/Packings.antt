@@ -13,7 +13,8 @@ use lib.ListN.{length, take, drop, getD, set, length-append, length-set, List·g
 use lib.Seq.{paste, take-suc, split-at, take-append-seam, drop-append-seam, getD-append-add, length-take-le, take-set-le, drop-set-lt, getD-set-same, set-append-left}
 use Rattle.lists.proofs.Tests.{both}
 use Rattle.packing.specs.Padding.{zeros, pad, all-zero}
-use Rattle.packing.specs.Tables.{Form, rows, packed, things, fine, packs, every}
+use Rattle.lists.specs.Each.{every}
+use Rattle.packing.specs.Tables.{Form, rows, packed, things, fine, packs}
 use Rattle.packing.proofs.PaddingLaws.{length-pad, pad-rest, pad-split, pad-fits, pad-put, pad-unput}
 use Rattle.packing.proofs.TableLaws.{Laws, every-append, every-front, every-set, rows-append, packed-append, packed-set, length-rows, rows-fine, rows-things, fine-laid}
 

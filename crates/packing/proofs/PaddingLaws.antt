@@ -10,6 +10,7 @@ use borrow.Author.Tests.{eqb-true}
 use lib.Dec.{eqb}
 use lib.ListN.{length, take, drop, length-append, length-replicate, length-drop, take-append-drop, replicate-append-replicate}
 use lib.Seq.{paste, drop-paste, take-append-seam, drop-append-seam, drop-append-add, drop-drop, take-length, length-take-le}
+use Rattle.lists.specs.Each.{every}
 use Rattle.lists.proofs.Tests.{both}
 use Rattle.packing.specs.Padding.{zeros, pad, all-zero}
 
@@ -53,13 +54,13 @@ pad-fits l xs e = omega (arith, ap length e ∙ length-append xs (zeros (length 
 
 -- zeros are all zero
 pub all-zero-zeros : (n : ℕ) → all-zero (zeros n) ≡ true
-unfolding all-zero
+unfolding all-zero every
 all-zero-zeros zero = refl
 all-zero-zeros (suc n) = all-zero-zeros n
 
 -- what is all zero is zeros
 pub all-zero-is : (xs : List ℕ) → all-zero xs ≡ true → xs ≡ zeros (length xs)
-unfolding all-zero
+unfolding all-zero every
 all-zero-is [] e = refl
 all-zero-is (x ∷ xs) e =
     let h = both (eqb x 0) (all-zero xs) e in

@@ -12,7 +12,8 @@ use lib.ListN.{length, take, drop, getD, set, length-append, length-drop}
 use lib.Seq.{take-append-seam, drop-append-seam, drop-at, length-take-le, take-add}
 use Rattle.lists.proofs.Tests.{both}
 use Rattle.packing.specs.Padding.{zeros, pad, all-zero}
-use Rattle.packing.specs.Tables.{Form, rows, packed, things, fine, every}
+use Rattle.lists.specs.Each.{every}
+use Rattle.packing.specs.Tables.{Form, rows, packed, things, fine}
 use Rattle.packing.proofs.PaddingLaws.{pad-nil, pad-front, all-zero-is, all-zero-zeros}
 
 -- what makes a form one: a row has its width, what is written is read again, and what is read is what is written

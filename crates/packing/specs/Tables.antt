@@ -2,7 +2,7 @@
 -- before it". One account for nodes with their names, lines with their bytes, and edits, which have none. Assumes nothing.
 use Prim.Native.Nat.{ℕ, zero, suc, _+_}
 use mathlib.Core.List.{List, [], _∷_, _++_}
-use mathlib.Core.Bool.{Bool, true, false, _&&_, _||_}
+use mathlib.Core.Bool.{Bool, _&&_}
 use lib.Dec.{eqb, leb}
 use lib.ListN.{length, take, drop}
 use Rattle.packing.specs.Padding.{all-zero}
@@ -46,13 +46,3 @@ module _ {X : Type 0} (F : Form X) where
   -- whether n rows in l and k bytes in p are packed so
   unfoldable pub packs : (X → Bool) → ℕ → ℕ → List ℕ → List ℕ → Bool
   packs ok n k l p = leb k (length p) && (all-zero (drop k p) && fine ok k n 0 l p)
-
--- whether each of them is as `ok` asks
-unfoldable pub every : {X : Type 0} → (X → Bool) → List X → Bool
-every ok [] = true
-every ok (x ∷ xs) = ok x && every ok xs
-
--- whether one of them is
-unfoldable pub any : {X : Type 0} → (X → Bool) → List X → Bool
-any ok [] = false
-any ok (x ∷ xs) = ok x || any ok xs

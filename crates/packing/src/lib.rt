@@ -3,10 +3,10 @@
 ghost use mathlib.Core.Path.{_≡_};
 ghost use lib.ListN.{length, drop};
 ghost use Rattle.lists.specs.Same.{same};
-ghost use Rattle.packing.specs.Padding.{all-zero, zeros};
+ghost use Rattle.packing.specs.Padding.{all-zero, zeroed};
 
 pub fn clear_bytes(bytes: &mut [u8])
-    ensures { λ _. ⌜ now (bytes .exit) ≡ zeros (length (now (bytes .entry))) ⌝ }
+    ensures { λ _. ⌜ now (bytes .exit) ≡ zeroed (now (bytes .entry)) ⌝ }
 {
     let mut i = 0;
     while i < bytes.len() {
@@ -16,7 +16,7 @@ pub fn clear_bytes(bytes: &mut [u8])
 }
 
 pub fn clear_numbers(rows: &mut [u32])
-    ensures { λ _. ⌜ now (rows .exit) ≡ zeros (length (now (rows .entry))) ⌝ }
+    ensures { λ _. ⌜ now (rows .exit) ≡ zeroed (now (rows .entry)) ⌝ }
 {
     let mut i = 0;
     while i < rows.len() {

@@ -11,6 +11,7 @@ use borrow.Author.Tests.{eq-eqb, ne-eqb, le-leb, lt-leb}
 use lib.ListN.{length, getD, take, drop, drop-of-length-le, length-take, length-drop}
 use lib.Seq.{drop-cons, drop-drop}
 use lib.Dec.{eqb, leb}
+use Rattle.lists.specs.Each.{any}
 use Rattle.lists.specs.Pieces.{piece, pieces}
 use Rattle.lists.proofs.PiecesLaws.{pieces-nil}
 use Rattle.utf8.specs.Utf8.{read, chars}
@@ -147,12 +148,12 @@ holds-from e body x at = some-holds (pieces (member e) (chars (drop at body))) x
 
 module _ (e : Edition) (body : List ℕ) (x at : ℕ) (inv : holds-from e body x 0 ≡ holds-from e body x at) where
   pub members-end : length body ≤ at → false ≡ holds-from e body x 0
-  unfolding some-holds
+  unfolding some-holds any
   members-end h = sym (inv ∙ rw (chars-end body at h, pieces-nil (member e)))
 
   module _ (r : MemberAt) (k : Member-ok e body at x r) where
     members-here : holds-from e body x 0 ≡ r .holds || holds-from e body x (r .next)
-    unfolding some-holds
+    unfolding some-holds any
     members-here = inv ∙ rw (k .reads, k .held)
 
     pub members-found : r .holds ≡ true → true ≡ holds-from e body x 0

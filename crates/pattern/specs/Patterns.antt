@@ -7,6 +7,7 @@ use mathlib.Core.List.{List, [], _∷_}
 use mathlib.Core.Bool.{Bool, true, false, not, cond, _&&_, _||_}
 use lib.ListN.{length}
 use lib.Dec.{eqb, leb, ltb}
+use Rattle.lists.specs.Each.{any}
 use Rattle.lists.specs.Pieces.{Piece, piece, Reader, pieces, sound}
 use Rattle.numbers.specs.Refusals.{bad-pattern, glob-not-utf8}
 use Rattle.numbers.specs.Signs.{asterisk, bang, closing-bracket, dash, opening-bracket, question}
@@ -24,8 +25,7 @@ holds (single a) x = eqb a x
 holds (range a d) x = leb a x && leb x d
 
 unfoldable pub some-holds : List Member → ℕ → Bool
-some-holds [] x = false
-some-holds (m ∷ ms) x = holds m x || some-holds ms x
+some-holds ms x = any (λ m. holds m x) ms
 
 -- "What stands between is read left to right: three characters with `-` in the middle are a range …, otherwise one is a single member."
 unfoldable pub member : Edition → Reader ℕ Member

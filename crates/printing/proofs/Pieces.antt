@@ -6,11 +6,11 @@ use native.Mathlib.Nat.{le-refl, zero-add}
 use native.Mathlib.Omega.{arith}
 use lib.ListN.{length, take, drop, length-append}
 use lib.Seq.{drop-drop, drop-paste, length-paste, paste, take-length, take-paste}
-use Rattle.numbers.specs.Signs.{bang, line-feed, space}
+use Rattle.numbers.specs.Signs.{line-feed, space}
 use Rattle.lists.specs.Front.{front}
 use Rattle.lists.specs.Texts.{codes}
 pub use Rattle.printing.specs.Printing.{Begins, Puts}
-use Rattle.printing.specs.Printing.{decimal, numbered, refused-answer, refused-fields, refused-line, spaced}
+use Rattle.printing.specs.Printing.{decimal, numbered, refused-fields, spaced}
 use Rattle.printing.proofs.Digits.{few-digits}
 
 pub puts-long : (d : List ℕ) (at : ℕ) (xs l : List ℕ) (r : ℕ) → at + length xs ≤ length d → Puts d at xs l r → length l ≡ length d
@@ -34,17 +34,10 @@ puts-both d at xs ys d₁ d₂ e r room p q = (omega (arith, p .0, q .0, length-
     lists : paste d₁ e ys (length ys) ≡ paste d at (xs ++ ys) (length (xs ++ ys))
     lists = rw (head, tail, take-length ys, take-length (xs ++ ys)) (ap (λ (l : List ℕ). l ++ drop (at + length (xs ++ ys)) d) (append-assoc (take at d) xs ys))
 
--- ---- `! N`, a number and what stands behind it, `refused N`
+-- ---- a number and what stands behind it
 module _ (d : List ℕ) (at n : ℕ) (d₁ d₂ : List ℕ) (e r : ℕ) where
-  pub refused-fields-put : at + 12 ≤ length d → Puts d at (bang ∷ space ∷ []) d₁ e → Puts d₁ e (decimal n) d₂ r → Puts d at (refused-fields n) d₂ r
-  unfolding refused-fields
-  refused-fields-put room p q = puts-both d at (bang ∷ space ∷ []) (decimal n) d₁ d₂ e r (omega (arith, few-digits n)) p q
-
   pub index-put : (ys : List ℕ) → at + 12 ≤ length d → length ys ≤ 2 → Puts d at (decimal n) d₁ e → Puts d₁ e ys d₂ r → Puts d at (decimal n ++ ys) d₂ r
   index-put ys room few p q = puts-both d at (decimal n) ys d₁ d₂ e r (omega (arith, few-digits n)) p q
-
-abbrev refused-word : List ℕ
-refused-word = 114 ∷ 101 ∷ 102 ∷ 117 ∷ 115 ∷ 101 ∷ 100 ∷ 32 ∷ []
 
 abbrev pub line-end : List ℕ
 line-end = line-feed ∷ []
@@ -57,18 +50,7 @@ pub begins-front : (d xs l : List ℕ) (r : ℕ) → Begins d xs l r → l ≡ f
 unfolding front
 begins-front d xs l r p = p .1 ∙ rw (take-length, zero-add)
 
-module _ (d : List ℕ) where
-  pub refused-line-put : (n : ℕ) (d₁ d₂ d₃ : List ℕ) (a b r : ℕ) → 19 ≤ length d
-      → Puts d 0 refused-word d₁ a → Puts d₁ a (decimal n) d₂ b → Puts d₂ b line-end d₃ r → Begins d (refused-line n) d₃ r
-  unfolding refused-line codes
-  refused-line-put n d₁ d₂ d₃ a b r room p q s =
-      let w : a ≡ 8 = p .0 in
-      let x : length d₁ ≡ length d = puts-long d 0 refused-word d₁ a (omega arith) p in
-      let f = few-digits n in
-      let t : Puts d₁ a (decimal n ++ line-end) d₃ r = puts-both d₁ a (decimal n) line-end d₂ d₃ b r (omega arith) q s in
-      begins d (refused-line n) d₃ r (puts-both d 0 refused-word (decimal n ++ line-end) d₁ d₃ a r (omega (arith, length-append (decimal n) line-end)) p t)
-
--- ---- a word, a blank and a number; the same as a line; `! N` as a line
+-- ---- a word, a blank and a number; the same as a line
 module _ (d : List ℕ) (n : ℕ) (d₁ d₂ d₃ : List ℕ) (a b r : ℕ) where
   pub spaced-put : (at : ℕ) (word : List ℕ) → at + length word + 11 ≤ length d
       → Puts d at word d₁ a → Puts d₁ a (space ∷ []) d₂ b → Puts d₂ b (decimal n) d₃ r → Puts d at (spaced word n) d₃ r
@@ -80,19 +62,19 @@ module _ (d : List ℕ) (n : ℕ) (d₁ d₂ d₃ : List ℕ) (a b r : ℕ) wher
       let t : Puts d₁ a (space ∷ decimal n) d₃ r = puts-both d₁ a (space ∷ []) (decimal n) d₂ d₃ b r (omega arith) q s in
       puts-both d at word (space ∷ decimal n) d₁ d₃ a r (omega arith) p t
 
-pub few-refused : (n : ℕ) → length (refused-fields n) ≤ 12
-unfolding refused-fields
-few-refused n = omega (arith, few-digits n)
-
 pub few-spaced : (word : List ℕ) (n : ℕ) → length (spaced word n) ≤ length word + 11
 unfolding spaced
 few-spaced word n = omega (arith, length-append word (space ∷ decimal n), few-digits n)
+
+pub few-numbered : (word : List ℕ) (n : ℕ) → length (numbered word n) ≤ length word + 12
+unfolding numbered
+few-numbered word n = omega (arith, length-append (spaced word n) line-end, few-spaced word n)
+
+pub few-refused : (n : ℕ) → length (refused-fields n) ≤ 12
+unfolding refused-fields codes
+few-refused n = few-spaced (codes "!") n
 
 module _ (d : List ℕ) (n : ℕ) (d₁ d₂ : List ℕ) (e r : ℕ) where
   pub numbered-put : (word : List ℕ) → length word + 12 ≤ length d → Puts d 0 (spaced word n) d₁ e → Puts d₁ e line-end d₂ r → Begins d (numbered word n) d₂ r
   unfolding numbered
   numbered-put word room p q = begins d (numbered word n) d₂ r (puts-both d 0 (spaced word n) line-end d₁ d₂ e r (omega (arith, few-spaced word n)) p q)
-
-  pub refused-answer-put : 13 ≤ length d → Puts d 0 (refused-fields n) d₁ e → Puts d₁ e line-end d₂ r → Begins d (refused-answer n) d₂ r
-  unfolding refused-answer
-  refused-answer-put room p q = begins d (refused-answer n) d₂ r (puts-both d 0 (refused-fields n) line-end d₁ d₂ e r (omega (arith, few-refused n)) p q)

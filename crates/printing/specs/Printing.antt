@@ -6,7 +6,7 @@ use mathlib.Core.Bool.{cond}
 use lib.Dec.{ltb}
 use lib.ListN.{length}
 use lib.Seq.{paste}
-use Rattle.numbers.specs.Signs.{bang, line-feed, nought, space}
+use Rattle.numbers.specs.Signs.{line-feed, nought, space}
 use Rattle.lists.specs.Texts.{codes}
 
 -- ---- a text is put into a buffer d: from the place `at` on the buffer has it, everywhere else what it had, and so it is l; r is the place behind the text
@@ -26,23 +26,23 @@ spelled (suc k) n = cond (ltb n 10) ((nought + n) ∷ []) (spelled k (n / 10) ++
 unfoldable pub decimal : ℕ → List ℕ
 decimal n = spelled 10 n
 
--- ---- "or `refused` and the number for the script"
-unfoldable pub refused-line : ℕ → List ℕ
-refused-line n = codes "refused " ++ (decimal n ++ line-feed ∷ [])
-
--- ---- "a refusal prints `!` and its number for these two fields"
-unfoldable pub refused-fields : ℕ → List ℕ
-refused-fields n = bang ∷ space ∷ decimal n
-
--- ---- a word, a blank and a number; the same as a line; a refusal as a line
+-- ---- a word, a blank and a number; the same as a line
 unfoldable pub spaced : List ℕ → ℕ → List ℕ
 spaced word n = word ++ space ∷ decimal n
 
 unfoldable pub numbered : List ℕ → ℕ → List ℕ
 numbered word n = spaced word n ++ line-feed ∷ []
 
+-- ---- "or `refused` and the number for the script"
+unfoldable pub refused-line : ℕ → List ℕ
+refused-line n = numbered (codes "refused") n
+
+-- ---- "a refusal prints `!` and its number for these two fields"; the same as a line
+unfoldable pub refused-fields : ℕ → List ℕ
+refused-fields n = spaced (codes "!") n
+
 unfoldable pub refused-answer : ℕ → List ℕ
-refused-answer n = refused-fields n ++ line-feed ∷ []
+refused-answer n = numbered (codes "!") n
 
 -- room for whichever of these lines
 abbrev pub answer-room : ℕ

@@ -43,25 +43,6 @@ pub fn put_text(out: &mut [u8], at: usize, text: &[u8]) -> usize
     at + text.len()
 }
 
-// `!` and a refusal's number.
-pub fn put_refused_fields(out: &mut [u8], at: usize, no: u32) -> usize
-    requires { ⌜ at + 12 ≤ length (now out) ⌝ }
-    ensures { λ r. ⌜ Puts (now (out .entry)) at (refused-fields no) (now (out .exit)) r ⌝ }
-{
-    let from = put_text(out, at, b"! ");
-    put_number(out, from, no)
-}
-
-// `refused`, a refusal's number and the end of the line, at the start of a buffer.
-pub fn put_refused_line(out: &mut [u8], no: u32) -> usize
-    requires { ⌜ 19 ≤ length (now out) ⌝ }
-    ensures { λ r. ⌜ Begins (now (out .entry)) (refused-line no) (now (out .exit)) r ⌝ }
-{
-    let from = put_text(out, 0, b"refused ");
-    let end = put_number(out, from, no);
-    put_text(out, end, b"\n")
-}
-
 // A word, a blank and a number, from a place on, and the place behind them.
 pub fn put_spaced(out: &mut [u8], at: usize, word: &[u8], n: u32) -> usize
     requires { ⌜ at + length (now word) + 11 ≤ length (now out) ⌝ }
@@ -81,11 +62,26 @@ pub fn put_numbered(out: &mut [u8], word: &[u8], n: u32) -> usize
     put_text(out, end, b"\n")
 }
 
-// `!` and a refusal's number as a line, at the start of a buffer.
+// `refused`, a refusal's number and the end of the line, at the start of a buffer.
+pub fn put_refused_line(out: &mut [u8], no: u32) -> usize
+    requires { ⌜ 19 ≤ length (now out) ⌝ }
+    ensures { λ r. ⌜ Begins (now (out .entry)) (refused-line no) (now (out .exit)) r ⌝ }
+{
+    put_numbered(out, b"refused", no)
+}
+
+// `!` and a refusal's number.
+pub fn put_refused_fields(out: &mut [u8], at: usize, no: u32) -> usize
+    requires { ⌜ at + 12 ≤ length (now out) ⌝ }
+    ensures { λ r. ⌜ Puts (now (out .entry)) at (refused-fields no) (now (out .exit)) r ⌝ }
+{
+    put_spaced(out, at, b"!", no)
+}
+
+// The same as a line, at the start of a buffer.
 pub fn put_refused_answer(out: &mut [u8], no: u32) -> usize
     requires { ⌜ 13 ≤ length (now out) ⌝ }
     ensures { λ r. ⌜ Begins (now (out .entry)) (refused-answer no) (now (out .exit)) r ⌝ }
 {
-    let end = put_refused_fields(out, 0, no);
-    put_text(out, end, b"\n")
+    put_numbered(out, b"!", no)
 }

@@ -11,7 +11,7 @@ use lib.Dec.{eqb}
 use borrow.Author.Tests.{eqb-true, eq-eqb}
 use lib.ListN.{length, getD}
 use Rattle.lists.proofs.Tests.{both, fails}
-use Rattle.packing.specs.Tables.{every}
+use Rattle.lists.specs.Each.{every}
 use Rattle.packing.proofs.TableLaws.{every-at}
 use Rattle.book.specs.Books.{Line, Book, edition-of, no-line}
 use Rattle.book.specs.Edits.{line-at}

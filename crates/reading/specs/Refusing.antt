@@ -7,6 +7,7 @@ use mathlib.Core.Path.{_≡_}
 use mathlib.Core.List.{List}
 use mathlib.Core.Bool.{true, false}
 use lib.ListN.{length}
+use Rattle.linker_script.specs.Finding.{behind}
 use Rattle.numbers.specs.Refusals.{too-long, unreadable, unclosed, bad-extern}
 use Rattle.numbers.specs.Signs.{asterisk, closing-brace, hash, line-feed, opening-brace, semicolon, slash}
 use Rattle.cursors.specs.declared.Cursor.{Cursor}
@@ -43,7 +44,7 @@ pub data Unclosed (s : List ℕ) (c : Cursor) (p : ℕ) : Type 0 where
 
 -- ---- 4: "extern of another language, or within extern"
 pub data Bad-extern (s : List ℕ) (c : Cursor) (p : ℕ) : Type 0 where
-  language : {k : Token} → Comes s c (matcher k) p → Word extern-word s p → No-word cxx-word s (p + 7) → No-word c-word s (p + 7)
+  language : {k : Token} → Comes s c (matcher k) p → Word extern-word s p → No-word cxx-word s (behind extern-word p) → No-word c-word s (behind extern-word p)
       → Bad-extern s c p
   within-extern : {k : Token} → Comes s c (block k) p → Word extern-word s p → Bad-extern s c p
 

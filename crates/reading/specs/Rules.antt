@@ -2,14 +2,14 @@
 -- it refuses. Assumes nothing.
 use Prim.Native.Nat.{ℕ, _+_, _<_, _≤_}
 use mathlib.Core.Path.{_≡_}
-use mathlib.Core.List.{List}
+use mathlib.Core.List.{List, _++_}
 use mathlib.Core.Bool.{Bool, true, false, _&&_}
 use lib.ListN.{length, getD}
 use Rattle.numbers.specs.Limits.{script-limit, token-limit}
 use Rattle.numbers.specs.Signs.{asterisk, closing-brace, hash, line-feed, opening-brace, semicolon, slash}
 use Rattle.linker_script.specs.declared.Found.{Found}
 use Rattle.linker_script.specs.declared.Found.the-variants.{Here, Nowhere}
-use Rattle.linker_script.specs.Finding.{are, closes, first-from, is}
+use Rattle.linker_script.specs.Finding.{are, behind, closes, first-from, is}
 use Rattle.linker_script.specs.Skip.{blank, skips}
 use Rattle.tokens.specs.Tokens.{brace-next, named, stands-at}
 use Rattle.cursors.specs.declared.Cursor.{Cursor}
@@ -126,13 +126,13 @@ pub data Comes (s : List ℕ) (c : Cursor) : Rule → ℕ → Type 0 where
   -- "`;`, skip, end"
   behind-semicolon : {p : ℕ} → Comes s c last-semicolon p → Byte semicolon s p → Comes s c (skip-to end) (p + 1)
   -- "matchers, `};` with nothing between, skip, end"
-  behind-list : {p : ℕ} → Comes s c matchers p → Word close-word s p → Comes s c (skip-to end) (p + 2)
+  behind-list : {p : ℕ} → Comes s c matchers p → Word close-word s p → Comes s c (skip-to end) (behind close-word p)
   of-list : {p : ℕ} → Comes s c matchers p → No-word close-word s p → Comes s c (matcher plain-token) p
   -- "`extern ` (one space), then `"C++"` or `"C"`, skip, `{`, tokens, `};`, skip"
-  behind-cxx : {k : Token} {p : ℕ} → Comes s c (matcher k) p → Word extern-word s p → Word cxx-word s (p + 7)
-      → Comes s c (skip-to opening) (p + 12)
-  behind-c : {k : Token} {p : ℕ} → Comes s c (matcher k) p → Word extern-word s p → Word c-word s (p + 7) → Comes s c (skip-to opening) (p + 10)
-  behind-block : {k : Token} {p : ℕ} → Comes s c (block k) p → Word close-word s p → Comes s c (skip-to no-more) (p + 2)
+  behind-cxx : {k : Token} {p : ℕ} → Comes s c (matcher k) p → Word extern-word s p → Word cxx-word s (behind extern-word p)
+      → Comes s c (skip-to opening) (behind (extern-word ++ cxx-word) p)
+  behind-c : {k : Token} {p : ℕ} → Comes s c (matcher k) p → Word extern-word s p → Word c-word s (behind extern-word p) → Comes s c (skip-to opening) (behind (extern-word ++ c-word) p)
+  behind-block : {k : Token} {p : ℕ} → Comes s c (block k) p → Word close-word s p → Comes s c (skip-to no-more) (behind close-word p)
   -- "Otherwise a token"; the skip behind one that ends at a `;` or a `}` passes nothing
   of-matcher : {k : Token} {p : ℕ} → Comes s c (matcher k) p → No-word extern-word s p → Comes s c (token k) p
   of-block : {k : Token} {p : ℕ} → Comes s c (block k) p → No-word close-word s p → No-word extern-word s p → Comes s c (token k) p

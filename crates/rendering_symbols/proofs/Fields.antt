@@ -14,21 +14,21 @@ use Rattle.lookups.specs.declared.answers.Locality.the-variants as locality
 use Rattle.printing.specs.Printing.{Begins, Puts, decimal, refused-fields}
 use Rattle.rendering.specs.Lines.{fields, index-field, symbol-line, with-locality}
 use Rattle.printing.proofs.Digits.{few-digits}
-use Rattle.printing.proofs.Pieces.{begins, line-end, puts-both, puts-long}
+use Rattle.printing.proofs.Pieces.{begins, few-refused, line-end, puts-both, puts-long}
 
 -- ---- the fields behind a name
 with-few : (xs : List ℕ) (l : Locality) → length xs ≤ 10 → length (with-locality xs l) ≤ 12
-unfolding with-locality codes refused-fields
+unfolding with-locality codes
 with-few xs locality.Global h = simp length-append (omega arith)
 with-few xs locality.Local h = simp length-append (omega arith)
 with-few xs locality.Nothing h = simp length-append (omega arith)
-with-few xs (locality.Refused n) h = omega (arith, few-digits n)
+with-few xs (locality.Refused n) h = few-refused n
 
 pub few-fields : (v : Version) (l : Locality) → length (fields v l) ≤ 12
-unfolding fields index-field refused-fields
+unfolding fields index-field
 few-fields (version.Index i) l = with-few (decimal (i .0)) l (few-digits (i .0))
 few-fields version.Unversioned l = with-few (45 ∷ []) l (omega arith)
-few-fields (version.Refused n) l = omega (arith, few-digits n)
+few-fields (version.Refused n) l = few-refused n
 
 module _ (d : List ℕ) (at : ℕ) {v : Version} (l : Locality) {d₁ : List ℕ} {r : ℕ} where
   pub version-refused : {n : ℕ} → v ≡ version.Refused n → Puts d at (refused-fields n) d₁ r → Puts d at (fields v l) d₁ r

@@ -10,7 +10,7 @@ use borrow.Author.Tests.{eqb-true, le-leb}
 use lib.Dec.{eqb}
 use lib.ListN.{length, drop}
 use Rattle.lists.proofs.Tests.{both}
-use Rattle.packing.specs.Tables.{every}
+use Rattle.lists.specs.Each.{every}
 use Rattle.input.specs.Splitting.{input-limit}
 use Rattle.book.specs.Books.{Book, rust}
 use Rattle.book.specs.Edits.{all-back, journal-fits, stands}
@@ -33,7 +33,7 @@ use Rattle.commands.specs.declared.Command.{Command}
 use Rattle.commands.specs.declared.Command.the-variants as command
 use Rattle.commands.specs.declared.Edit.the-variants as edit
 use Rattle.commands.specs.declared.Question.the-variants as question
-use Rattle.desk_edits.specs.Edits.{edit-step}
+use Rattle.desk_edits.specs.Edits.{edit-asked, edit-step}
 use Rattle.desk_questions.specs.Questions.{question-step}
 use Rattle.commands.specs.Commands.{command-of}
 use Rattle.showing.specs.Shown.{shown-room}
@@ -56,7 +56,7 @@ module _ (b : Buffers) (w : Book) (k : eqb (w .kind) rust ≡ false) where
 
   seated-step : (x : Lent) → Seated b w x → (l : List ℕ) (m : Command)
       → Seated b w (lent-step (step (x .counts) (x .buffers) (view (x .counts) (x .buffers)) l m))
-  unfolding step edit-step question-step lent-after change
+  unfolding step edit-step edit-asked question-step lent-after change
   seated-step x s l (command.Edits (edit.Add node section language at)) = seated-call x s (adds node section language (drop at l))
   seated-step x s l (command.Edits (edit.Strike line)) = seated-call x s (strikes line)
   seated-step x s l (command.Edits edit.Undo) = seated-call x s undoes
@@ -82,7 +82,7 @@ module _ (b : Buffers) (w : Book) (k : eqb (w .kind) rust ≡ true) (v : Viewabl
       rw e at j
 
   stays : (l : List ℕ) (m : Command) → lent-step (step (counts-of w) (laid-out b w) (some w) l m) ≡ lent-book b w
-  unfolding step edit-step question-step add-asked strike-asked undo-asked settle-asked settled symbol-asked after counts-after
+  unfolding step edit-step edit-asked question-step add-asked strike-asked undo-asked settle-asked settled symbol-asked after counts-after
   stays l (command.Edits (edit.Add node section language at)) = rw k
   stays l (command.Edits (edit.Strike line)) = rw k
   stays l (command.Edits edit.Undo) = rw e

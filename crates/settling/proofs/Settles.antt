@@ -6,7 +6,8 @@ use mathlib.Core.Bool.{Bool, true, false}
 use lib.ListN.{length, drop, take}
 use lib.Seq.{length-take-le}
 use Rattle.packing.specs.Padding.{all-zero, pad, zeros}
-use Rattle.packing.specs.Tables.{every, rows, things}
+use Rattle.lists.specs.Each.{every}
+use Rattle.packing.specs.Tables.{rows, things}
 use Rattle.packing.proofs.PaddingLaws.{front-cleared, pad-rest}
 use Rattle.packing.proofs.TableLaws.{length-rows}
 use Rattle.packing.proofs.Packings.{is-packs}

@@ -9,7 +9,8 @@ use borrow.Author.Tests.{eq-eqb, ne-eqb}
 use lib.Dec.{eqb}
 use lib.ListN.{drop, getD}
 use lib.Seq.{drop-drop, getD-drop}
-use Rattle.packing.specs.Tables.{every, things}
+use Rattle.lists.specs.Each.{every}
+use Rattle.packing.specs.Tables.{things}
 use Rattle.book.specs.Edits.{stands}
 use Rattle.book.specs.Layout.{line-form}
 

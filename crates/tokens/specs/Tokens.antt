@@ -3,12 +3,12 @@ use Prim.Native.Nat.{ℕ, _+_, _-_}
 use mathlib.Core.List.{List, [], _∷_}
 use mathlib.Core.Bool.{Bool, true, false, not, cond, _&&_, _||_}
 use lib.Dec.{eqb, ltb}
-use lib.ListN.{length, getD, take, drop}
+use lib.ListN.{length, getD, drop}
 use Rattle.numbers.specs.Refusals.{unclosed, unreadable}
 use Rattle.numbers.specs.Signs.{closing-brace, closing-paren, line-feed, opening-brace, opening-paren, semicolon, space, tab}
 use Rattle.linker_script.specs.declared.Found.{Found}
 use Rattle.linker_script.specs.declared.Found.the-variants.{Here, Nowhere}
-use Rattle.linker_script.specs.Finding.{closes, first-from, is}
+use Rattle.linker_script.specs.Finding.{closes, first-from, is, part}
 use Rattle.linker_script.specs.Trim.{trim-end}
 use Rattle.tokens.specs.declared.TokenEnd.{TokenEnd}
 use Rattle.tokens.specs.declared.TokenEnd.the-variants.{To, Refused}
@@ -99,4 +99,4 @@ bare-skip s = from (first-from (is closing-brace) s 0)
 
 -- how long the token from p to q is without its trailing blanks
 abbrev pub trimmed : List ℕ → ℕ → ℕ → ℕ
-trimmed s p q = length (trim-end (take (q - p) (drop p s)))
+trimmed s p q = length (trim-end (part s p (q - p)))

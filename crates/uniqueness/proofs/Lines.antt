@@ -1,5 +1,5 @@
 -- What prints leaves one answer and one end state: rendering, rendering_symbols, listing_symbols, listing_script, listing, showing, showing_lines, dumping,
--- answering, additions, corrections, asking, desk_edits, desk_questions, desk. Assumes nothing.
+-- answering, asking, desk_edits, desk_questions, desk. Assumes nothing.
 use mathlib.Core.Path.{refl}
 use Rattle.answering.specs.Answers.{Runs}
 use Rattle.uniqueness.specs.Unique.{Unique}
@@ -17,11 +17,6 @@ use Rattle.showing.proofs.show_counts
 use Rattle.showing_lines.proofs.show_lines
 use Rattle.dumping.proofs.show_dump
 use Rattle.answering.proofs.printed
-use Rattle.additions.proofs.run_add
-use Rattle.additions.proofs.run_symbol
-use Rattle.corrections.proofs.run_strike
-use Rattle.corrections.proofs.run_undo
-use Rattle.corrections.proofs.run_settle
 use Rattle.asking.proofs.run_ask
 use Rattle.desk_edits.proofs.run_edit
 use Rattle.desk_questions.proofs.run_question
@@ -75,38 +70,6 @@ show-dump-unique κs a x y v w p q = (same (p .0) (q .0), λ i. tt ▹ tt ▹ tt
 -- ---- answering
 pub printed-unique : Unique printed.ended printed.Reads.Post
 printed-unique κs a x y v w p q = (same p q, refl)
-
--- ---- additions
-pub run-add-unique : Unique run_add.ended run_add.Reads.Post
-unfolding Runs
-run-add-unique κs a x y v w p q =
-    let b = same (p .2) (q .2) in
-    (same (p .0) (q .0), λ i. tt ▹ tt ▹ tt ▹ b i .lines ▹ b i .pool ▹ b i .journal ▹ tt ▹ tt ▹ tt ▹ tt ▹ same (p .1) (q .1) i ▹ tt)
-
-pub run-symbol-unique : Unique run_symbol.ended run_symbol.Reads.Post
-unfolding Runs
-run-symbol-unique κs a x y v w p q =
-    let b = same (p .2) (q .2) in
-    (same (p .0) (q .0), λ i. tt ▹ tt ▹ tt ▹ b i .lines ▹ b i .pool ▹ b i .journal ▹ tt ▹ tt ▹ same (p .1) (q .1) i ▹ tt)
-
--- ---- corrections
-pub run-strike-unique : Unique run_strike.ended run_strike.Reads.Post
-unfolding Runs
-run-strike-unique κs a x y v w p q =
-    let b = same (p .2) (q .2) in
-    (same (p .0) (q .0), λ i. tt ▹ tt ▹ tt ▹ b i .lines ▹ tt ▹ b i .journal ▹ tt ▹ same (p .1) (q .1) i ▹ tt)
-
-pub run-undo-unique : Unique run_undo.ended run_undo.Reads.Post
-unfolding Runs
-run-undo-unique κs a x y v w p q =
-    let b = same (p .2) (q .2) in
-    (same (p .0) (q .0), λ i. tt ▹ tt ▹ tt ▹ b i .lines ▹ b i .pool ▹ b i .journal ▹ same (p .1) (q .1) i ▹ tt)
-
-pub run-settle-unique : Unique run_settle.ended run_settle.Reads.Post
-unfolding Runs
-run-settle-unique κs a x y v w p q =
-    let b = same (p .2) (q .2) in
-    (same (p .0) (q .0), λ i. tt ▹ tt ▹ tt ▹ b i .lines ▹ b i .pool ▹ b i .journal ▹ same (p .1) (q .1) i ▹ tt)
 
 -- ---- asking
 pub run-ask-unique : Unique run_ask.ended run_ask.Reads.Post

@@ -9,6 +9,7 @@ use native.Mathlib.Omega.{arith}
 use borrow.Author.Tests.{lt-ltb, le-ltb, le-leb, leb-true}
 use lib.ListN.{length, getD, drop, length-drop}
 use lib.Dec.{ltb, leb}
+use Rattle.lists.specs.Each.{every}
 use Rattle.lists.specs.Pieces.{Piece}
 use Rattle.lists.proofs.PiecesLaws.{pieces-cons, sound-cons}
 use Rattle.utf8.specs.Utf8.{scalar, scalars, encode, encoding, character, none, bits-four, read, chars, utf8}
@@ -59,14 +60,14 @@ encode-first c s i =
 
 -- ---- the encoding is UTF-8, and reads back
 pub encoding-utf8 : (cs : List ℕ) → scalars cs ≡ true → utf8 (encoding cs) ≡ true
-unfolding scalars encoding
+unfolding scalars every encoding
 encoding-utf8 [] h = utf8-nil
 encoding-utf8 (c ∷ cs) h =
     let s = and-both (scalar c) (scalars cs) h in
     encode-first c (encoding cs) (s .0) .good ∙ encoding-utf8 cs (s .1)
 
 pub encoding-chars : (cs : List ℕ) → scalars cs ≡ true → chars (encoding cs) ≡ cs
-unfolding scalars encoding
+unfolding scalars every encoding
 encoding-chars [] h = chars-nil
 encoding-chars (c ∷ cs) h =
     let s = and-both (scalar c) (scalars cs) h in
@@ -156,12 +157,12 @@ record Whole (s : List ℕ) : Type 0 where
   same : encoding (chars s) ≡ s
 
 whole-nil : Whole []
-unfolding scalars encoding
+unfolding scalars every encoding
 whole-nil = record { are = rw chars-nil; same = rw chars-nil }
 
 -- by a bound of the length
 whole : (n : ℕ) (s : List ℕ) → length s ≤ n → utf8 s ≡ true → Whole s
-unfolding chars utf8 scalars encoding
+unfolding chars utf8 scalars every encoding
 whole zero [] l h = whole-nil
 whole zero (a ∷ s) l h = absurd (omega arith)
 whole (suc n) [] l h = whole-nil

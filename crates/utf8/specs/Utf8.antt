@@ -7,6 +7,7 @@ use mathlib.Core.List.{List, [], _∷_, _++_}
 use mathlib.Core.Bool.{Bool, true, false, cond, _&&_, _||_}
 use lib.ListN.{getD}
 use lib.Dec.{ltb, leb}
+use Rattle.lists.specs.Each.{every}
 use Rattle.lists.specs.Pieces.{Piece, piece, Reader, pieces, sound}
 
 -- "characters from the U+0000..U+10FFFF range"; "The definition of UTF-8 prohibits encoding character numbers between U+D800 and U+DFFF"
@@ -14,8 +15,7 @@ unfoldable pub scalar : ℕ → Bool
 scalar c = leb c 0x10FFFF && (ltb c 0xD800 || ltb 0xDFFF c)
 
 unfoldable pub scalars : List ℕ → Bool
-scalars [] = true
-scalars (c ∷ cs) = scalar c && scalars cs
+scalars cs = every scalar cs
 
 -- "Char. number range | UTF-8 octet sequence
 --  (hexadecimal)       | (binary)

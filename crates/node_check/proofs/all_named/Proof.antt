@@ -1,7 +1,7 @@
 -- `all_named` meets its contract. The loop's invariant: what is left from i on decides. Assumes nothing.
 use mathlib.Core.Path.{_≡_, refl, sym, _∙_}
 use lib.ListN.{length, drop}
-use Rattle.packing.specs.Tables.{every}
+use Rattle.lists.specs.Each.{every}
 use Rattle.node_check.proofs.NodeChecks.{every-stops, every-more, every-ends}
 use Rattle.tokens.specs.Tokens.{named}
 use borrow.Author.Tests.{not-true, not-false}

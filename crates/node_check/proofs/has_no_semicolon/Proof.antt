@@ -2,7 +2,7 @@
 use mathlib.Core.Path.{_≡_, refl, ap}
 use mathlib.Core.Bool.{not}
 use lib.ListN.{length, drop}
-use Rattle.packing.specs.Tables.{every}
+use Rattle.lists.specs.Each.{every}
 use borrow.Author.Tests.{eq-eqb, ne-eqb}
 use Rattle.node_check.proofs.NodeChecks.{every-stops, every-more, every-ends}
 use Rattle.book.specs.Sanity.{no-semicolon}

@@ -1,52 +1,22 @@
 -- `put_refused_line` meets its contract. Assumes nothing.
 use borrow.Author.Needs.{needs}
-use native.Mathlib.Omega.{arith}
-use Rattle.printing.proofs.Digits.{few-digits}
-use Rattle.printing.proofs.Pieces.{refused-line-put}
+use Rattle.lists.specs.Texts.{codes}
+use Rattle.printing.specs.Printing.{refused-line}
 use Rattle.printing.proofs.put_refused_line.Statement.{statement}
 use Rattle.printing.proofs.put_refused_line.Tie as tie
 
-slice-aggregate-put-text : tie.Need-slice-aggregate-put-text
-slice-aggregate-put-text c = search needs
+slice-aggregate-put-numbered : tie.Need-slice-aggregate-put-numbered
+slice-aggregate-put-numbered c = search needs
 
-put-text-requires : tie.Need-put-text-requires
-put-text-requires c κs = search needs
-
-put-number-requires : tie.Need-put-number-requires
-put-number-requires c κs = search needs
-
-slice-aggregate-put-text-2 : tie.Need-slice-aggregate-put-text-2
-slice-aggregate-put-text-2 c = search needs
-
-put-text-requires-2 : tie.Need-put-text-requires-2
-put-text-requires-2 c κs =
-    let at-args = c .before .before .before .before .before .before .before .before .before .before .before .before in
-    omega (arith, few-digits (at-args .args .no))
+put-numbered-requires : tie.Need-put-numbered-requires
+put-numbered-requires c κs = search needs
 
 same-length : tie.Need-same-length
 same-length c = search needs
 
 returns : tie.Need-returns
-returns c =
-    let at-put-text2 = c .before .before in
-    let at-put-number = at-put-text2 .before .before .before .before .before in
-    let at-put-text = at-put-number .before .before .before .before in
-    let at-args = at-put-text .before .before .before .before in
-    let a = at-args .args in
-    let p = at-put-text .put-text in
-    let q = at-put-number .put-number in
-    let s = at-put-text2 .put-text2 in
-    refused-line-put (a .out .now) (a .no) (p .last .0) (q .last .0) (s .last .0) (p .result) (q .result) (s .result)
-    (at-args .pre) (p .ensures) (q .ensures) (s .ensures)
+unfolding refused-line codes
+returns c = c .before .before .put-numbered .ensures
 
 pub put-refused-line-spec : {M : Type 1} → statement M
-put-refused-line-spec =
-    tie.close
-    (tie.spec
-    slice-aggregate-put-text
-    put-text-requires
-    put-number-requires
-    slice-aggregate-put-text-2
-    put-text-requires-2
-    same-length
-    returns)
+put-refused-line-spec = tie.close (tie.spec slice-aggregate-put-numbered put-numbered-requires same-length returns)
