@@ -10,7 +10,8 @@ use Rattle.numbers.specs.Refusals.{unreadable}
 use Rattle.numbers.specs.Signs.{closing-brace, opening-brace, semicolon}
 use Rattle.linker_script.specs.declared.Found.{Found}
 use Rattle.linker_script.specs.declared.Found.the-variants.{Here, Nowhere}
-use Rattle.linker_script.specs.Finding.{behind, first-from, is}
+use Rattle.linker_script.specs.Finding.{first-from, is}
+use Rattle.linker_script.specs.Parts.{behind}
 use Rattle.tokens.specs.Tokens.{stands-at, name-end}
 use Rattle.cursors.specs.declared.Cursor.{Cursor}
 use Rattle.cursors.specs.declared.Event.the-variants.{Node, Body, Section, Parent}

@@ -4,7 +4,6 @@ use mathlib.Core.Path.{_≡_}
 use mathlib.Core.List.{List, []}
 use mathlib.Core.Bool.{Bool, true, false, _&&_}
 use lib.Dec.{leb, ltb}
-use lib.ListN.{length}
 use Rattle.numbers.specs.Limits.{script-limit}
 use Rattle.packing.specs.Padding.{zeroed}
 use Rattle.storing.specs.Keeping.{keep}

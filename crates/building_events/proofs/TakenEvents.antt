@@ -5,7 +5,7 @@ use mathlib.Core.List.{List, []}
 use mathlib.Core.Bool.{true}
 use native.Mathlib.Omega.{arith}
 use lib.ListN.{length, take, drop, length-take, length-drop}
-use Rattle.linker_script.specs.Finding.{part}
+use Rattle.linker_script.specs.Parts.{part}
 use Rattle.numbers.specs.Limits.{node-limit, script-limit}
 use Rattle.packing.specs.Tables.{packs}
 use Rattle.packing.proofs.Packings.{is-packs}

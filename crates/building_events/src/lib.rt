@@ -5,7 +5,7 @@ ghost use mathlib.Core.Bool.{true};
 ghost use mathlib.Core.List.{[]};
 ghost use Prim.Native.Nat.{_+_, _*_, _≤_, _<_};
 ghost use lib.ListN.{length};
-ghost use Rattle.linker_script.specs.Finding.{part};
+ghost use Rattle.linker_script.specs.Parts.{part};
 ghost use Rattle.numbers.specs.Limits.{node-limit, script-limit};
 ghost use Rattle.packing.specs.Tables.{packs};
 ghost use Rattle.book.specs.Layout.{five, node-form};

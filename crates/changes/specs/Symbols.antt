@@ -4,7 +4,7 @@ use mathlib.Core.List.{List, [], _∷_}
 use mathlib.Core.Bool.{Bool, cond}
 use mathlib.Core.Option.{Option, some, none}
 use lib.Dec.{eqb}
-use Rattle.linker_script.specs.Finding.{part}
+use Rattle.linker_script.specs.Parts.{part}
 use Rattle.numbers.specs.Limits.{over, token-limit}
 use Rattle.numbers.specs.Marks.{global}
 use Rattle.numbers.specs.Refusals.{no-book, too-long, wrong-kind}

@@ -35,7 +35,7 @@ done-said c d edit.Undo = codes "undone" ++ line-feed ∷ []
 done-said c d edit.Settle = numbered (codes "settled") (d .lines)
 done-said c d (edit.Symbol at bare) = numbered (codes "added") (d .lines - c .lines)
 
--- for what it answers; a refusal is `! N`
+-- what is printed for what an edit answers; a refusal is `! N`
 unfoldable pub said : Counts → Edit → Edited → List ℕ
 said c e (answer.Done d) = done-said c d e
 said c e (answer.Refused n) = refused-answer n

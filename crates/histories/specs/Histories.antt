@@ -4,7 +4,7 @@ use Prim.Native.Nat.{ℕ, zero, suc}
 use mathlib.Core.List.{List, [], _∷_, _++_}
 use mathlib.Core.Bool.{Bool, cond}
 use lib.Dec.{eqb}
-use Rattle.linker_script.specs.Finding.{part}
+use Rattle.linker_script.specs.Parts.{part}
 use Rattle.numbers.specs.Marks.{global}
 use Rattle.linker_script.specs.Trim.{trim-end}
 use Rattle.lists.specs.Each.{every}
@@ -48,7 +48,7 @@ change x (adds-symbol t bare) = symbol-asked (x .buffers) (view (x .counts) (x .
 unfoldable pub answer : Lent → Call → ℕ
 answer x k = edit-refusal (edited (change x k))
 
--- "each call … gets the buffers and counts that the last one left"
+-- demand 3: "each call … gets the buffers and counts that the last one left"
 unfoldable pub lent-after : Lent → Call → Lent
 lent-after x k = record { counts = counts-after (x .counts) (change x k); buffers = after (x .buffers) (change x k) }
 
@@ -56,7 +56,7 @@ unfoldable pub run : Lent → List Call → Lent
 run x [] = x
 run x (k ∷ ks) = run (lent-after x k) ks
 
--- a history: the calls with their answers, "refused calls included"
+-- a history: the calls with their answers, demand 3's "refused calls included"
 pub record Told : Type 0 where
   pub call : Call
   pub number : ℕ

@@ -10,6 +10,7 @@ use Rattle.numbers.specs.Signs.{line-feed}
 use Rattle.linker_script.specs.declared.Found.{Found}
 use Rattle.linker_script.specs.declared.Found.the-variants.{Here, Nowhere}
 use Rattle.linker_script.specs.Finding.{first-from, found, is}
+use Rattle.linker_script.specs.Parts.{behind}
 
 -- `%` and `@`
 abbrev pub percent : ℕ
@@ -39,9 +40,12 @@ abbrev pub part-before : List ℕ → Found → List ℕ
 part-before s (Here p) = take p s
 part-before s Nowhere = s
 
--- the symbols' lines, behind the three bytes of that line
+-- the symbols' lines, behind that line with its LF
+abbrev pub mark-line : List ℕ
+mark-line = percent ∷ percent ∷ line-feed ∷ []
+
 abbrev pub symbols-by : List ℕ → Found → List ℕ
-symbols-by s (Here p) = drop (p + 3) s
+symbols-by s (Here p) = drop (behind mark-line p) s
 symbols-by s Nowhere = []
 
 -- "one symbol a line (a last LF may lack)", and one command a line: the lines of s, the first of which has begun with t

@@ -7,7 +7,7 @@ ghost use Prim.Native.Nat.{_+_, _*_, _/_, _≤_, _<_};
 ghost use lib.Dec.{eqb};
 ghost use lib.ListN.{length, getD};
 ghost use Rattle.numbers.specs.Limits.{line-limit};
-ghost use Rattle.packing.specs.Padding.{zeros};
+ghost use Rattle.packing.specs.Padding.{zeroed};
 ghost use Rattle.lists.specs.Each.{every};
 ghost use Rattle.packing.specs.Tables.{fine, packs, things};
 ghost use Rattle.book.specs.Edits.{journal-fits, standing-again, stands};
@@ -81,7 +81,7 @@ fn journal_fits_with(
     e: usize,
     back: &mut [u8],
 ) -> bool
-    requires { ⌜ (line-width * n ≤ length (now lines)) × (edit-width * e ≤ length (now journal)) × (n ≤ length (now back)) × (now back ≡ zeros (length (now back))) ⌝ }
+    requires { ⌜ (line-width * n ≤ length (now lines)) × (edit-width * e ≤ length (now journal)) × (n ≤ length (now back)) × (now back ≡ zeroed (now back)) ⌝ }
     ensures { λ r. ⌜ r ≡ journal-fits (things edit-form e (now (journal .entry)) []) (things line-form n (now (lines .entry)) (now (pool .entry))) ⌝ }
 {
     let mut m = n;

@@ -3,7 +3,6 @@
 ghost use mathlib.Core.Path.{_≡_};
 ghost use Prim.Native.Nat.{_+_, _*_, _≤_};
 ghost use mathlib.Core.Bool.{cond};
-ghost use lib.ListN.{length};
 ghost use Rattle.numbers.specs.Limits.{over, script-limit};
 ghost use Rattle.numbers.specs.Refusals.{no-room, too-long};
 ghost use Rattle.packing.specs.Padding.{zeroed};

@@ -3,18 +3,10 @@ use Prim.Native.Nat.{ℕ, _+_}
 use mathlib.Core.List.{List, [], _∷_}
 use mathlib.Core.Bool.{Bool, true, false, _&&_}
 use lib.Dec.{eqb}
-use lib.ListN.{length, getD, take, drop}
+use lib.ListN.{getD, drop}
 use Rattle.numbers.specs.Signs.{closing-brace, semicolon}
 use Rattle.linker_script.specs.declared.Found.{Found}
 use Rattle.linker_script.specs.declared.Found.the-variants.{Here, Nowhere}
-
--- the part of the text s that starts at p and has n bytes
-abbrev pub part : List ℕ → ℕ → ℕ → List ℕ
-part s p n = take n (drop p s)
-
--- the place behind a word that stands at p
-abbrev pub behind : List ℕ → ℕ → ℕ
-behind word p = p + length word
 
 -- what is asked of a byte and the byte behind it, 0 at the end
 abbrev pub Test : Type 0

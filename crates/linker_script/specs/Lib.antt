@@ -1,3 +1,4 @@
 pub mod Finding
 pub mod Skip
 pub mod Trim
+pub mod Parts

@@ -1,4 +1,4 @@
--- Quoted texts as lists of character numbers, for what is printed, and for tables of known points. Assumes nothing.
+-- Quoted texts as lists of character numbers: the words that the desk reads, what is printed, and tables of known points. Assumes nothing.
 use Prim.Native.Nat.{ℕ}
 use Prim.Native.Char.{code}
 use Prim.Native.String.{String, [] as none, _∷_ as _then_}

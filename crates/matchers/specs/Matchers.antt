@@ -5,7 +5,7 @@ use mathlib.Core.List.{List, [], _∷_, _++_}
 use mathlib.Core.Bool.{cond}
 use lib.Dec.{eqb}
 use lib.ListN.{length, getD}
-use Rattle.linker_script.specs.Finding.{behind}
+use Rattle.linker_script.specs.Parts.{behind}
 use Rattle.numbers.specs.Marks.{cxx, general}
 use Rattle.numbers.specs.Refusals.{bad-extern}
 use Rattle.numbers.specs.Signs.{closing-brace, opening-brace, quote, semicolon, space}

@@ -1,9 +1,10 @@
 // Matchers: tokens and extern blocks, the leaves of the reader's steps. Definitions: specs/Matchers.antt, from document 01, 'Reading'.
 ghost use mathlib.Core.Path.{_≡_};
-ghost use Prim.Native.Nat.{_+_, _<_, _≤_};
+ghost use Prim.Native.Nat.{_<_, _≤_};
 ghost use lib.ListN.{length};
+ghost use Rattle.linker_script.specs.Parts.{behind};
 ghost use Rattle.tokens.specs.Tokens.{trimmed};
-ghost use Rattle.matchers.specs.Matchers.{past-semicolon, line, line-to, extern-open, extern-at, extern-inside, in-extern, in-bare, matcher, bare-line, bare-matcher};
+ghost use Rattle.matchers.specs.Matchers.{extern-word, past-semicolon, line, line-to, extern-open, extern-at, extern-inside, in-extern, in-bare, matcher, bare-line, bare-matcher};
 use comments::skip_comments_and_whitespace;
 use cursors::Cursor;
 use cursors::Event;
@@ -100,7 +101,7 @@ fn extern_open(c: Cursor, s: &[u8], place: u32, language: u32, p: usize) -> Step
 
 // An extern block whose `extern ` stands at p.
 fn extern_at(c: Cursor, s: &[u8], place: u32, p: usize) -> Step
-    requires { ⌜ p + 7 ≤ length (now s) ⌝ }
+    requires { ⌜ behind extern-word p ≤ length (now s) ⌝ }
     ensures { λ r. ⌜ r ≡ extern-at c (now (s .entry)) place p ⌝ }
 {
     if try_take(s, b"\"C++\"", p + 7) {

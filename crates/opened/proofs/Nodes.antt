@@ -11,7 +11,7 @@ use borrow.Author.Tests.{eq-eqb, ne-eqb, lt-ltb}
 use lib.Dec.{eqb}
 use lib.ListN.{length, getD, set, drop, length-append, length-drop, length-set, length-take, List·getD-append, List·getD-eq-default}
 use lib.Seq.{getD-append-seam, getD-drop, getD-set-other, getD-set-same, getD-take}
-use Rattle.linker_script.specs.Finding.{part}
+use Rattle.linker_script.specs.Parts.{part}
 use Rattle.numbers.specs.Signs.{asterisk, carriage-return, slash}
 use Rattle.lists.specs.Each.{every}
 use Rattle.packing.proofs.TableLaws.{every-from}

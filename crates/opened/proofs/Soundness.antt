@@ -8,7 +8,7 @@ use native.Mathlib.Omega.{arith}
 use borrow.Author.Tests.{eq-eqb, le-ltb, ltb-true, ltb-false}
 use lib.Dec.{eqb, ltb}
 use lib.ListN.{length, getD, set, length-append, length-set}
-use Rattle.linker_script.specs.Finding.{part}
+use Rattle.linker_script.specs.Parts.{part}
 use Rattle.numbers.specs.Marks.{general, global}
 use Rattle.numbers.specs.Signs.{semicolon}
 use Rattle.lists.specs.Each.{every}

@@ -3,7 +3,7 @@ use Prim.Native.Nat.{ℕ}
 use mathlib.Core.Path.{_≡_, refl, ap, _∙_}
 use mathlib.Core.List.{List, [], _∷_}
 use lib.ListN.{length}
-use Rattle.linker_script.specs.Finding.{part}
+use Rattle.linker_script.specs.Parts.{part}
 use Rattle.storing.specs.Keeping.{Keep, kept, refused, keep}
 use Rattle.cursors.specs.declared.Event.{Event}
 use Rattle.cursors.specs.declared.Event.the-variants.{Node, Body, Section, Extern, Closed, Line, Parent}

@@ -1,7 +1,7 @@
 // Lent buffers: clearing them, asking whether their rest is zero, and whether bytes are the same. What a buffer holds, and how rows and bytes are packed,
 // is defined once for every buffer: specs/Padding.antt and specs/Tables.antt.
 ghost use mathlib.Core.Path.{_≡_};
-ghost use lib.ListN.{length, drop};
+ghost use lib.ListN.{drop};
 ghost use Rattle.lists.specs.Same.{same};
 ghost use Rattle.packing.specs.Padding.{all-zero, zeroed};
 

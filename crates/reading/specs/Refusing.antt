@@ -7,7 +7,7 @@ use mathlib.Core.Path.{_≡_}
 use mathlib.Core.List.{List}
 use mathlib.Core.Bool.{true, false}
 use lib.ListN.{length}
-use Rattle.linker_script.specs.Finding.{behind}
+use Rattle.linker_script.specs.Parts.{behind}
 use Rattle.numbers.specs.Refusals.{too-long, unreadable, unclosed, bad-extern}
 use Rattle.numbers.specs.Signs.{asterisk, closing-brace, hash, line-feed, opening-brace, semicolon, slash}
 use Rattle.cursors.specs.declared.Cursor.{Cursor}

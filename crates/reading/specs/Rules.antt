@@ -9,7 +9,8 @@ use Rattle.numbers.specs.Limits.{script-limit, token-limit}
 use Rattle.numbers.specs.Signs.{asterisk, closing-brace, hash, line-feed, opening-brace, semicolon, slash}
 use Rattle.linker_script.specs.declared.Found.{Found}
 use Rattle.linker_script.specs.declared.Found.the-variants.{Here, Nowhere}
-use Rattle.linker_script.specs.Finding.{are, behind, closes, first-from, is}
+use Rattle.linker_script.specs.Finding.{are, closes, first-from, is}
+use Rattle.linker_script.specs.Parts.{behind}
 use Rattle.linker_script.specs.Skip.{blank, skips}
 use Rattle.tokens.specs.Tokens.{brace-next, named, stands-at}
 use Rattle.cursors.specs.declared.Cursor.{Cursor}

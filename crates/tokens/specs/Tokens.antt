@@ -8,7 +8,8 @@ use Rattle.numbers.specs.Refusals.{unclosed, unreadable}
 use Rattle.numbers.specs.Signs.{closing-brace, closing-paren, line-feed, opening-brace, opening-paren, semicolon, space, tab}
 use Rattle.linker_script.specs.declared.Found.{Found}
 use Rattle.linker_script.specs.declared.Found.the-variants.{Here, Nowhere}
-use Rattle.linker_script.specs.Finding.{closes, first-from, is, part}
+use Rattle.linker_script.specs.Finding.{closes, first-from, is}
+use Rattle.linker_script.specs.Parts.{part}
 use Rattle.linker_script.specs.Trim.{trim-end}
 use Rattle.tokens.specs.declared.TokenEnd.{TokenEnd}
 use Rattle.tokens.specs.declared.TokenEnd.the-variants.{To, Refused}
