@@ -55,10 +55,11 @@ edit-ok e = eqb (e .what) add || eqb (e .what) strike
 unfoldable pub name-good : List ℕ → Bool
 name-good t = ltb 0 (length t) && (every named t && not (skips t 0))
 
--- "or parent that no reading gives": none, or an earlier node, the first of its name, whose name can stand before a `;`
+-- a byte of a name that can stand before a `;`
 abbrev pub no-semicolon : ℕ → Bool
 no-semicolon b = not (eqb b semicolon)
 
+-- "or parent that no reading gives": none, or an earlier node, the first of its name, whose name can stand before a `;`
 unfoldable pub parent-good : List Node → ℕ → ℕ → Bool
 parent-good all i p =
     eqb p 0

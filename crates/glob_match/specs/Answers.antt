@@ -22,11 +22,12 @@ done v = 256 * v
 unfoldable pub class-told : List ℕ → ℕ
 class-told t = cond (over token-limit t) too-long (done (class-number (class-of t)))
 
--- a pattern of any class without its escapes: how many bytes are written
+-- how many bytes are written
 unfoldable pub length-told : Stored → ℕ
 length-told (As k n) = done n
 length-told (Refused n) = n
 
+-- a pattern of any class without its escapes: how many bytes are written, and what is left in the buffer
 unfoldable pub unescape-told : List ℕ → ℕ → ℕ
 unescape-told t room = cond (over token-limit t) too-long (length-told (keep-answer (kept class.Escaped (unescape t)) room))
 

@@ -29,20 +29,16 @@ use Rattle.histories.specs.Histories.{Call, adds, strikes, undoes, settl
 use Rattle.histories.specs.Demand.{lent-opening}
 
 -- ---- how the table is told
--- quoted texts: all of them are ASCII, so that a byte is the number of a character
-abbrev pub text : String → List ℕ
-text t = codes t
-
 -- buffers with room for so many nodes, bytes of names, lines, bytes of lines, and edits
 abbrev pub rooms : ℕ → ℕ → ℕ → ℕ → ℕ → Buffers
 rooms nodes names lines pool edits = five (zeros (node-width * nodes)) (zeros names) (zeros (line-width * lines)) (zeros pool) (zeros (edit-width * edits))
 
 -- what the opening of a version script leaves, and that of an export list
 abbrev pub script : Buffers → String → Lent
-script b t = lent-opening b (opening at-script b (text t))
+script b t = lent-opening b (opening at-script b (codes t))
 
 abbrev pub export-list : Buffers → String → Lent
-export-list b t = lent-opening b (opening at-list b (text t))
+export-list b t = lent-opening b (opening at-list b (codes t))
 
 -- the numbers that calls answer, in turn
 unfoldable pub numbers : List Told → List ℕ
@@ -54,10 +50,10 @@ answers x ks = numbers (history x ks)
 
 -- a name that no demangler changes, and one with its demangled name
 abbrev pub symbol : String → Name
-symbol t = plain (text t)
+symbol t = plain (codes t)
 
 abbrev pub demangles : String → String → Name
-demangles raw t = name-of (text raw) (text t)
+demangles raw t = name-of (codes raw) (codes t)
 
 -- what a name gets: a version, which is an index or none, and a locality
 pub record Gets (y : Lent) (n : Name) (v : Version) (l : Locality) : Type 0 where
@@ -87,16 +83,16 @@ abbrev pub empty-node : Lent
 empty-node = script (rooms 2 1 2 4 4) "V {};"
 
 abbrev pub add-f : Call
-add-f = adds 1 global general (text "f ")
+add-f = adds 1 global general (codes "f ")
 
 abbrev pub add-g : Call
-add-g = adds 1 global general (text "g")
+add-g = adds 1 global general (codes "g")
 
 abbrev pub add-all : Call
-add-all = adds 1 local general (text "*")
+add-all = adds 1 local general (codes "*")
 
 abbrev pub add-cxx : Call
-add-cxx = adds 1 local cxx (text "f()")
+add-cxx = adds 1 local cxx (codes "f()")
 
 -- "Add (node, section, language, token) trims and classes the token as in a script, any bytes or none, and appends"; "undo takes back the latest edit not yet
 -- undone"
@@ -127,7 +123,7 @@ abbrev pub full : Lent
 full = script (rooms 2 1 2 2 3) "V { f; g; };"
 
 abbrev pub add-h : Call
-add-h = adds 1 local general (text "h")
+add-h = adds 1 local general (codes "h")
 
 -- "Settle drops struck lines, packs and renumbers the rest in order, empties the journal": an add that was refused 8, "a row … room would be passed", is done
 -- behind it, there is no edit to undo, and g's line is 0
@@ -158,13 +154,13 @@ pub record Rust-kind : Type 0 where
 pub record Refusals : Type 0 where
   pub no-edit : answers full (undoes ∷ strikes 0 ∷ undoes ∷ undoes ∷ []) ≡ 12 ∷ 0 ∷ 0 ∷ 12 ∷ []
   pub no-line : answers full (strikes 1 ∷ strikes 1 ∷ strikes 2 ∷ []) ≡ 0 ∷ 11 ∷ 11 ∷ []
-  pub no-node : answers full (adds 2 global general (text "f") ∷ []) ≡ 11 ∷ []
-  pub no-section : answers full (adds 1 2 general (text "f") ∷ []) ≡ 11 ∷ []
-  pub no-language : answers full (adds 1 global 2 (text "f") ∷ []) ≡ 11 ∷ []
-  pub version-book : answers full (adds-symbol (text "h;") false ∷ []) ≡ 13 ∷ []
-  pub on-rust-kind : answers rust-kind (adds 0 global general (text "g") ∷ strikes 0 ∷ []) ≡ 13 ∷ 13 ∷ []
-  pub unchanged : run full (undoes ∷ add-h ∷ adds 1 2 general (text "f") ∷ strikes 2 ∷ adds-symbol (text "h;") false ∷ []) ≡ full
-  pub rust-unchanged : run rust-kind (adds 0 global general (text "g") ∷ strikes 0 ∷ []) ≡ rust-kind
+  pub no-node : answers full (adds 2 global general (codes "f") ∷ []) ≡ 11 ∷ []
+  pub no-section : answers full (adds 1 2 general (codes "f") ∷ []) ≡ 11 ∷ []
+  pub no-language : answers full (adds 1 global 2 (codes "f") ∷ []) ≡ 11 ∷ []
+  pub version-book : answers full (adds-symbol (codes "h;") false ∷ []) ≡ 13 ∷ []
+  pub on-rust-kind : answers rust-kind (adds 0 global general (codes "g") ∷ strikes 0 ∷ []) ≡ 13 ∷ 13 ∷ []
+  pub unchanged : run full (undoes ∷ add-h ∷ adds 1 2 general (codes "f") ∷ strikes 2 ∷ adds-symbol (codes "h;") false ∷ []) ≡ full
+  pub rust-unchanged : run rust-kind (adds 0 global general (codes "g") ∷ strikes 0 ∷ []) ≡ rust-kind
 
 -- ---- an export list, with room for one line more, and with room for more; and texts of `add_symbol`
 abbrev pub one-more : Lent
@@ -174,13 +170,13 @@ abbrev pub many-more : Lent
 many-more = export-list (rooms 1 0 4 4 3) "{ f; };"
 
 abbrev pub symbol-g : Call
-symbol-g = adds-symbol (text "g;") false
+symbol-g = adds-symbol (codes "g;") false
 
 abbrev pub symbols-ab : Call
-symbols-ab = adds-symbol (text "extern \"C\" { a; b; };") false
+symbols-ab = adds-symbol (codes "extern \"C\" { a; b; };") false
 
 abbrev pub symbols-bad : Call
-symbols-bad = adds-symbol (text "extern \"C\" { a; b; [ };") false
+symbols-bad = adds-symbol (codes "extern \"C\" { a; b; [ };") false
 
 -- "A name is in an export list exactly when some line matches."
 pub record Symbols : Type 0 where
@@ -203,8 +199,8 @@ pub record All-or-none : Type 0 where
 
 -- "With `without_semicolon` a bare token goes to the first `}` (at least one byte); where there is none it is all the text"; else 2 "no reading rule fits"
 pub record Without-semicolon : Type 0 where
-  pub done : answers one-more (adds-symbol (text "h") false ∷ adds-symbol (text "h") true ∷ []) ≡ 2 ∷ 0 ∷ []
-  pub added : contains (run one-more (adds-symbol (text "h") true ∷ [])) "h" ≡ Within
+  pub done : answers one-more (adds-symbol (codes "h") false ∷ adds-symbol (codes "h") true ∷ []) ≡ 2 ∷ 0 ∷ []
+  pub added : contains (run one-more (adds-symbol (codes "h") true ∷ [])) "h" ≡ Within
 
 -- the table
 pub record Known-histories : Type 0 where

@@ -40,19 +40,21 @@ abbrev pub part-before : List ℕ → Found → List ℕ
 part-before s (Here p) = take p s
 part-before s Nowhere = s
 
--- the symbols' lines, behind that line with its LF
+-- the line `%%` with its LF
 abbrev pub mark-line : List ℕ
 mark-line = percent ∷ percent ∷ line-feed ∷ []
 
+-- the symbols' lines, behind that line
 abbrev pub symbols-by : List ℕ → Found → List ℕ
 symbols-by s (Here p) = drop (behind mark-line p) s
 symbols-by s Nowhere = []
 
--- "one symbol a line (a last LF may lack)", and one command a line: the lines of s, the first of which has begun with t
+-- what stands behind the last LF is a line, unless it is empty
 abbrev pub last-line : List ℕ → List (List ℕ)
 last-line [] = []
 last-line (c ∷ t) = (c ∷ t) ∷ []
 
+-- "one symbol a line (a last LF may lack)", and one command a line: the lines of s, the first of which has begun with t
 unfoldable pub lines-in : List ℕ → List ℕ → List (List ℕ)
 lines-in t [] = last-line t
 lines-in t (b ∷ s) = cond (eqb b line-feed) (t ∷ lines-in [] s) (lines-in (t ++ b ∷ []) s)

@@ -48,7 +48,7 @@ counts-put l c = cond (six l) (counts-row c) l
 abbrev pub flag : ℕ → Bool
 flag n = not (eqb n 0)
 
--- ---- opening: behind the text's own 1, counts that are not six numbers have no room for the counts (8)
+-- ---- opening: behind the text's own 1, counts that are not six numbers, fewer or more, are no room for the counts (8)
 unfoldable pub opening-with : ℕ → List ℕ → Buffers → List ℕ → Opening
 opening-with place l b s = cond (over script-limit s) (declined too-long 0) (cond (six l) (opening place b s) (declined no-room 0))
 

@@ -36,11 +36,12 @@ are x y b n = eqb b x && eqb n y
 abbrev pub closes : Test
 closes = are closing-brace semicolon
 
--- one more than the last place of `};` in the text l, which begins at the place p; r where there is none
+-- one more than the place p where it is one, else what was found before it
 abbrev pub later : Bool → ℕ → ℕ → ℕ
 later true p r = p + 1
 later false p r = r
 
+-- one more than the last place of `};` in the text l, which begins at the place p; r where there is none
 unfoldable pub last-in : ℕ → ℕ → List ℕ → ℕ
 last-in p r [] = r
 last-in p r (b ∷ l) = last-in (p + 1) (later (closes b (getD l 0 0)) p r) l

@@ -24,7 +24,7 @@ input-opening b s = cond (over input-limit s) (declined too-long 0) (opening at-
 unfoldable pub listing : Buffers → List ℕ → List ℕ
 listing b s = printed (input-opening b s) (symbols-by s (mark s))
 
--- ---- in a lent buffer of room for every listing of that length; in a smaller one nothing is done
+-- ---- in a lent buffer of room for every listing of that length; in a smaller one nothing is done, and nothing is asked of the input, its length neither
 abbrev pub room-for : ℕ → ℕ → Bool
 room-for n room = leb (tail-room + byte-room * n) room
 
@@ -41,7 +41,7 @@ listed b s out = cond (has-room s out) (with-refusal (length (listing b s)) (inp
 unfoldable pub out-left : Buffers → List ℕ → List ℕ → List ℕ
 out-left b s out = cond (has-room s out) (front (listing b s) out) out
 
--- the book's buffers: as the opening leaves them, which is zeros where it is refused
+-- the book's buffers: as the opening leaves them, which is zeros where it is refused; without room as they were
 unfoldable pub book-left : Buffers → List ℕ → List ℕ → Buffers
 book-left b s out = cond (has-room s out) (left b (input-opening b s)) b
 

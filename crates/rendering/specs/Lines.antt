@@ -62,8 +62,8 @@ asked-line w name wanted = symbol-line name (version-asked w (plain name) wanted
 unfoldable pub symbol-answered : Option Book → List ℕ → List ℕ
 symbol-answered w t = asked-line w (name-part t) (wanted-part t)
 
--- ---- in a lent buffer: where a line might not fit, nothing is written, and 0 is answered. What is printed behind a name, or without one, is shorter than 48
--- bytes, and the line of the counts than 36
+-- ---- in a lent buffer: where a line might not fit, nothing is written, and 0 is answered. What is printed behind a name, or without one, is at most 48
+-- bytes, and the line of the counts at most 36
 abbrev pub tail-room : ℕ
 tail-room = 48
 

@@ -29,11 +29,12 @@ unfoldable pub named : ℕ → Bool
 named b =
     not (eqb b space || (eqb b opening-paren || (eqb b closing-paren || (eqb b opening-brace || (eqb b closing-brace || (eqb b line-feed || eqb b tab))))))
 
--- where the bytes of a name end in the text l, which begins at the place p
+-- the end q behind the place p where the name goes on there, else p
 abbrev pub longer : Bool → ℕ → ℕ → ℕ
 longer true p q = q
 longer false p q = p
 
+-- where the bytes of a name end in the text l, which begins at the place p
 unfoldable pub name-in : ℕ → List ℕ → ℕ
 name-in p [] = p
 name-in p (b ∷ l) = longer (named b) p (name-in (p + 1) l)
@@ -68,12 +69,13 @@ brace-next s p = no-semicolon-before (first-from closes s p) (first-from (is sem
 unfoldable pub to-either : List ℕ → ℕ → TokenEnd
 to-either s p = cond (brace-next s p) (to-brace s p) (to-semicolon s p)
 
--- the same of `last`, behind which no `};` is left: asked once of the text, and not anew at each token. The two are the same where `last` is that of the
--- text (proofs/Ends.antt)
+-- whether the first `;` from the place p on is that of a `};`, or there is none
 abbrev pub brace-before : List ℕ → ℕ → Found → Bool
 brace-before s p (Here q) = ltb p q && eqb (getD s (q - 1) 0) closing-brace
 brace-before s p Nowhere = true
 
+-- the same as `to-either`, by `last`, behind which no `};` is left: asked once of the text, and not anew at each token. The two are the same where `last` is
+-- that of the text (proofs/Ends.antt)
 unfoldable pub extern-end : ℕ → List ℕ → ℕ → TokenEnd
 extern-end last s p =
     cond (ltb p last) (cond (brace-before s p (first-from (is semicolon) s p)) (to-brace s p) (to-semicolon s p)) (to-brace s p)
