@@ -11,6 +11,7 @@ ghost use Rattle.book.specs.Sanity.{line-ok};
 ghost use Rattle.ranking.specs.Matching.{class-matches, line-matches, name-of};
 ghost use Rattle.ranking.specs.Walk.{decided, deciding-among};
 use book::LINE_WIDTH;
+use book::STRUCK;
 use book::editions::edition_of;
 use matching::match_name;
 use packing::same_bytes;
@@ -38,13 +39,13 @@ fn line_matches(edition: Edition, code: u32, bytes: &[u8], raw: &[u8], demangled
     requires { ⌜ (length (now bytes) ≤ token-limit) × (length (now raw) ≤ name-limit) × (length (now demangled) ≤ name-limit) ⌝ }
     ensures { λ r. ⌜ r ≡ line-matches edition (name-of (now (raw .entry)) (now (demangled .entry))) (line-of 0 code (now (bytes .entry))) ⌝ }
 {
-    if 32 <= code {
+    if STRUCK <= code {
         return false;
     }
     if code % 2 == 1 {
-        return class_matches(edition, code % 32 / 4, bytes, demangled);
+        return class_matches(edition, code % STRUCK / 4, bytes, demangled);
     }
-    class_matches(edition, code % 32 / 4, bytes, raw)
+    class_matches(edition, code % STRUCK / 4, bytes, raw)
 }
 
 // The deciding line among n lines, whose bytes end at p of the pool, in a book of that kind with that many nodes.

@@ -4,12 +4,13 @@ ghost use Rattle.lending.specs.Calls.{Finishes, counts-put, lent-counts,
 use book::Counts;
 use changes::Edited;
 use numbers::NO_ROOM;
+use numbers::NODE_LIMIT;
 
 // How many numbers the counts of a book are.
 pub const COUNTS: usize = 6;
 
 // More nodes than a book has.
-const TOO_MANY_NODES: u32 = 1025;
+const TOO_MANY_NODES: u32 = (NODE_LIMIT as u32) + 1;
 
 // The counts that six numbers tell. Any other number of them tells counts that no book has.
 pub fn counts_of(counts: &[u32]) -> Counts

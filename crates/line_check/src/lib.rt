@@ -12,6 +12,7 @@ ghost use Rattle.book.specs.Sanity.{bare-star, content-good, glob-stands, in-ra
 use book::EXPORT;
 use book::LINE_WIDTH;
 use book::RUST;
+use book::STRUCK;
 use book::editions::edition_of;
 use numbers::TOKEN_LIMIT;
 use packing::zero_bytes;
@@ -61,7 +62,7 @@ fn is_in_range(nodes: u32, node: u32, code: u32, bytes: &[u8]) -> bool
     if TOKEN_LIMIT < size {
         return false;
     }
-    let class = code % 32 / 4;
+    let class = code % STRUCK / 4;
     if class < 4 {
         return true;
     }
@@ -80,7 +81,7 @@ fn kind_allows(kind: u32, code: u32) -> bool
         if section != 0 {
             return true;
         }
-        if code % 32 / 4 != 0 {
+        if code % STRUCK / 4 != 0 {
             return false;
         }
         return code % 2 == 0;
@@ -94,7 +95,7 @@ fn kind_allows(kind: u32, code: u32) -> bool
 fn content_good(edition: Edition, code: u32, bytes: &[u8]) -> bool
     ensures { λ r. ⌜ r ≡ content-good edition (line-of 0 code (now (bytes .entry))) ⌝ }
 {
-    let class = code % 32 / 4;
+    let class = code % STRUCK / 4;
     if class == 2 {
         return glob_stands(edition, bytes);
     }
@@ -164,7 +165,7 @@ pub fn lines_packed(kind: u32, nodes: u32, lines: &[u32], pool: &[u8], n: u32, p
 fn is_bare_star(code: u32) -> bool
     ensures { λ r. ⌜ r ≡ bare-star (line-of 0 code []) ⌝ }
 {
-    if code % 32 / 4 != 4 {
+    if code % STRUCK / 4 != 4 {
         return false;
     }
     if code % 4 / 2 != 1 {

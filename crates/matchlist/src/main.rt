@@ -2,10 +2,11 @@
 // prints the token's class and what is stored of it, then for each name whether the token matches: `yes`, `no`, or `!` and 9 where the name is not
 // UTF-8. A token that is refused prints `refused` and the number, and standard error says what the number means.
 use classes::Class;
-use libc::STDERR_FILENO;
 use libc::STDIN_FILENO;
 use libc::STDOUT_FILENO;
 use meanings::front;
+use meanings::say;
+use meanings::say_meaning;
 use pattern::Edition;
 use storing::Stored;
 
@@ -13,33 +14,12 @@ fn print(bytes: &[u8]) {
     io::write_all(STDOUT_FILENO, bytes);
 }
 
-// What a refused token's number means, for a person.
-fn explain(no: u32) {
-    if no == 1 {
-        io::write_all(
-            STDERR_FILENO,
-            b"matchlist: the token or the input is over 65,536 bytes\n",
-        );
-        return;
-    }
-    if no == 5 {
-        io::write_all(
-            STDERR_FILENO,
-            b"matchlist: the token is a glob and not UTF-8\n",
-        );
-        return;
-    }
-    io::write_all(
-        STDERR_FILENO,
-        b"matchlist: a bracket of the token is not closed, or two stars stand side by side\n",
-    );
-}
-
 fn refuse(no: u32) {
     print(b"refused ");
     io::print_decimal(STDOUT_FILENO, no as u64);
     print(b"\n");
-    explain(no);
+    say(b"matchlist: ");
+    say_meaning(no);
 }
 
 fn print_class(class: Class) {

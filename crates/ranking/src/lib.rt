@@ -6,6 +6,7 @@ ghost use Prim.Native.Nat.{_≤_, _<_};
 ghost use Rattle.numbers.specs.Limits.{node-limit};
 ghost use Rattle.book.specs.Layout.{line-of};
 ghost use Rattle.ranking.specs.Ranks.{rank};
+use book::STRUCK;
 
 pub mod names;
 
@@ -20,7 +21,7 @@ pub fn rank_of(n: u32, node: u32, code: u32) -> u32
     requires { ⌜ (n ≤ node-limit) × (node < n) × (code < 64) ⌝ }
     ensures { λ r. ⌜ r ≡ rank n (line-of node code []) ⌝ }
 {
-    let class = code % 32 / 4;
+    let class = code % STRUCK / 4;
     let section = code % 4 / 2;
     if class <= 1 {
         return 4 * node + 2 * (code % 2) + section;

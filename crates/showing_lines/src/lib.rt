@@ -10,6 +10,7 @@ ghost use Rattle.printing.specs.Printing.{Begins, Puts};
 ghost use Rattle.showing.specs.Shown.{fields-shown, line-shown, lines-shown, shown-room};
 use book::Counts;
 use book::LINE_WIDTH;
+use book::STRUCK;
 use printing::put_number;
 use printing::put_spaced;
 use printing::put_text;
@@ -20,10 +21,10 @@ fn put_fields(out: &mut [u8], at: usize, node: u32, code: u32, bytes: &[u8]) -> 
     ensures { λ r. ⌜ Puts (now (out .entry)) at (fields-shown (line-of node code (now (bytes .entry)))) (now (out .exit)) r ⌝ }
 {
     let a = put_spaced(out, at, b"", node);
-    let b = put_spaced(out, a, b"", code % 32 / 4);
+    let b = put_spaced(out, a, b"", code % STRUCK / 4);
     let c = put_spaced(out, b, b"", code % 4 / 2);
     let d = put_spaced(out, c, b"", code % 2);
-    let e = put_spaced(out, d, b"", code / 32);
+    let e = put_spaced(out, d, b"", code / STRUCK);
     put_spaced(out, e, b"", bytes.len() as u32)
 }
 
