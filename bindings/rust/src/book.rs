@@ -13,6 +13,10 @@ use std::ops::Range;
 /// that [`Refusal::NoRoom`] is only met at the library's limits: 1,024 nodes, 16,384 lines,
 /// 2,097,152 stored bytes, 4,096 edits.
 ///
+/// The library checks the whole book at every question and every edit, so each takes time in
+/// proportion to the book, however short the answer. [`Book::nodes`], [`Book::lines`],
+/// [`Book::kind`] and [`Book::edit_count`] read the buffers and call nothing.
+///
 /// Two books are equal where their kinds, nodes and lines are, and the edits that can be undone.
 #[derive(Clone)]
 pub struct Book {

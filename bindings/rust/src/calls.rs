@@ -3,7 +3,7 @@
 #![allow(unsafe_code)]
 
 /// A book as it is lent: its counts, then its five buffers.
-#[derive(Clone)]
+#[derive(Clone, Debug, PartialEq, Eq)]
 pub(crate) struct Buffers {
     pub(crate) counts: [u32; 6],
     pub(crate) nodes: Vec<u32>,
@@ -326,5 +326,55 @@ impl Buffers {
             text.len(),
             u32::from(without_semicolon)
         )
+    }
+}
+
+#[cfg(test)]
+mod tests {
+    use super::*;
+    use crate::refusal::Refusal;
+    use crate::rooms::Rooms;
+
+    /// Every call on what is no book is refused with 14, and changes nothing.
+    fn refuses_all(lent: &Buffers) {
+        let (mut buffers, name) = (lent.clone(), b"haze_day");
+        let numbers = [
+            buffers.version_count().unwrap_err(),
+            buffers.parent_count().unwrap_err(),
+            buffers.version_for_symbol(name, name, None).unwrap_err(),
+            buffers.locality(name, name).unwrap_err(),
+            buffers.contains(name, name).unwrap_err(),
+            buffers.add(0, 0, 0, name),
+            buffers.strike(0),
+            buffers.undo(),
+            buffers.settle(),
+            buffers.add_symbol(b"haze_day;", false),
+        ];
+        for number in numbers {
+            assert_eq!(Refusal::new(number, None), Refusal::NoBook);
+        }
+        assert_eq!(&buffers, lent);
+    }
+
+    #[test]
+    fn nothing_opened_is_no_book() {
+        refuses_all(&Buffers::with(Rooms::most(64)));
+    }
+
+    #[test]
+    fn a_book_that_something_else_wrote_is_none() {
+        let mut buffers = Buffers::with(Rooms::most(64));
+        assert_eq!(buffers.open_version_script(b"V1 { haze_*; };"), 0);
+        assert_eq!(buffers.version_count(), Ok(2));
+        let changed = |change: fn(&mut Buffers)| {
+            let mut changed = buffers.clone();
+            change(&mut changed);
+            changed
+        };
+        refuses_all(&changed(|book| book.counts[0] = 3)); // a kind that there is not
+        refuses_all(&changed(|book| book.counts[3] += 1)); // a line more than was read
+        refuses_all(&changed(|book| book.lines[2] = 1)); // a gap before the line's bytes
+        refuses_all(&changed(|book| book.pool[6] = b'x')); // a rest that is not zero
+        refuses_all(&changed(|book| book.names[0] = b'{')); // a name that no script gives
     }
 }

@@ -1,6 +1,7 @@
 //! Each refusal that a `Book` can meet, with its number, place and text. 14 is not among them: only
-//! the library writes a book's buffers, and what it writes is a book. Nor is 11 for a section or a
-//! language: they are enums. Of 8 only the limits are met, since rooms grow.
+//! the library writes a book's buffers, and what it writes is a book; the tests of `calls` meet it,
+//! on buffers alone. Nor is 11 for a section or a language: they are enums. Of 8 only the limits are
+//! met, since rooms grow.
 
 use tunoyaket::{Book, Language, NodeNumber, Refusal, Section};
 
