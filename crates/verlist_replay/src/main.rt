@@ -49,11 +49,17 @@ fn put_again(out: &mut [u8], start: usize, end: usize, from: usize) -> usize {
     at
 }
 
-// Stores what stands from `start` to `end` until it stands there so many times.
+// Stores what stands from `start` to `end` until it stands there so many times, or `out` is full. So each turn stores a byte or is the last.
 fn repeat(out: &mut [u8], start: usize, end: usize, times: u64) -> usize {
+    if end <= start {
+        return end;
+    }
     let mut at = end;
     let mut k: u64 = 1;
     while k < times {
+        if out.len() <= at {
+            break;
+        }
         at = put_again(out, start, end, at);
         k += 1;
     }

@@ -12,6 +12,9 @@ Inv-loop out₀ start end times at₀ k₀ out at k = length out ≡ length out�
 abbrev μ-loop : tie.MeasureT-loop
 μ-loop out₀ start end times at₀ k₀ out at k = times - k
 
+returns : tie.Need-returns Inv-loop μ-loop
+returns c = search needs
+
 loop-holds : tie.Need-loop-holds Inv-loop μ-loop
 loop-holds c = search needs
 
@@ -30,8 +33,14 @@ loop-again c = search needs
 same-length : tie.Need-same-length Inv-loop μ-loop
 same-length c = search needs
 
-returns : tie.Need-returns Inv-loop μ-loop
-returns c = search needs
+returns-2 : tie.Need-returns-2 Inv-loop μ-loop
+returns-2 c = search needs
+
+same-length-2 : tie.Need-same-length-2 Inv-loop μ-loop
+same-length-2 c = search needs
+
+returns-3 : tie.Need-returns-3 Inv-loop μ-loop
+returns-3 c = search needs
 
 pub repeat-spec : {M : Type 1} → statement M
 repeat-spec =
@@ -39,10 +48,13 @@ repeat-spec =
     (tie.spec
     Inv-loop
     μ-loop
+    returns
     loop-holds
     put-again-requires
     add-k
     loop-less
     loop-again
     same-length
-    returns)
+    returns-2
+    same-length-2
+    returns-3)
