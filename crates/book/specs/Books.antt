@@ -6,8 +6,8 @@ use lib.Dec.{eqb}
 use lib.ListN.{length}
 use Rattle.numbers.specs.Marks.{general, global}
 use Rattle.lists.specs.Same.{same}
-use Rattle.pattern.specs.declared.Edition.{Edition}
-use Rattle.pattern.specs.declared.Edition.the-variants.{Reld}
+use Rattle.numbers.specs.declared.Edition.{Edition}
+use Rattle.numbers.specs.declared.Edition.the-variants.{Reld}
 
 -- the kinds of a book, by number: a Regular version script, one of the Rust kind, an export list
 abbrev pub regular : ℕ

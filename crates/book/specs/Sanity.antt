@@ -11,10 +11,10 @@ use Rattle.numbers.specs.Signs.{semicolon}
 use Rattle.lists.specs.Same.{same}
 use Rattle.lists.specs.Each.{any, every}
 use Rattle.linker_script.specs.Skip.{skips}
-use Rattle.pattern.specs.declared.Edition.{Edition}
+use Rattle.numbers.specs.declared.Edition.{Edition}
 use Rattle.pattern.specs.Patterns.{refusal}
 use Rattle.pattern.specs.Storing.{stored}
-use Rattle.tokens.specs.Tokens.{named}
+use Rattle.reading_tokens.specs.Tokens.{named}
 use Rattle.book.specs.Books.{Node, Line, Edit, Book, add, edition-of, export, first-named, no-edits, no-node, regular, rust, strike}
 use Rattle.book.specs.Edits.{journal-fits}
 

@@ -1,1 +1,5 @@
 mod Holding
+mod JournalChecks
+mod LineChecks
+pub mod LineRows
+mod NodeChecks

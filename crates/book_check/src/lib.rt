@@ -4,20 +4,24 @@ ghost use mathlib.Core.Bool.{true};
 ghost use Rattle.book.specs.Layout.{five};
 ghost use Rattle.book.specs.Sanity.{kind-good};
 ghost use Rattle.book.specs.View.{book-of, holds, laid, within-limits};
+use crate::journal::edits_packed;
+use crate::journal::journal_fits;
+use crate::lines::has_star;
+use crate::lines::lines_packed;
+use crate::nodes::nodes_good;
+use crate::nodes::nodes_packed;
 use book::Counts;
 use book::EXPORT;
 use book::REGULAR;
 use book::RUST;
-use journal_check::edits_packed;
-use journal_check::journal_fits;
-use line_check::has_star;
-use line_check::lines_packed;
-use node_check::nodes_good;
-use node_check::nodes_packed;
 use numbers::EDIT_LIMIT;
 use numbers::LINE_LIMIT;
 use numbers::NODE_LIMIT;
 use numbers::POOL_LIMIT;
+
+pub mod journal;
+pub mod lines;
+pub mod nodes;
 
 fn is_within_limits(c: Counts) -> bool
     ensures { λ r. ⌜ r ≡ within-limits c ⌝ }

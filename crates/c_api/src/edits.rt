@@ -1,8 +1,8 @@
 // A lent book edited: the refusal or 0. Where an edit is done its counts are written; where it is refused nothing is.
 ghost use Rattle.book.specs.Layout.{five};
-ghost use Rattle.changes.specs.Symbols.{symbol-asked};
-ghost use Rattle.changes.specs.Trial.{add-asked, settle-asked, strike-asked, undo-asked};
-ghost use Rattle.lending.specs.Calls.{Edits, flag};
+ghost use Rattle.trial.specs.Symbols.{symbol-asked};
+ghost use Rattle.trial.specs.Trial.{add-asked, settle-asked, strike-asked, undo-asked};
+ghost use Rattle.c_lending.specs.Calls.{Edits, flag};
 
 // A line more in a node, a section and a language.
 #[no_mangle]
@@ -22,7 +22,7 @@ pub extern "C" fn tuno_add(
         (λ b w. add-asked b w node section language (now (token .entry)))
         r (now (counts .exit)) (five (now (nodes .entry)) (now (names .entry)) (now (lines .exit)) (now (pool .exit)) (now (journal .exit))) ⌝ }
 {
-    lent_additions::add(
+    crate::lent_additions::add(
         counts,
         nodes,
         names,
@@ -51,7 +51,7 @@ pub extern "C" fn tuno_strike(
         (λ b w. strike-asked b w line)
         r (now (counts .exit)) (five (now (nodes .entry)) (now (names .entry)) (now (lines .exit)) (now (pool .entry)) (now (journal .exit))) ⌝ }
 {
-    lent_edits::strike(counts, nodes, names, lines, pool, journal, line)
+    crate::lent_edits::strike(counts, nodes, names, lines, pool, journal, line)
 }
 
 // The latest edit is taken back.
@@ -68,7 +68,7 @@ pub extern "C" fn tuno_undo(
         (λ b w. undo-asked w)
         r (now (counts .exit)) (five (now (nodes .entry)) (now (names .entry)) (now (lines .exit)) (now (pool .exit)) (now (journal .exit))) ⌝ }
 {
-    lent_edits::undo(counts, nodes, names, lines, pool, journal)
+    crate::lent_edits::undo(counts, nodes, names, lines, pool, journal)
 }
 
 // The struck lines are dropped, and the rest is packed.
@@ -85,7 +85,7 @@ pub extern "C" fn tuno_settle(
         (λ b w. settle-asked w)
         r (now (counts .exit)) (five (now (nodes .entry)) (now (names .entry)) (now (lines .exit)) (now (pool .exit)) (now (journal .exit))) ⌝ }
 {
-    lent_edits::settle(counts, nodes, names, lines, pool, journal)
+    crate::lent_edits::settle(counts, nodes, names, lines, pool, journal)
 }
 
 // The lines of a text, added to an export list, all or none. `without_semicolon`, where it is not 0, says how the text ends.
@@ -104,7 +104,7 @@ pub extern "C" fn tuno_add_symbol(
         (λ b w. symbol-asked b w (now (text .entry)) (flag «without_semicolon»))
         r (now (counts .exit)) (five (now (nodes .entry)) (now (names .entry)) (now (lines .exit)) (now (pool .exit)) (now (journal .exit))) ⌝ }
 {
-    lent_additions::add_symbol(
+    crate::lent_additions::add_symbol(
         counts,
         nodes,
         names,

@@ -1,9 +1,9 @@
 // Opening a text into lent buffers.
-ghost use Rattle.cursors.specs.Places.{at-list, at-script};
+ghost use Rattle.reading_cursors.specs.Places.{at-list, at-script};
 ghost use Rattle.book.specs.Layout.{five};
-ghost use Rattle.lending.specs.Calls.{Opens};
-use cursors::places::AT_LIST;
-use cursors::places::AT_SCRIPT;
+ghost use Rattle.c_lending.specs.Calls.{Opens};
+use reading_cursors::places::AT_LIST;
+use reading_cursors::places::AT_SCRIPT;
 
 #[no_mangle]
 pub extern "C" fn tuno_open_version_script(
@@ -18,7 +18,7 @@ pub extern "C" fn tuno_open_version_script(
     ensures { λ r. ⌜ Opens at-script (now (counts .entry)) (five (now (nodes .entry)) (now (names .entry)) (now (lines .entry)) (now (pool .entry)) (now (journal .entry))) (now (text .entry))
         r (now (counts .exit)) (five (now (nodes .exit)) (now (names .exit)) (now (lines .exit)) (now (pool .exit)) (now (journal .exit))) ⌝ }
 {
-    lent_openings::open_lent(AT_SCRIPT, text, counts, nodes, names, lines, pool, journal)
+    crate::lent_openings::open_lent(AT_SCRIPT, text, counts, nodes, names, lines, pool, journal)
 }
 
 #[no_mangle]
@@ -34,5 +34,5 @@ pub extern "C" fn tuno_open_export_list(
     ensures { λ r. ⌜ Opens at-list (now (counts .entry)) (five (now (nodes .entry)) (now (names .entry)) (now (lines .entry)) (now (pool .entry)) (now (journal .entry))) (now (text .entry))
         r (now (counts .exit)) (five (now (nodes .exit)) (now (names .exit)) (now (lines .exit)) (now (pool .exit)) (now (journal .exit))) ⌝ }
 {
-    lent_openings::open_lent(AT_LIST, text, counts, nodes, names, lines, pool, journal)
+    crate::lent_openings::open_lent(AT_LIST, text, counts, nodes, names, lines, pool, journal)
 }

@@ -4,7 +4,7 @@ ghost use Rattle.ranking.specs.Matching.{name-of};
 ghost use Rattle.counting.specs.Questions.{count-refusal, count-value, counted, parent-count, version-count};
 ghost use Rattle.lookups.specs.Lookups.{locality-asked, locality-refusal, locality-value, version-asked, version-refusal, version-value, wanted-of};
 ghost use Rattle.export_list.specs.Membership.{contains-asked, membership-refusal, membership-value};
-ghost use Rattle.lending.specs.Calls.{Replies, flag, lent};
+ghost use Rattle.c_lending.specs.Calls.{Replies, flag, lent};
 
 #[no_mangle]
 pub extern "C" fn tuno_version_count(
@@ -19,7 +19,7 @@ pub extern "C" fn tuno_version_count(
     ensures { λ r. ⌜ Replies count-refusal count-value (counted version-count (lent (now (counts .entry)) (five (now (nodes .entry)) (now (names .entry)) (now (lines .entry)) (now (pool .entry)) (now (journal .entry)))))
         (now (out .entry)) r (now (out .exit)) ⌝ }
 {
-    lent_questions::version_count(counts, nodes, names, lines, pool, journal, out)
+    crate::lent_questions::version_count(counts, nodes, names, lines, pool, journal, out)
 }
 
 #[no_mangle]
@@ -35,7 +35,7 @@ pub extern "C" fn tuno_parent_count(
     ensures { λ r. ⌜ Replies count-refusal count-value (counted parent-count (lent (now (counts .entry)) (five (now (nodes .entry)) (now (names .entry)) (now (lines .entry)) (now (pool .entry)) (now (journal .entry)))))
         (now (out .entry)) r (now (out .exit)) ⌝ }
 {
-    lent_questions::parent_count(counts, nodes, names, lines, pool, journal, out)
+    crate::lent_questions::parent_count(counts, nodes, names, lines, pool, journal, out)
 }
 
 // The index of the version, 0 for none. `has_wanted`, where it is not 0, says that `wanted` is the version that is wanted.
@@ -57,7 +57,7 @@ pub extern "C" fn tuno_version_for_symbol(
         (name-of (now (raw .entry)) (now (demangled .entry))) (wanted-of (flag «has_wanted») (now (wanted .entry))))
         (now (out .entry)) r (now (out .exit)) ⌝ }
 {
-    lent_questions::version_for_symbol(
+    crate::lent_questions::version_for_symbol(
         counts,
         nodes,
         names,
@@ -88,7 +88,7 @@ pub extern "C" fn tuno_locality(
     ensures { λ r. ⌜ Replies locality-refusal locality-value (locality-asked (lent (now (counts .entry)) (five (now (nodes .entry)) (now (names .entry)) (now (lines .entry)) (now (pool .entry)) (now (journal .entry)))) (name-of (now (raw .entry)) (now (demangled .entry))))
         (now (out .entry)) r (now (out .exit)) ⌝ }
 {
-    lent_questions::locality(
+    crate::lent_questions::locality(
         counts,
         nodes,
         names,
@@ -117,7 +117,7 @@ pub extern "C" fn tuno_contains(
     ensures { λ r. ⌜ Replies membership-refusal membership-value (contains-asked (lent (now (counts .entry)) (five (now (nodes .entry)) (now (names .entry)) (now (lines .entry)) (now (pool .entry)) (now (journal .entry)))) (name-of (now (raw .entry)) (now (demangled .entry))))
         (now (out .entry)) r (now (out .exit)) ⌝ }
 {
-    lent_questions::contains(
+    crate::lent_questions::contains(
         counts,
         nodes,
         names,

@@ -1,2 +1,7 @@
-pub mod Answered
+pub mod RanLines
 mod Points
+pub mod Answered
+mod AskExits
+mod Made
+mod Said
+mod Shown

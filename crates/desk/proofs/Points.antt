@@ -14,11 +14,11 @@ use Rattle.storing.specs.Keeping.{unescaped, unescape, keep-when, keep-glob, ke
 use Rattle.linker_script.specs.Finding.{first-in, first-from, last-in, last-close}
 use Rattle.linker_script.specs.Skip.{blank, move, skip-past, skip}
 use Rattle.linker_script.specs.Trim.{white, trim-end}
-use Rattle.cursors.specs.Places.{at-list, at-script}
-use Rattle.cursors.specs.Moves.{start}
-use Rattle.tokens.specs.Tokens.{begins, named, name-in, to-semicolon, to-brace, extern-end, bare-extern-end, bare-end, bare-skip}
-use Rattle.matchers.specs.Matchers.{line-to, extern-open, extern-at, extern-inside, in-extern, in-bare, matcher, bare-line, bare-matcher}
-use Rattle.bodies.specs.Bodies.{name-to, node-at, script-at, parent-to, parent-at, node-end, sole-end, inside-body, body-at, sole-at, list-at}
+use Rattle.reading_cursors.specs.Places.{at-list, at-script}
+use Rattle.reading_cursors.specs.Moves.{start}
+use Rattle.reading_tokens.specs.Tokens.{begins, named, name-in, to-semicolon, to-brace, extern-end, bare-extern-end, bare-end, bare-skip}
+use Rattle.reading_matchers.specs.Matchers.{line-to, extern-open, extern-at, extern-inside, in-extern, in-bare, matcher, bare-line, bare-matcher}
+use Rattle.reading_bodies.specs.Bodies.{name-to, node-at, script-at, parent-to, parent-at, node-end, sole-end, inside-body, body-at, sole-at, list-at}
 use Rattle.reading.specs.Scripts.{opening-at, start-script, go-node, go-body, go-sole, go-list, next-script, next-list, next-symbol, next}
 use Rattle.reading.specs.Events.{reading-within, reading-from, reading}
 use Rattle.packing.specs.Padding.{all-zero, pad, zeros}
@@ -30,27 +30,27 @@ use Rattle.book.specs.Layout.{Buffers, counts-of, edit-form, edit-width, five, 
 use Rattle.book.specs.Sanity.{bare-star, content-good, edit-ok, glob-stands, in-range, kind-allows, kind-good, line-ok, name-good, named-good, nodes-good, parent-good, sane, some-star}
 use Rattle.book.specs.View.{book-of, laid, view, within-limits}
 use Rattle.book.specs.View as view
-use Rattle.rooms.specs.Rooms.{edit-room, line-room, node-room}
-use Rattle.building.specs.Building.{take-event, take-kept, take-node, take-parent}
-use Rattle.opening.specs.Opening.{Opening, build, build-reading, cleared, kind-of, left, nothing-yet, opening, rust-style, told}
+use Rattle.book_rooms.specs.Rooms.{edit-room, line-room, node-room}
+use Rattle.book_building.specs.Building.{take-event, take-kept, take-node, take-parent}
+use Rattle.book_opening.specs.Opening.{Opening, build, build-reading, cleared, kind-of, left, nothing-yet, opening, rust-style, told}
 use Rattle.ranking.specs.Matching.{class-matches, line-matches, seen}
 use Rattle.ranking.specs.Names.{bad-name, long-name, name-refusal}
 use Rattle.ranking.specs.Walk.{deciding, exact-of, exact-stages, first-line, glob-of, glob-stages, stages, walk}
 use Rattle.lookups.specs.Lookups.{index-of, last-named, listed, locality-asked, locality-of, node-version, version-asked, version-of, wanted-version}
 use Rattle.export_list.specs.Membership.{contains-asked, member-of}
-use Rattle.changes.specs.Changes.{after, counts-after, edited}
-use Rattle.changes.specs.Trial.{add-asked, append, append-kept, may-stand, settle-asked, settled, standing, strike-asked, strike-line, undo-asked, without-latest}
-use Rattle.changes.specs.Symbols.{add-event, add-events, add-reading, symbol-asked}
+use Rattle.trial.specs.Changes.{after, counts-after, edited}
+use Rattle.trial.specs.Trial.{add-asked, append, append-kept, may-stand, settle-asked, settled, standing, strike-asked, strike-line, undo-asked, without-latest}
+use Rattle.trial.specs.Symbols.{add-event, add-events, add-reading, symbol-asked}
 use Rattle.input.specs.Splitting.{name-part, wanted-part}
 use Rattle.printing.specs.Printing.{decimal, numbered, refused-answer, refused-fields, spaced, spelled}
-use Rattle.rendering.specs.Lines.{asked-line, fields, index-field, symbol-answered, symbol-line, with-locality}
-use Rattle.line_parts.specs.Parts.{digit, digits, number-at, number-of, worth}
-use Rattle.commands.specs.Commands.{add-command, command-of, question-of, strike-command}
-use Rattle.showing.specs.Shown.{buffer-shown, counts-shown, dump-shown, fields-shown, line-shown, lines-shown, numbers-shown}
-use Rattle.answering.specs.Answers.{Step, telling}
-use Rattle.asking.specs.Asked.{asked, member-answered, member-line}
-use Rattle.desk_edits.specs.Edits.{done-said, edit-asked, edit-step, said}
-use Rattle.desk_questions.specs.Questions.{question-step}
+use Rattle.printing_symbols.specs.Lines.{asked-line, fields, index-field, symbol-answered, symbol-line, with-locality}
+use Rattle.desk_commands.specs.Parts.{digit, digits, number-at, number-of, worth}
+use Rattle.desk_commands.specs.Commands.{add-command, command-of, question-of, strike-command}
+use Rattle.printing_book.specs.Shown.{buffer-shown, counts-shown, dump-shown, fields-shown, line-shown, lines-shown, numbers-shown}
+use Rattle.desk.specs.Answers.{Step, telling}
+use Rattle.desk.specs.Asked.{asked, member-answered, member-line}
+use Rattle.desk.specs.Edits.{done-said, edit-asked, edit-step, said}
+use Rattle.desk.specs.Questions.{question-step}
 use Rattle.desk.specs.Desk.{line-step, step}
 
 -- what is printed for each of the lines, each on what the one before left

@@ -12,14 +12,14 @@ use Rattle.book.specs.declared.Counts.{Counts}
 use Rattle.book.specs.Books.{Book}
 use Rattle.book.specs.Layout.{Buffers}
 use Rattle.book.specs.View.{view}
-use Rattle.commands.specs.declared.Command.{Command}
-use Rattle.commands.specs.declared.Command.the-variants as command
-use Rattle.commands.specs.Commands.{command-of}
-use Rattle.showing.specs.Shown.{shown-room}
-use Rattle.answering.specs.declared.Ran.{Ran}
-use Rattle.answering.specs.Answers.{Step, ran}
-use Rattle.desk_edits.specs.Edits.{edit-step}
-use Rattle.desk_questions.specs.Questions.{question-step}
+use Rattle.desk_commands.specs.declared.Command.{Command}
+use Rattle.desk_commands.specs.declared.Command.the-variants as command
+use Rattle.desk_commands.specs.Commands.{command-of}
+use Rattle.printing_book.specs.Shown.{shown-room}
+use Rattle.desk.specs.declared.answering.Ran.{Ran}
+use Rattle.desk.specs.Answers.{Step, ran}
+use Rattle.desk.specs.Edits.{edit-step}
+use Rattle.desk.specs.Questions.{question-step}
 
 -- `?`, for what is no command
 abbrev pub unknown-printed : List ℕ

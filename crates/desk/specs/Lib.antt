@@ -1,1 +1,5 @@
 pub mod Desk
+pub mod Answers
+pub mod Asked
+pub mod Edits
+pub mod Questions

@@ -5,18 +5,23 @@ ghost use Prim.Native.Nat.{_≤_};
 ghost use lib.ListN.{length};
 ghost use Rattle.lists.specs.Front.{front};
 ghost use Rattle.book.specs.Layout.{five};
-ghost use Rattle.answering.specs.Answers.{ran-with};
+ghost use Rattle.desk.specs.Answers.{ran-with};
 ghost use Rattle.desk.specs.Desk.{line-leaves, line-printed, line-ran, room-for, unknown-printed};
 ghost use Rattle.printing.specs.Printing.{answer-room};
-use answering::Ran;
+use crate::answering::Ran;
+use crate::edits::run_edit;
+use crate::questions::run_question;
 use book::Counts;
-use commands::Command;
-use commands::command_of;
-use desk_edits::run_edit;
-use desk_questions::run_question;
+use desk_commands::Command;
+use desk_commands::command_of;
 use numbers::NO_ROOM;
 use printing::put_text;
-use showing::shown_room;
+use printing_book::shown_room;
+
+pub mod answering;
+pub mod asking;
+pub mod edits;
+pub mod questions;
 
 // What is no command.
 fn run_unknown(c: Counts, out: &mut [u8]) -> Ran

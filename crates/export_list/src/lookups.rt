@@ -8,10 +8,10 @@ use crate::Membership;
 use book::Counts;
 use book::EXPORT;
 use book_check::is_book;
-use deciding::find_match;
 use numbers::NO_BOOK;
 use numbers::WRONG_KIND;
 use ranking::Deciding;
+use ranking::finding::find_match;
 use ranking::names::name_refusal;
 
 // Whether some line matches a name, the raw one or, of a C++ line, the demangled one.

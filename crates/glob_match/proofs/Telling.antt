@@ -11,7 +11,7 @@ use lib.Dec.{leb}
 use lib.ListN.{length}
 use Rattle.numbers.specs.Limits.{name-limit, over, token-limit}
 use Rattle.utf8.specs.Utf8.{utf8}
-use Rattle.pattern.specs.declared.Edition.{Edition}
+use Rattle.numbers.specs.declared.Edition.{Edition}
 use Rattle.matching.specs.declared.Tried.{Tried}
 use Rattle.pattern.specs.Patterns.{refusal}
 use Rattle.matching.specs.Tests.{match-of}

@@ -6,7 +6,7 @@ use lib.Dec.{eqb}
 use Rattle.numbers.specs.Limits.{name-limit, over, token-limit}
 use Rattle.numbers.specs.Refusals.{name-not-utf8, too-long}
 use Rattle.utf8.specs.Utf8.{chars, utf8}
-use Rattle.pattern.specs.declared.Edition.{Edition}
+use Rattle.numbers.specs.declared.Edition.{Edition}
 use Rattle.pattern.specs.Patterns.{elements, matches, refusal}
 use Rattle.classes.specs.declared.Class.the-variants as class
 use Rattle.storing.specs.declared.Stored.{Stored}

@@ -2,17 +2,17 @@
 // as reld reads them. The host owes what Rust's slices owe: each pointer is valid for its length, and a buffer that is written overlaps no other.
 ghost use mathlib.Core.Path.{_≡_};
 ghost use lib.ListN.{length};
-ghost use Rattle.pattern.specs.declared.Edition.the-variants.{Reld};
+ghost use Rattle.numbers.specs.declared.Edition.the-variants.{Reld};
 ghost use Rattle.storing.specs.Keeping.{keep};
 ghost use Rattle.storing.specs.Answers.{keep-answer, keep-buffer};
 ghost use Rattle.glob_match.specs.Answers.{class-told, match-told, store-told, unasked-told, unescape-leaves, unescape-told, answer-told};
 use classes::class_number;
 use classes::classify;
+use numbers::Edition;
 use numbers::NAME_LIMIT;
 use numbers::NAME_NOT_UTF8;
 use numbers::TOKEN_LIMIT;
 use numbers::TOO_LONG;
-use pattern::Edition;
 use storing::Stored;
 use storing::store_token;
 use storing::unescape_pattern;

@@ -18,7 +18,7 @@ use Rattle.lookups.specs.declared.answers.Locality.{Locality}
 use Rattle.lookups.specs.declared.answers.Locality.the-variants as locality
 use Rattle.lookups.specs.Lookups.{by-wanted, decided-locality, decided-version, locality-asked, locality-of, node-version, version-asked, version-of}
 use Rattle.export_list.specs.Membership.{contains-asked, member-of}
-use Rattle.changes.specs.Trial.{standing}
+use Rattle.trial.specs.Trial.{standing}
 use Rattle.histories.proofs.StandingLines.{standing-found, standing-match}
 
 -- the book with other lines and edits

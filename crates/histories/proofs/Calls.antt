@@ -22,12 +22,12 @@ use Rattle.book.specs.Layout.{Buffers, counts-of}
 use Rattle.book.specs.Sanity.{edit-ok}
 use Rattle.book.specs.View.{view}
 use Rattle.book.proofs.Views.{Rooms, laid-out-rooms, laid-out-same, view-of-layout}
-use Rattle.rooms.specs.Rooms.{edit-room, line-room}
-use Rattle.opened.proofs.Opened.{Viewable}
-use Rattle.changes.specs.Changes.{Change, to, no, after, counts-after, edit-refusal, edited}
-use Rattle.changes.specs.Trial.{add-asked, append, append-kept, may-stand, settle-asked, settled, standing, strike-asked, strike-line, undo-asked, with-line, with-strike, without-latest}
-use Rattle.changes.proofs.AddedLines.{added-ok}
-use Rattle.changes.proofs.SameRooms.{edit-room-same, line-room-same}
+use Rattle.book_rooms.specs.Rooms.{edit-room, line-room}
+use Rattle.book_opened.proofs.Opened.{Viewable}
+use Rattle.trial.specs.Changes.{Change, to, no, after, counts-after, edit-refusal, edited}
+use Rattle.trial.specs.Trial.{add-asked, append, append-kept, may-stand, settle-asked, settled, standing, strike-asked, strike-line, undo-asked, with-line, with-strike, without-latest}
+use Rattle.trial.proofs.AddedLines.{added-ok}
+use Rattle.trial.proofs.SameRooms.{edit-room-same, line-room-same}
 use Rattle.histories.specs.Histories.{Lent, Desk, back-to, edited-to, settled-to, with-kept}
 use Rattle.histories.specs.Demand.{lent-book}
 use Rattle.histories.proofs.Asked.{book-with}

@@ -14,23 +14,23 @@ use Rattle.linker_script.specs.Trim.{trim-end}
 use Rattle.lists.specs.Each.{every}
 use Rattle.classes.specs.declared.Class.{Class}
 use Rattle.storing.specs.Keeping.{kept, keep}
-use Rattle.cursors.specs.declared.Event.{Event}
+use Rattle.reading_cursors.specs.declared.Event.{Event}
 use Rattle.reading.specs.Events.{Outcome, accepted, refused, reading}
 use Rattle.book.specs.Books.{Book, Edit, Line, edition-of, rust, with-lines}
 use Rattle.book.specs.Edits.{line-at, stands, take-back}
 use Rattle.book.specs.Layout.{Buffers, node-width}
 use Rattle.book.proofs.Views.{laid-out-same}
-use Rattle.rooms.specs.Rooms.{edit-room, line-room}
-use Rattle.building.specs.Building.{Building, Taken, on, no, take-event}
-use Rattle.opening.specs.Opening.{Opening, opens, declined, build, build-reading, finished, left, nothing-yet, on-taken, opening, told}
-use Rattle.opened.specs.Opened.{opens-at}
-use Rattle.opened.proofs.Opened.{Viewable, opened-viewable}
-use Rattle.changes.specs.Changes.{Change, to, after, counts-after, edited}
-use Rattle.changes.specs.Trial.{add-asked, append, append-kept, may-stand, settle-asked, standing, strike-asked, strike-line}
-use Rattle.changes.proofs.SameRooms.{edit-room-same, line-room-same}
+use Rattle.book_rooms.specs.Rooms.{edit-room, line-room}
+use Rattle.book_building.specs.Building.{Building, Taken, on, no, take-event}
+use Rattle.book_opening.specs.Opening.{Opening, opens, declined, build, build-reading, finished, left, nothing-yet, on-taken, opening, told}
+use Rattle.book_opened.specs.Opened.{opens-at}
+use Rattle.book_opened.proofs.Opened.{Viewable, opened-viewable}
+use Rattle.trial.specs.Changes.{Change, to, after, counts-after, edited}
+use Rattle.trial.specs.Trial.{add-asked, append, append-kept, may-stand, settle-asked, standing, strike-asked, strike-line}
+use Rattle.trial.proofs.SameRooms.{edit-room-same, line-room-same}
 use Rattle.histories.specs.Histories.{Call, adds, settles, strikes, undoes, Lent, Desk, answer, change, desk-at, follow, lent-after, run, settled-to, undos}
 use Rattle.histories.specs.Demand.{Brought-back, Demand-3, Holds, desk-behind, lent-behind, lent-book, lent-opening}
-use Rattle.changes.proofs.Standing.{standing-same}
+use Rattle.trial.proofs.Standing.{standing-same}
 use Rattle.histories.proofs.Asked.{asked-locality, asked-member, asked-version, book-with}
 use Rattle.histories.proofs.Trails.{Trail, begins, goes, trail-length}
 use Rattle.histories.proofs.Calls.{Held, rooms, seen, undo-is}

@@ -9,7 +9,7 @@ use Rattle.book.specs.Books.{Line}
 use Rattle.book.specs.Edits.{stands}
 use Rattle.ranking.specs.Walk.{Stage, walk}
 use Rattle.ranking.proofs.Unmatched.{line-found, walk-without}
-use Rattle.changes.specs.Trial.{kept-if, standing}
+use Rattle.trial.specs.Trial.{kept-if, standing}
 
 -- ---- lookups: m says which lines match, and no struck line does
 module _ (m : Line → Bool) (struck-out : (x : Line) → stands x ≡ false → m x ≡ false) where

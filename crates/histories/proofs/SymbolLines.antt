@@ -12,12 +12,12 @@ use Rattle.numbers.specs.Limits.{token-limit}
 use Rattle.numbers.specs.Marks.{global}
 use Rattle.lists.proofs.Tests.{both}
 use Rattle.storing.specs.Keeping.{keep}
-use Rattle.cursors.specs.declared.Cursor.{Cursor}
-use Rattle.cursors.specs.declared.Event.{Event}
-use Rattle.cursors.specs.declared.Event.the-variants.{Node, Body, Section, Extern, Closed, Line, Parent}
-use Rattle.cursors.specs.declared.Step.{Step}
-use Rattle.cursors.specs.declared.Step.the-variants.{Go, End, Refused}
-use Rattle.cursors.specs.Moves.{start}
+use Rattle.reading_cursors.specs.declared.Cursor.{Cursor}
+use Rattle.reading_cursors.specs.declared.Event.{Event}
+use Rattle.reading_cursors.specs.declared.Event.the-variants.{Node, Body, Section, Extern, Closed, Line, Parent}
+use Rattle.reading_cursors.specs.declared.Step.{Step}
+use Rattle.reading_cursors.specs.declared.Step.the-variants.{Go, End, Refused}
+use Rattle.reading_cursors.specs.Moves.{start}
 use Rattle.reading.specs.Scripts.{next}
 use Rattle.reading.specs.Events.{Reading, on-step, reading, reading-from, reading-within}
 use Rattle.reading.proofs.Parts.{Marked, Parts, line, next-parts, start-marked}
@@ -26,10 +26,10 @@ use Rattle.book.specs.Books.{Book, Edit, edition-of, export, rust}
 use Rattle.book.specs.Layout.{Buffers}
 use Rattle.book.specs.Sanity.{nodes-good, sane}
 use Rattle.book.proofs.Views.{Rooms}
-use Rattle.changes.specs.Changes.{Change}
-use Rattle.changes.specs.Trial.{append}
-use Rattle.changes.specs.Symbols.{add-event, add-events, add-reading, on-change, symbol-asked, symbol-place}
-use Rattle.changes.proofs.AddedLines.{some-node}
+use Rattle.trial.specs.Changes.{Change}
+use Rattle.trial.specs.Trial.{append}
+use Rattle.trial.specs.Symbols.{add-event, add-events, add-reading, on-change, symbol-asked, symbol-place}
+use Rattle.trial.proofs.AddedLines.{some-node}
 use Rattle.histories.specs.Histories.{Desk, with-event, with-events}
 use Rattle.histories.proofs.Asked.{book-with}
 use Rattle.histories.proofs.Numbered.{reader-numbered}

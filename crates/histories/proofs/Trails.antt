@@ -12,8 +12,8 @@ use lib.Seq.{getD-append-seam, getD-set-same, set-getD, set-set, take-append-sea
 use Rattle.book.specs.Books.{Book, Edit, Line, add, strike, no-line}
 use Rattle.book.specs.Edits.{add-back, all-back, journal-fits, line-at, marked, stands, strike-back, take-back, then-back}
 use Rattle.book.specs.Layout.{Buffers}
-use Rattle.opened.proofs.Opened.{Viewable}
-use Rattle.changes.specs.Trial.{latest}
+use Rattle.book_opened.proofs.Opened.{Viewable}
+use Rattle.trial.specs.Trial.{latest}
 use Rattle.histories.proofs.Asked.{book-with}
 
 -- ---- an edit taken back gives the lines before it

@@ -20,12 +20,12 @@ use Rattle.book.specs.Books.{Book, Edit, Line, add, no-line, rust}
 use Rattle.book.specs.Edits.{all-back, journal-fits, line-at, marked, take-back}
 use Rattle.book.specs.Layout.{Buffers, edit-width, line-form}
 use Rattle.book.specs.Sanity.{content-good, edit-ok, in-range, kind-allows, kind-good, line-ok, nodes-good, sane}
-use Rattle.rooms.specs.Rooms.{edit-room, line-room}
-use Rattle.opened.proofs.Opened.{Viewable}
-use Rattle.changes.specs.Trial.{standing, with-line}
-use Rattle.changes.proofs.AddedLines.{fits-line}
-use Rattle.changes.proofs.Marking.{marked-ok}
-use Rattle.changes.proofs.Standing.{standing-bytes, standing-every, standing-length, standing-stand}
+use Rattle.book_rooms.specs.Rooms.{edit-room, line-room}
+use Rattle.book_opened.proofs.Opened.{Viewable}
+use Rattle.trial.specs.Trial.{standing, with-line}
+use Rattle.trial.proofs.AddedLines.{fits-line}
+use Rattle.trial.proofs.Marking.{marked-ok}
+use Rattle.trial.proofs.Standing.{standing-bytes, standing-every, standing-length, standing-stand}
 use Rattle.histories.proofs.Asked.{book-with}
 use Rattle.histories.proofs.Trails.{journal-last}
 

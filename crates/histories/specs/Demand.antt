@@ -15,13 +15,13 @@ use Rattle.lists.specs.Each.{every}
 use Rattle.book.specs.Edits.{line-at, stands}
 use Rattle.book.specs.Layout.{Buffers, counts-of, laid-out}
 use Rattle.book.specs.View.{view}
-use Rattle.rooms.specs.Rooms.{edit-room, line-room}
-use Rattle.opening.specs.Opening.{Opening, opens, left, opening, told}
-use Rattle.opened.specs.Opened.{opens-at}
+use Rattle.book_rooms.specs.Rooms.{edit-room, line-room}
+use Rattle.book_opening.specs.Opening.{Opening, opens, left, opening, told}
+use Rattle.book_opened.specs.Opened.{opens-at}
 use Rattle.ranking.specs.Matching.{Name}
 use Rattle.lookups.specs.Lookups.{locality-asked, version-asked}
 use Rattle.export_list.specs.Membership.{contains-asked}
-use Rattle.changes.specs.Trial.{may-stand, standing}
+use Rattle.trial.specs.Trial.{may-stand, standing}
 use Rattle.histories.specs.Histories.{Call, adds, settles, strikes, Lent, Desk, answer, desk-at, history, leads, lent-after, run, undos}
 
 -- a book laid out in buffers with the rooms of b, with its counts

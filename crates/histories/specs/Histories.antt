@@ -8,20 +8,20 @@ use Rattle.linker_script.specs.Parts.{part}
 use Rattle.numbers.specs.Marks.{global}
 use Rattle.linker_script.specs.Trim.{trim-end}
 use Rattle.lists.specs.Each.{every}
-use Rattle.pattern.specs.declared.Edition.{Edition}
+use Rattle.numbers.specs.declared.Edition.{Edition}
 use Rattle.classes.specs.Classes.{class-number}
 use Rattle.storing.specs.Keeping.{Keep, kept, refused, keep}
-use Rattle.cursors.specs.declared.Event.{Event}
-use Rattle.cursors.specs.declared.Event.the-variants as event
+use Rattle.reading_cursors.specs.declared.Event.{Event}
+use Rattle.reading_cursors.specs.declared.Event.the-variants as event
 use Rattle.reading.specs.Events.{reading}
 use Rattle.book.specs.declared.Counts.{Counts}
 use Rattle.book.specs.Books.{Line, new-line}
 use Rattle.book.specs.Edits.{marked-at, stands}
 use Rattle.book.specs.Layout.{Buffers}
 use Rattle.book.specs.View.{view}
-use Rattle.changes.specs.Changes.{Change, after, counts-after, edit-refusal, edited}
-use Rattle.changes.specs.Trial.{add-asked, settle-asked, standing, strike-asked, undo-asked}
-use Rattle.changes.specs.Symbols.{symbol-asked, symbol-place}
+use Rattle.trial.specs.Changes.{Change, after, counts-after, edit-refusal, edited}
+use Rattle.trial.specs.Trial.{add-asked, settle-asked, standing, strike-asked, undo-asked}
+use Rattle.trial.specs.Symbols.{symbol-asked, symbol-place}
 
 -- ---- the calls
 pub data Call : Type 0 where

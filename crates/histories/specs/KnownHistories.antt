@@ -12,10 +12,10 @@ use mathlib.Core.Option.{none}
 use Rattle.numbers.specs.Marks.{cxx, general, global, local}
 use Rattle.lists.specs.Texts.{codes}
 use Rattle.packing.specs.Padding.{zeros}
-use Rattle.cursors.specs.Places.{at-list, at-script}
+use Rattle.reading_cursors.specs.Places.{at-list, at-script}
 use Rattle.book.specs.Layout.{Buffers, edit-width, five, line-width, node-width}
 use Rattle.book.specs.View.{view}
-use Rattle.opening.specs.Opening.{opening}
+use Rattle.book_opening.specs.Opening.{opening}
 use Rattle.ranking.specs.Matching.{Name, name-of, plain}
 use Rattle.lookups.specs.declared.answers.Version.{Version}
 use Rattle.lookups.specs.declared.answers.Version.the-variants.{Unversioned}

@@ -6,7 +6,7 @@ ghost use Rattle.linker_script.specs.Finding.{first-from, is};
 ghost use lib.ListN.{drop};
 use linker_script::Found;
 use linker_script::byte_at;
-use searching::find;
+use linker_script::searching::find;
 
 // Whether a line `%%` begins at a place.
 fn is_mark(s: &[u8], at: usize) -> bool

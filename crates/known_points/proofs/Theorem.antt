@@ -10,10 +10,10 @@ use Rattle.storing.specs.Keeping.{unescaped, unescape, keep-when, keep-glob, ke
 use Rattle.linker_script.specs.Finding.{first-in, first-from, last-in, last-close}
 use Rattle.linker_script.specs.Skip.{blank, move, skip-past, skip}
 use Rattle.linker_script.specs.Trim.{white, trim-end}
-use Rattle.tokens.specs.Tokens.{begins, named, name-in, to-semicolon, to-brace, extern-end, bare-extern-end, bare-end, bare-skip}
-use Rattle.cursors.specs.Moves.{start}
-use Rattle.matchers.specs.Matchers.{line-to, extern-open, extern-at, extern-inside, in-extern, in-bare, matcher, bare-line, bare-matcher}
-use Rattle.bodies.specs.Bodies.{name-to, node-at, script-at, parent-to, parent-at, node-end, sole-end, inside-body, body-at, sole-at, list-at}
+use Rattle.reading_tokens.specs.Tokens.{begins, named, name-in, to-semicolon, to-brace, extern-end, bare-extern-end, bare-end, bare-skip}
+use Rattle.reading_cursors.specs.Moves.{start}
+use Rattle.reading_matchers.specs.Matchers.{line-to, extern-open, extern-at, extern-inside, in-extern, in-bare, matcher, bare-line, bare-matcher}
+use Rattle.reading_bodies.specs.Bodies.{name-to, node-at, script-at, parent-to, parent-at, node-end, sole-end, inside-body, body-at, sole-at, list-at}
 use Rattle.reading.specs.Scripts.{opening-at, start-script, go-node, go-body, go-sole, go-list, next-script, next-list, next-symbol, next}
 use Rattle.reading.specs.Events.{reading-within, reading-from, reading}
 use Rattle.lists.specs.Same.{same}
@@ -26,9 +26,9 @@ use Rattle.book.specs.Layout.{counts-of, edit-form, laid-out, line-form, node-f
 use Rattle.book.specs.Sanity.{content-good, glob-stands, in-range, kind-allows, kind-good, line-ok, name-good, named-good, nodes-good, parent-good, sane}
 use Rattle.book.specs.View.{book-of, laid, view, within-limits}
 use Rattle.book.specs.View as view
-use Rattle.rooms.specs.Rooms.{line-room, node-room}
-use Rattle.building.specs.Building.{take-event, take-kept, take-node, take-parent}
-use Rattle.opening.specs.Opening.{build, build-reading, kind-of, left, nothing-yet, opening, rust-style, told}
+use Rattle.book_rooms.specs.Rooms.{line-room, node-room}
+use Rattle.book_building.specs.Building.{take-event, take-kept, take-node, take-parent}
+use Rattle.book_opening.specs.Opening.{build, build-reading, kind-of, left, nothing-yet, opening, rust-style, told}
 use Rattle.ranking.specs.Matching.{class-matches, line-matches, seen}
 use Rattle.ranking.specs.Names.{bad-name, long-name, name-refusal}
 use Rattle.ranking.specs.Walk.{deciding, exact-of, exact-stages, first-line, glob-of, glob-stages, stages, walk}

@@ -8,16 +8,16 @@ use mathlib.Core.Bool.{Bool, true, false}
 use mathlib.Core.Option.{Option, some, none}
 use Rattle.lists.specs.Texts.{codes}
 use Rattle.utf8.specs.Utf8.{encoding, chars}
-use Rattle.pattern.specs.declared.Edition.the-variants.{Reld}
+use Rattle.numbers.specs.declared.Edition.the-variants.{Reld}
 use Rattle.pattern.specs.Patterns.{elements, matches}
 use Rattle.classes.specs.declared.Class.the-variants.{Exact, Escaped, NonStar, Star, All}
 use Rattle.storing.specs.Keeping.{Keep, kept, refused, keep}
-use Rattle.cursors.specs.Places.{at-script}
+use Rattle.reading_cursors.specs.Places.{at-script}
 use Rattle.packing.specs.Padding.{zeros}
 use Rattle.book.specs.Books.{Book}
 use Rattle.book.specs.Layout.{Buffers, five}
 use Rattle.book.specs.View.{view}
-use Rattle.opening.specs.Opening.{Opening, left, opening, told}
+use Rattle.book_opening.specs.Opening.{Opening, left, opening, told}
 use Rattle.ranking.specs.Matching.{plain}
 use Rattle.lookups.specs.declared.answers.Version.{Version}
 use Rattle.lookups.specs.declared.answers.Locality.{Locality}

@@ -2,3 +2,4 @@ pub mod Finding
 pub mod Skip
 pub mod Trim
 pub mod Parts
+pub mod Blocks

@@ -7,6 +7,9 @@ ghost use lib.ListN.{length, getD, take};
 ghost use Rattle.linker_script.specs.Finding.{last-close};
 ghost use Rattle.linker_script.specs.Trim.{white, trim-end};
 
+pub mod comments;
+pub mod searching;
+
 // The first place of what was looked for.
 pub enum Found {
     Here(usize),

@@ -1,3 +1,6 @@
 pub mod Asked
 mod LastNamed
 pub mod Decided
+mod AskedLocality
+mod Listing
+mod AskedVersion

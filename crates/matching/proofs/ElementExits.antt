@@ -15,7 +15,7 @@ use Rattle.utf8.specs.Utf8.{chars}
 use Rattle.utf8.specs.At.{character-at}
 use Rattle.utf8.specs.declared.Character.{Character}
 use Rattle.utf8.proofs.Walk.{walk-onward, chars-end}
-use Rattle.pattern.specs.declared.Edition.{Edition}
+use Rattle.numbers.specs.declared.Edition.{Edition}
 use Rattle.pattern.specs.declared.bracket.Bracket.{Bracket}
 use Rattle.matching.specs.declared.elements.ElementAt.{ElementAt}
 use Rattle.matching.specs.declared.elements.ElementAt.the-variants.{Star, Takes, Fails}

@@ -7,7 +7,7 @@ use mathlib.Core.List.{List, [], _∷_}
 use mathlib.Core.Bool.{true, false}
 use lib.ListN.{length, drop}
 use Rattle.utf8.specs.Utf8.{chars}
-use Rattle.pattern.specs.declared.Edition.{Edition}
+use Rattle.numbers.specs.declared.Edition.{Edition}
 use Rattle.pattern.specs.Patterns.{Taker, takes, Element, star, one, opened, elements}
 use Rattle.pattern.specs.Post.{taken}
 use Rattle.matching.specs.declared.elements.ElementAt.{ElementAt}

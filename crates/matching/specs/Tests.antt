@@ -6,7 +6,7 @@ use mathlib.Core.List.{List, [], _∷_}
 use mathlib.Core.Bool.{Bool, true, false, cond}
 use lib.ListN.{length}
 use Rattle.utf8.specs.Utf8.{chars}
-use Rattle.pattern.specs.declared.Edition.{Edition}
+use Rattle.numbers.specs.declared.Edition.{Edition}
 use Rattle.matching.specs.declared.Tried.{Tried}
 use Rattle.pattern.specs.Patterns.{Taker, Element, star, one, takes, ended, elements, matches}
 

@@ -2,7 +2,7 @@
 ghost use Prim.Native.Nat.{_+_, _<_, _≤_};
 ghost use lib.ListN.{length};
 ghost use Rattle.matching.specs.Post.{Element-ok, Bracket-at-ok};
-use pattern::Edition;
+use numbers::Edition;
 use pattern::bracket::bracket_takes;
 
 pub enum ElementAt {

@@ -10,7 +10,7 @@ ghost use Rattle.pattern.specs.Patterns.{elements, matches};
 ghost use Rattle.matching.specs.Tests.{match-of};
 use crate::elements::ElementAt;
 use crate::elements::element_at;
-use pattern::Edition;
+use numbers::Edition;
 
 mod elements;
 

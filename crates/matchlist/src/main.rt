@@ -7,7 +7,7 @@ use libc::STDOUT_FILENO;
 use meanings::front;
 use meanings::say;
 use meanings::say_meaning;
-use pattern::Edition;
+use numbers::Edition;
 use storing::Stored;
 
 fn print(bytes: &[u8]) {

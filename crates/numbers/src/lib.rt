@@ -48,3 +48,9 @@ pub const NOTHING_TO_UNDO: u32 = 12;
 pub const WRONG_KIND: u32 = 13;
 
 pub const NO_BOOK: u32 = 14;
+
+// How texts and patterns are read. There is one way today, reld's; document 02 (request 06) brings a second. The definitions that promises cite of a pattern's
+// spelling take the edition already, and so do the functions.
+pub enum Edition {
+    Reld,
+}

@@ -18,7 +18,7 @@ use Rattle.utf8.specs.Utf8.{read, chars}
 use Rattle.utf8.specs.At.{character-at}
 use Rattle.utf8.specs.declared.Character.{Character}
 use Rattle.utf8.proofs.Walk.{walk-onward, walk-chars, chars-nil, chars-end, chars-cons, chars-cons-ascii}
-use Rattle.pattern.specs.declared.Edition.{Edition}
+use Rattle.numbers.specs.declared.Edition.{Edition}
 use Rattle.pattern.specs.declared.bracket.MemberAt.{MemberAt}
 use Rattle.pattern.specs.Patterns.{single, range, holds, some-holds, member, inside, between, takes, bracketed, opened}
 use Rattle.pattern.specs.Post.{Member-ok, bracket-told, mark-as, taken}

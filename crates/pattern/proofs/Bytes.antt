@@ -15,7 +15,7 @@ use native.Mathlib.Numerals.{add-one}
 use Rattle.utf8.specs.Utf8.{tail, read, chars}
 use Rattle.utf8.proofs.Walk.{chars-nil, chars-cons, chars-cons-ascii}
 use Rattle.utf8.proofs.Ascii.{tails, tails-few, tails-nil, tails-cons, tails-none, tail-high, Tail-blind, blind-chars, blind-length, read-more, read-high}
-use Rattle.pattern.specs.declared.Edition.{Edition}
+use Rattle.numbers.specs.declared.Edition.{Edition}
 use Rattle.pattern.specs.Patterns.{inside, between}
 
 pub inside-nil : inside [] ≡ []

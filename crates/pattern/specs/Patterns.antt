@@ -12,7 +12,7 @@ use Rattle.lists.specs.Pieces.{Piece, piece, Reader, pieces, sound}
 use Rattle.numbers.specs.Refusals.{bad-pattern, glob-not-utf8}
 use Rattle.numbers.specs.Signs.{asterisk, bang, closing-bracket, dash, opening-bracket, question}
 use Rattle.utf8.specs.Utf8.{chars, utf8}
-use Rattle.pattern.specs.declared.Edition.{Edition}
+use Rattle.numbers.specs.declared.Edition.{Edition}
 
 -- ---- brackets
 -- "a range by code point (a falling one is empty), otherwise one is a single member"

@@ -10,7 +10,7 @@ use lib.Dec.{eqb}
 use Rattle.lists.specs.Pieces.{pieces}
 use Rattle.numbers.specs.Signs.{bang, caret}
 use Rattle.utf8.specs.Utf8.{chars}
-use Rattle.pattern.specs.declared.Edition.{Edition}
+use Rattle.numbers.specs.declared.Edition.{Edition}
 use Rattle.pattern.specs.declared.bracket.MemberAt.{MemberAt}
 use Rattle.pattern.specs.declared.bracket.Bracket.{Bracket}
 use Rattle.pattern.specs.Patterns.{Member, holds, member, between, takes, Element, star, one, opened}

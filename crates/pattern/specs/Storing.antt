@@ -4,7 +4,7 @@ use mathlib.Core.List.{List, [], _∷_}
 use mathlib.Core.Bool.{Bool, true, false, cond, _&&_}
 use lib.Dec.{eqb}
 use Rattle.numbers.specs.Signs.{bang, caret, opening-bracket}
-use Rattle.pattern.specs.declared.Edition.{Edition}
+use Rattle.numbers.specs.declared.Edition.{Edition}
 
 -- a byte of a glob as it is stored; `b` says that a `[` stands just before it
 unfoldable pub stored-byte : Bool → ℕ → ℕ

@@ -6,7 +6,7 @@ ghost use Rattle.lists.specs.Pieces.{pieces};
 ghost use Rattle.utf8.specs.Utf8.{chars};
 ghost use Rattle.pattern.specs.Patterns.{between, member, some-holds};
 ghost use Rattle.pattern.specs.Post.{Member-ok, bracket-told, mark-as};
-use crate::Edition;
+use numbers::Edition;
 
 // How many bytes the mark of a negated bracket takes, at the place behind its `[`; a token has `^` too, which is stored as `!`.
 pub fn mark_at(p: &[u8], at: usize, token: bool) -> usize

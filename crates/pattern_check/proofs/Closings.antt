@@ -16,7 +16,7 @@ use lib.Dec.{eqb, ltb}
 use Rattle.utf8.specs.Utf8.{read, chars}
 use Rattle.utf8.proofs.Walk.{chars-nil, chars-cons, chars-cons-ascii}
 use Rattle.utf8.proofs.Ascii.{read-high}
-use Rattle.pattern.specs.declared.Edition.{Edition}
+use Rattle.numbers.specs.declared.Edition.{Edition}
 use Rattle.pattern_check.specs.declared.Closing.the-variants.{Behind, Open}
 use Rattle.pattern.specs.Patterns.{between, opened}
 use Rattle.pattern.specs.Post.{mark-as}

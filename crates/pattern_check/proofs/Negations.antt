@@ -14,7 +14,7 @@ use lib.ListN.{length, drop, length-drop}
 use lib.Seq.{drop-drop}
 use lib.Dec.{eqb, ltb}
 use Rattle.lists.specs.Pieces.{Piece}
-use Rattle.pattern.specs.declared.Edition.{Edition}
+use Rattle.numbers.specs.declared.Edition.{Edition}
 use Rattle.pattern.specs.Patterns.{inside, between, Element, bracketed, opened}
 use Rattle.pattern.specs.Storing.{stored-byte, negated-from}
 use Rattle.pattern.specs.Post.{mark-as}

@@ -15,7 +15,7 @@ use Rattle.utf8.specs.Utf8.{chars, utf8}
 use Rattle.utf8.specs.At.{character-at}
 use Rattle.utf8.specs.declared.Character.{Character}
 use Rattle.utf8.proofs.Walk.{walk-onward, walk-chars, chars-end}
-use Rattle.pattern.specs.declared.Edition.{Edition}
+use Rattle.numbers.specs.declared.Edition.{Edition}
 use Rattle.pattern_check.specs.declared.Closing.{Closing}
 use Rattle.pattern_check.specs.declared.Closing.the-variants.{Behind, Open}
 use Rattle.pattern.specs.Patterns.{literal, any-one, Element, one, bracketed, opened, element, adjacent-from, shaped-from, refusal}

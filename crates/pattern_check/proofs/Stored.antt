@@ -14,7 +14,7 @@ use lib.Dec.{eqb}
 use Rattle.utf8.specs.Utf8.{tail, read, chars, utf8}
 use Rattle.utf8.proofs.Walk.{chars-nil, chars-cons, utf8-cons, chars-cons-ascii, utf8-cons-ascii}
 use Rattle.utf8.proofs.Ascii.{tails, tails-cons, tails-none, tail-high, read-high, Tail-blind, blind-chars, blind-utf8}
-use Rattle.pattern.specs.declared.Edition.{Edition}
+use Rattle.numbers.specs.declared.Edition.{Edition}
 use Rattle.pattern.specs.Storing.{stored-byte, negated-from, stored, read-as}
 use Rattle.pattern_check.specs.Post.{chars-as}
 

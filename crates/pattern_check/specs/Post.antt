@@ -7,7 +7,7 @@ use mathlib.Core.List.{List}
 use mathlib.Core.Bool.{Bool, true, false}
 use lib.ListN.{drop}
 use Rattle.utf8.specs.Utf8.{chars}
-use Rattle.pattern.specs.declared.Edition.{Edition}
+use Rattle.numbers.specs.declared.Edition.{Edition}
 use Rattle.pattern.specs.Patterns.{opened}
 use Rattle.pattern.specs.Storing.{negated-from}
 use Rattle.pattern_check.specs.declared.Closing.{Closing}

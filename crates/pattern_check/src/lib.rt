@@ -9,8 +9,8 @@ ghost use Rattle.pattern.specs.Patterns.{refusal, shape-refusal};
 ghost use Rattle.pattern.specs.Storing.{read-as};
 ghost use Rattle.pattern_check.specs.Post.{Closing-ok, chars-as};
 use numbers::BAD_PATTERN;
+use numbers::Edition;
 use numbers::GLOB_NOT_UTF8;
-use pattern::Edition;
 use pattern::bracket::between_length;
 use pattern::bracket::mark_at;
 

@@ -3,3 +3,4 @@ pub mod Deciders
 pub mod Unmatched
 pub mod NameTests
 pub mod Answers
+mod Leading

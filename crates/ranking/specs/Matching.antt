@@ -7,7 +7,7 @@ use Rattle.numbers.specs.Classes.{all-class, by-bytes}
 use Rattle.numbers.specs.Marks.{cxx}
 use Rattle.lists.specs.Same.{same}
 use Rattle.utf8.specs.Utf8.{chars}
-use Rattle.pattern.specs.declared.Edition.{Edition}
+use Rattle.numbers.specs.declared.Edition.{Edition}
 use Rattle.pattern.specs.Patterns.{elements, matches}
 use Rattle.book.specs.Books.{Line}
 use Rattle.book.specs.Edits.{stands}

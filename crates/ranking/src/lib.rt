@@ -1,5 +1,5 @@
 // A line's place in 01's ranking, as one number, and what is asked of a name before it is looked up. The search for the line that decides stands in
-// deciding. Definitions: specs/Matching.antt, specs/Walk.antt, specs/Ranks.antt and specs/Names.antt, from document 01, 'Ranking'.
+// `finding`. Definitions: specs/Matching.antt, specs/Walk.antt, specs/Ranks.antt and specs/Names.antt, from document 01, 'Ranking'.
 ghost use mathlib.Core.Path.{_≡_};
 ghost use mathlib.Core.List.{[]};
 ghost use Prim.Native.Nat.{_≤_, _<_};
@@ -8,6 +8,7 @@ ghost use Rattle.book.specs.Layout.{line-of};
 ghost use Rattle.ranking.specs.Ranks.{rank};
 use book::STRUCK;
 
+pub mod finding;
 pub mod names;
 
 // The number of the line that decides, or nothing where no line matches.

@@ -1,12 +1,12 @@
 // The reader that holds the script and its place: thin functions over `start_at` and `next_event`. The borrow checker covers no function over a struct that
 // holds a reference, so each is proved by a walk of its code by hand.
 ghost use mathlib.Core.Path.{_≡_};
-ghost use Rattle.cursors.specs.Moves.{start};
+ghost use Rattle.reading_cursors.specs.Moves.{start};
 ghost use Rattle.reading.specs.Scripts.{next};
-use cursors::Cursor;
-use cursors::Step;
-use cursors::start_at;
 use reading::scripts::next_event;
+use reading_cursors::Cursor;
+use reading_cursors::Step;
+use reading_cursors::start_at;
 
 // A text, and where its reading stands.
 pub struct Reader<'a> {

@@ -13,10 +13,10 @@ use Rattle.linker_script.specs.declared.Found.{Found}
 use Rattle.linker_script.specs.declared.Found.the-variants.{Here, Nowhere}
 use Rattle.linker_script.specs.Finding.{Test, first-from, is}
 use Rattle.linker_script.proofs.Searches.{byte-within, first-within}
-use Rattle.tokens.specs.declared.TokenEnd.{TokenEnd}
-use Rattle.tokens.specs.declared.TokenEnd.the-variants.{To, Refused}
-use Rattle.tokens.specs.Tokens.{begins, stands-at, named, longer, name-in, name-end, end-at, to-semicolon, to-brace, brace-before, extern-end, bare-extern-end, bare-end, bare-skip}
-use Rattle.matchers.specs.Matchers.{past-semicolon}
+use Rattle.reading_tokens.specs.declared.TokenEnd.{TokenEnd}
+use Rattle.reading_tokens.specs.declared.TokenEnd.the-variants.{To, Refused}
+use Rattle.reading_tokens.specs.Tokens.{begins, stands-at, named, longer, name-in, name-end, end-at, to-semicolon, to-brace, brace-before, extern-end, bare-extern-end, bare-end, bare-skip}
+use Rattle.reading_matchers.specs.Matchers.{past-semicolon}
 
 -- ---- bytes and words
 -- a byte that is no 0

@@ -19,19 +19,19 @@ use Rattle.linker_script.specs.declared.Skipped.the-variants.{At}
 use Rattle.linker_script.specs.Finding.{closes, first-from, is}
 use Rattle.linker_script.specs.Skip.{skip}
 use Rattle.linker_script.proofs.Searches.{first-within}
-use Rattle.tokens.specs.declared.TokenEnd.{TokenEnd}
-use Rattle.tokens.specs.declared.TokenEnd.the-variants.{To}
-use Rattle.tokens.specs.declared.TokenEnd.the-variants as no
-use Rattle.tokens.specs.Tokens.{stands-at, name-end, end-at, to-semicolon, to-brace, bare-end, bare-skip}
-use Rattle.cursors.specs.declared.Cursor.{Cursor}
-use Rattle.cursors.specs.declared.Event.{Event}
-use Rattle.cursors.specs.declared.Event.the-variants.{Extern}
-use Rattle.cursors.specs.declared.Step.{Step}
-use Rattle.cursors.specs.declared.Step.the-variants.{Go, End, Refused}
-use Rattle.cursors.specs.Moves.{moved, in-language, start, skipping, expecting, ending}
-use Rattle.matchers.specs.Matchers.{extern-word, cxx-word, c-word, close-word, line-to, extern-open, extern-at, extern-inside, matcher as matcher-at, bare-line}
-use Rattle.cursors.specs.Places.{at-list, in-list, in-list-extern, at-symbol, in-symbol-extern, at-bare, in-bare-extern}
-use Rattle.bodies.specs.Bodies.{global-word, local-word, name-to, node-at, script-at, parent-to, parent-at, inside-body, list-at}
+use Rattle.reading_tokens.specs.declared.TokenEnd.{TokenEnd}
+use Rattle.reading_tokens.specs.declared.TokenEnd.the-variants.{To}
+use Rattle.reading_tokens.specs.declared.TokenEnd.the-variants as no
+use Rattle.reading_tokens.specs.Tokens.{stands-at, name-end, end-at, to-semicolon, to-brace, bare-end, bare-skip}
+use Rattle.reading_cursors.specs.declared.Cursor.{Cursor}
+use Rattle.reading_cursors.specs.declared.Event.{Event}
+use Rattle.reading_cursors.specs.declared.Event.the-variants.{Extern}
+use Rattle.reading_cursors.specs.declared.Step.{Step}
+use Rattle.reading_cursors.specs.declared.Step.the-variants.{Go, End, Refused}
+use Rattle.reading_cursors.specs.Moves.{moved, in-language, start, skipping, expecting, ending}
+use Rattle.reading_matchers.specs.Matchers.{extern-word, cxx-word, c-word, close-word, line-to, extern-open, extern-at, extern-inside, matcher as matcher-at, bare-line}
+use Rattle.reading_cursors.specs.Places.{at-list, in-list, in-list-extern, at-symbol, in-symbol-extern, at-bare, in-bare-extern}
+use Rattle.reading_bodies.specs.Bodies.{global-word, local-word, name-to, node-at, script-at, parent-to, parent-at, inside-body, list-at}
 use Rattle.reading.specs.Scripts.{next-symbol, next}
 use Rattle.reading.specs.Rules.{Byte, Token, plain-token, extern-token, bare-token, bare-extern-token, to-closing, Rule, skip-to, node, opening, parent, end, matcher, token, Due, due-script, due-node, due-opening, due-body, due-body-block, due-sole, due-sole-block, due-list, due-matchers, due-list-block, due-symbol, due-symbol-block, due-bare, due-bare-block, Over, Comes, starts, past-blank, past-line, past-comment, skipped, to-nodes, behind-body, of-body, behind-semicolon, behind-list, of-list, behind-cxx, behind-c, behind-block, of-matcher, of-block, all-text}
 use Rattle.reading.specs.Refusing.{Unreadable, no-name, no-opening, no-parent-end, no-semicolon, bytes-remain, no-token-end, empty-to-semicolon, empty-to-closing, Unclosed, line, comment, no-brace-left, Bad-extern, language, within-extern, Refusing, one, two, three, four, Reaches, first, after, Refused-reading}

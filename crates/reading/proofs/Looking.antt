@@ -17,9 +17,9 @@ use Rattle.linker_script.specs.declared.Found.{Found}
 use Rattle.linker_script.specs.declared.Found.the-variants.{Here, Nowhere}
 use Rattle.linker_script.specs.Finding.{Test, first-from, is, last-close}
 use Rattle.linker_script.proofs.Searches.{First, first-within, last-close-none}
-use Rattle.tokens.specs.declared.TokenEnd.the-variants.{To, Refused}
-use Rattle.tokens.specs.Tokens.{end-at, to-semicolon, to-brace, brace-before, extern-end}
-use Rattle.tokens.proofs.Ends.{and-both}
+use Rattle.reading_tokens.specs.declared.TokenEnd.the-variants.{To, Refused}
+use Rattle.reading_tokens.specs.Tokens.{end-at, to-semicolon, to-brace, brace-before, extern-end}
+use Rattle.reading_tokens.proofs.Ends.{and-both}
 use Rattle.reading.specs.Rules.{Byte}
 use Rattle.reading.proofs.Absence.{nowhere-in, nowhere-pair, stands-first}
 

@@ -9,14 +9,14 @@ use native.Mathlib.Omega.{arith}
 use lib.Dec.{eqb}
 use lib.ListN.{length}
 use Rattle.linker_script.specs.Finding.{last-close}
-use Rattle.tokens.specs.Tokens.{to-either, extern-end}
-use Rattle.tokens.proofs.Ends.{extern-end-01}
-use Rattle.cursors.specs.declared.Cursor.{Cursor}
-use Rattle.cursors.specs.declared.Event.{Event}
-use Rattle.cursors.specs.declared.Step.{Step}
-use Rattle.cursors.specs.declared.Step.the-variants.{Go, End, Refused}
-use Rattle.cursors.specs.Moves.{start}
-use Rattle.cursors.specs.Places.{behind-symbol}
+use Rattle.reading_tokens.specs.Tokens.{to-either, extern-end}
+use Rattle.reading_tokens.proofs.Ends.{extern-end-01}
+use Rattle.reading_cursors.specs.declared.Cursor.{Cursor}
+use Rattle.reading_cursors.specs.declared.Event.{Event}
+use Rattle.reading_cursors.specs.declared.Step.{Step}
+use Rattle.reading_cursors.specs.declared.Step.the-variants.{Go, End, Refused}
+use Rattle.reading_cursors.specs.Moves.{start}
+use Rattle.reading_cursors.specs.Places.{behind-symbol}
 use Rattle.reading.specs.Scripts.{next}
 use Rattle.reading.specs.Events.{Reading, on-step, reading-within, reading-from, reading}
 use Rattle.reading.proofs.Steps.{Fresh, Onward, Fits, goes, next-fits}

@@ -4,10 +4,10 @@ use Rattle.lists.specs.Texts.{codes}
 use Rattle.linker_script.specs.Finding.{first-in, first-from, last-in, last-close}
 use Rattle.linker_script.specs.Skip.{blank, move, skip-past, skip}
 use Rattle.linker_script.specs.Trim.{white, trim-end}
-use Rattle.tokens.specs.Tokens.{begins, named, name-in, to-semicolon, to-brace, extern-end, bare-extern-end, bare-end, bare-skip}
-use Rattle.cursors.specs.Moves.{start}
-use Rattle.matchers.specs.Matchers.{line-to, extern-open, extern-at, extern-inside, in-extern, in-bare, matcher, bare-line, bare-matcher}
-use Rattle.bodies.specs.Bodies.{name-to, node-at, script-at, parent-to, parent-at, node-end, sole-end, inside-body, body-at, sole-at, list-at}
+use Rattle.reading_tokens.specs.Tokens.{begins, named, name-in, to-semicolon, to-brace, extern-end, bare-extern-end, bare-end, bare-skip}
+use Rattle.reading_cursors.specs.Moves.{start}
+use Rattle.reading_matchers.specs.Matchers.{line-to, extern-open, extern-at, extern-inside, in-extern, in-bare, matcher, bare-line, bare-matcher}
+use Rattle.reading_bodies.specs.Bodies.{name-to, node-at, script-at, parent-to, parent-at, node-end, sole-end, inside-body, body-at, sole-at, list-at}
 use Rattle.reading.specs.Scripts.{opening-at, start-script, go-node, go-body, go-sole, go-list, next-script, next-list, next-symbol, next}
 use Rattle.reading.specs.Events.{reading-within, reading-from, reading}
 use Rattle.reading.specs.KnownReadings.{as-script, as-list, as-symbol, as-bare, lines, KnownReadings}

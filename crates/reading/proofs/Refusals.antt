@@ -11,11 +11,11 @@ use lib.Dec.{eqb}
 use lib.ListN.{length}
 use Rattle.numbers.specs.Limits.{script-limit, token-limit}
 use Rattle.numbers.specs.Refusals.{too-long}
-use Rattle.cursors.specs.declared.Cursor.{Cursor}
-use Rattle.cursors.specs.declared.Step.{Step}
-use Rattle.cursors.specs.declared.Step.the-variants.{Go, End, Refused}
-use Rattle.cursors.specs.Moves.{start}
-use Rattle.cursors.specs.Places.{behind-symbol}
+use Rattle.reading_cursors.specs.declared.Cursor.{Cursor}
+use Rattle.reading_cursors.specs.declared.Step.{Step}
+use Rattle.reading_cursors.specs.declared.Step.the-variants.{Go, End, Refused}
+use Rattle.reading_cursors.specs.Moves.{start}
+use Rattle.reading_cursors.specs.Places.{behind-symbol}
 use Rattle.reading.specs.Scripts.{start-script, next-script, next-list, next-symbol, next}
 use Rattle.reading.specs.Events.{refused, on-step, reading-within, reading-from, reading}
 use Rattle.reading.specs.Rules.{Over, script, list, symbol, bare}

@@ -7,9 +7,9 @@ use Prim.Native.String.{String}
 use mathlib.Core.Path.{_≡_}
 use mathlib.Core.List.{List, [], _∷_}
 use Rattle.lists.specs.Texts.{codes}
-use Rattle.cursors.specs.declared.Event.{Event}
-use Rattle.cursors.specs.declared.Event.the-variants.{Node, Body, Section, Extern, Closed, Line, Parent}
-use Rattle.cursors.specs.Places.{at-script, at-list, at-symbol, at-bare}
+use Rattle.reading_cursors.specs.declared.Event.{Event}
+use Rattle.reading_cursors.specs.declared.Event.the-variants.{Node, Body, Section, Extern, Closed, Line, Parent}
+use Rattle.reading_cursors.specs.Places.{at-script, at-list, at-symbol, at-bare}
 use Rattle.reading.specs.Events.{accepted, refused, Reading, reading}
 
 -- ---- the readings of a text: as a version script, an export list, a text of `add_symbol`, and one without semicolon

@@ -10,11 +10,11 @@ use lib.ListN.{length}
 use Rattle.linker_script.specs.Parts.{behind}
 use Rattle.numbers.specs.Refusals.{too-long, unreadable, unclosed, bad-extern}
 use Rattle.numbers.specs.Signs.{asterisk, closing-brace, hash, line-feed, opening-brace, semicolon, slash}
-use Rattle.cursors.specs.declared.Cursor.{Cursor}
-use Rattle.cursors.specs.declared.Event.{Event}
-use Rattle.cursors.specs.declared.Step.the-variants.{Go}
-use Rattle.cursors.specs.Moves.{start}
-use Rattle.matchers.specs.Matchers.{extern-word, cxx-word, c-word}
+use Rattle.reading_cursors.specs.declared.Cursor.{Cursor}
+use Rattle.reading_cursors.specs.declared.Event.{Event}
+use Rattle.reading_cursors.specs.declared.Step.the-variants.{Go}
+use Rattle.reading_cursors.specs.Moves.{start}
+use Rattle.reading_matchers.specs.Matchers.{extern-word, cxx-word, c-word}
 use Rattle.reading.specs.Scripts.{next}
 use Rattle.reading.specs.Rules.{Byte, None, No-pair, Word, No-word, Name-byte, Token, extern-token, to-closing, Rule, skip-to, node, opening, parent, last-semicolon, end, matcher, block, token, Over, Comes}
 

@@ -12,11 +12,11 @@ use Rattle.linker_script.specs.declared.Found.the-variants.{Here, Nowhere}
 use Rattle.linker_script.specs.Finding.{are, closes, first-from, is}
 use Rattle.linker_script.specs.Parts.{behind}
 use Rattle.linker_script.specs.Skip.{blank, skips}
-use Rattle.tokens.specs.Tokens.{brace-next, named, stands-at}
-use Rattle.cursors.specs.declared.Cursor.{Cursor}
-use Rattle.matchers.specs.Matchers.{extern-word, cxx-word, c-word, close-word}
-use Rattle.cursors.specs.Places.{at-script, at-node, at-body, in-body, in-body-extern, in-sole, in-sole-extern, at-list, in-list, in-list-extern, at-symbol, in-symbol-extern, at-bare, in-bare-extern}
-use Rattle.bodies.specs.Bodies.{global-word, local-word}
+use Rattle.reading_tokens.specs.Tokens.{brace-next, named, stands-at}
+use Rattle.reading_cursors.specs.declared.Cursor.{Cursor}
+use Rattle.reading_matchers.specs.Matchers.{extern-word, cxx-word, c-word, close-word}
+use Rattle.reading_cursors.specs.Places.{at-script, at-node, at-body, in-body, in-body-extern, in-sole, in-sole-extern, at-list, in-list, in-list-extern, at-symbol, in-symbol-extern, at-bare, in-bare-extern}
+use Rattle.reading_bodies.specs.Bodies.{global-word, local-word}
 
 -- ---- the text at a place
 -- the byte b stands at p; none stands from p on; nor do two bytes side by side

@@ -7,14 +7,14 @@ use lib.Dec.{eqb, ltb}
 use Rattle.numbers.specs.Limits.{over, script-limit, token-limit}
 use Rattle.numbers.specs.Refusals.{too-long}
 use Rattle.numbers.specs.Signs.{opening-brace}
-use Rattle.cursors.specs.declared.Cursor.{Cursor}
-use Rattle.cursors.specs.declared.Event.the-variants.{Body}
-use Rattle.cursors.specs.declared.Step.{Step}
-use Rattle.cursors.specs.declared.Step.the-variants.{Go, End, Refused}
-use Rattle.cursors.specs.Moves.{moved, skipping, expecting}
-use Rattle.matchers.specs.Matchers.{matcher, bare-matcher, in-extern, in-bare}
-use Rattle.cursors.specs.Places.{at-script, at-node, at-body, in-body, in-body-extern, in-sole, at-list, in-list, at-symbol, in-symbol-extern, at-bare, in-bare-extern, behind-symbol}
-use Rattle.bodies.specs.Bodies.{node-at, script-at, body-at, sole-at, list-at}
+use Rattle.reading_cursors.specs.declared.Cursor.{Cursor}
+use Rattle.reading_cursors.specs.declared.Event.the-variants.{Body}
+use Rattle.reading_cursors.specs.declared.Step.{Step}
+use Rattle.reading_cursors.specs.declared.Step.the-variants.{Go, End, Refused}
+use Rattle.reading_cursors.specs.Moves.{moved, skipping, expecting}
+use Rattle.reading_matchers.specs.Matchers.{matcher, bare-matcher, in-extern, in-bare}
+use Rattle.reading_cursors.specs.Places.{at-script, at-node, at-body, in-body, in-body-extern, in-sole, at-list, in-list, at-symbol, in-symbol-extern, at-bare, in-bare-extern, behind-symbol}
+use Rattle.reading_bodies.specs.Bodies.{node-at, script-at, body-at, sole-at, list-at}
 
 -- a body or a list opens: "skip, `{`"
 unfoldable pub opening-at : Cursor → List ℕ → ℕ → Step

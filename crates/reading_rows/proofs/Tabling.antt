@@ -13,12 +13,12 @@ use Rattle.numbers.specs.Limits.{script-limit}
 use Rattle.numbers.specs.Refusals.{no-room, too-long}
 use Rattle.lists.specs.Front.{front}
 use Rattle.lists.proofs.FrontLaws.{front-nil, front-run}
-use Rattle.cursors.specs.declared.Cursor.{Cursor}
-use Rattle.cursors.specs.declared.Event.{Event}
-use Rattle.cursors.specs.declared.Event.the-variants.{Node, Body, Section, Extern, Closed, Line, Parent}
-use Rattle.cursors.specs.declared.Step.{Step}
-use Rattle.cursors.specs.declared.Step.the-variants.{Go, End, Refused}
-use Rattle.cursors.specs.Moves.{start}
+use Rattle.reading_cursors.specs.declared.Cursor.{Cursor}
+use Rattle.reading_cursors.specs.declared.Event.{Event}
+use Rattle.reading_cursors.specs.declared.Event.the-variants.{Node, Body, Section, Extern, Closed, Line, Parent}
+use Rattle.reading_cursors.specs.declared.Step.{Step}
+use Rattle.reading_cursors.specs.declared.Step.the-variants.{Go, End, Refused}
+use Rattle.reading_cursors.specs.Moves.{start}
 use Rattle.reading.specs.Scripts.{next}
 use Rattle.reading.specs.Events.{Outcome, accepted, refused, ends, on-step, reading-from, reading}
 use Rattle.reading.proofs.Refusals.{standing-refuses}

@@ -7,9 +7,9 @@ use lib.ListN.{length, take}
 use Rattle.numbers.specs.Limits.{over, script-limit}
 use Rattle.numbers.specs.Refusals.{no-room, too-long}
 use Rattle.lists.specs.Front.{front}
-use Rattle.cursors.specs.declared.Event.{Event}
-use Rattle.cursors.specs.declared.Event.the-variants.{Node, Body, Section, Extern, Closed, Line, Parent}
-use Rattle.cursors.specs.Places.{at-script, at-list, at-symbol, at-bare}
+use Rattle.reading_cursors.specs.declared.Event.{Event}
+use Rattle.reading_cursors.specs.declared.Event.the-variants.{Node, Body, Section, Extern, Closed, Line, Parent}
+use Rattle.reading_cursors.specs.Places.{at-script, at-list, at-symbol, at-bare}
 use Rattle.reading.specs.Events.{Outcome, accepted, refused, Reading, reading}
 
 -- the kind, and its numbers

@@ -8,17 +8,17 @@ ghost use Rattle.numbers.specs.Limits.{script-limit};
 ghost use Rattle.lists.specs.Front.{front};
 ghost use Rattle.reading.specs.Events.{reading};
 ghost use Rattle.reading_rows.specs.Rows.{events-rows, events-told, place-of, row, rows-fitting, reading-told};
-use cursors::Event;
-use cursors::Step;
-use cursors::places::AT_BARE;
-use cursors::places::AT_LIST;
-use cursors::places::AT_SCRIPT;
-use cursors::places::AT_SYMBOL;
-use cursors::start_at;
 use numbers::NO_ROOM;
 use numbers::SCRIPT_LIMIT;
 use numbers::TOO_LONG;
 use reading::scripts::next_event;
+use reading_cursors::Event;
+use reading_cursors::Step;
+use reading_cursors::places::AT_BARE;
+use reading_cursors::places::AT_LIST;
+use reading_cursors::places::AT_SCRIPT;
+use reading_cursors::places::AT_SYMBOL;
+use reading_cursors::start_at;
 
 fn source_place(source: u32) -> u32
     ensures { λ r. ⌜ r ≡ place-of source ⌝ }

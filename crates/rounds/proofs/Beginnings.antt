@@ -9,10 +9,10 @@ use Rattle.input.specs.Splitting.{lines-in}
 use Rattle.book.specs.declared.Counts.{Counts}
 use Rattle.book.specs.Books.{Book}
 use Rattle.book.specs.Layout.{Buffers}
-use Rattle.opening.specs.declared.Opened.{Opened}
-use Rattle.opening.specs.Opening.{Opening, declined, left, opening, opens, told}
-use Rattle.opening.proofs.Refusing.{opening-refuses}
-use Rattle.opened.specs.Opened.{opens-at}
+use Rattle.book_opening.specs.declared.Opened.{Opened}
+use Rattle.book_opening.specs.Opening.{Opening, declined, left, opening, opens, told}
+use Rattle.book_opening.proofs.Refusing.{opening-refuses}
+use Rattle.book_opened.specs.Opened.{opens-at}
 use Rattle.histories.specs.Histories.{Lent}
 use Rattle.histories.specs.Demand.{lent-opening}
 use Rattle.rounds.specs.Rounds.{Desk-rooms, Reached, behind-opening, desk-left, lines-lent}

@@ -11,7 +11,7 @@ use Rattle.linker_script.specs.declared.Found.the-variants.{Here, Nowhere}
 use Rattle.linker_script.specs.Finding.{first-from, is}
 use Rattle.input.specs.Splitting.{lines-in}
 use Rattle.input.proofs.Cuts.{lines-to-end, lines-to-feed}
-use Rattle.line_parts.specs.Parts.{end-by, line-end}
+use Rattle.desk_commands.specs.Parts.{end-by, line-end}
 
 -- from a place within the text on, the first line goes to its end, and the others begin behind that
 pub lines-from : (s : List ℕ) (at : ℕ) → at < length s

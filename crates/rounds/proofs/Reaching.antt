@@ -18,26 +18,26 @@ use Rattle.book.specs.Layout.{Buffers, counts-of, laid-out}
 use Rattle.book.specs.Sanity.{kind-good, nodes-good, sane}
 use Rattle.book.specs.View.{Fits, view}
 use Rattle.book.proofs.Views.{Rooms, laid-out-rooms, laid-out-same, layout-of-view, view-of-layout}
-use Rattle.opening.specs.Opening.{left, opening, told}
-use Rattle.opened.proofs.Opened.{Viewable, opened-viewable}
-use Rattle.changes.specs.Changes.{after, counts-after}
-use Rattle.changes.specs.Trial.{add-asked, settle-asked, settled, strike-asked, undo-asked}
-use Rattle.changes.specs.Symbols.{symbol-asked}
+use Rattle.book_opening.specs.Opening.{left, opening, told}
+use Rattle.book_opened.proofs.Opened.{Viewable, opened-viewable}
+use Rattle.trial.specs.Changes.{after, counts-after}
+use Rattle.trial.specs.Trial.{add-asked, settle-asked, settled, strike-asked, undo-asked}
+use Rattle.trial.specs.Symbols.{symbol-asked}
 use Rattle.histories.specs.Histories.{Call, adds, adds-symbol, settles, strikes, undoes, Desk, Lent, change, desk-at, lent-after}
 use Rattle.histories.specs.Demand.{lent-book, lent-opening}
 use Rattle.histories.proofs.Calls as calls
 use Rattle.histories.proofs.Calls.{Held, seen}
 use Rattle.histories.proofs.EachCall.{held-after}
 use Rattle.histories.proofs.Demand.{held-opened, opened-edits}
-use Rattle.commands.specs.declared.Command.{Command}
-use Rattle.commands.specs.declared.Command.the-variants as command
-use Rattle.commands.specs.declared.Edit.the-variants as edit
-use Rattle.commands.specs.declared.Question.the-variants as question
-use Rattle.desk_edits.specs.Edits.{edit-asked, edit-step}
-use Rattle.desk_questions.specs.Questions.{question-step}
-use Rattle.commands.specs.Commands.{command-of}
-use Rattle.showing.specs.Shown.{shown-room}
-use Rattle.answering.specs.Answers.{Step}
+use Rattle.desk_commands.specs.declared.Command.{Command}
+use Rattle.desk_commands.specs.declared.Command.the-variants as command
+use Rattle.desk_commands.specs.declared.Edit.the-variants as edit
+use Rattle.desk_commands.specs.declared.Question.the-variants as question
+use Rattle.desk.specs.Edits.{edit-asked, edit-step}
+use Rattle.desk.specs.Questions.{question-step}
+use Rattle.desk_commands.specs.Commands.{command-of}
+use Rattle.printing_book.specs.Shown.{shown-room}
+use Rattle.desk.specs.Answers.{Step}
 use Rattle.desk.specs.Desk.{has-room, line-step, step}
 use Rattle.rounds.specs.Rounds.{Desk-rooms, No-line-lacks-room, Reached, line-lent, lines-lent, printing-room}
 

@@ -6,9 +6,9 @@ use lib.ListN.{length, take, drop}
 use Rattle.input.specs.Splitting.{input-limit, lines-in}
 use Rattle.book.specs.declared.Counts.{Counts}
 use Rattle.book.specs.Layout.{Buffers}
-use Rattle.line_parts.specs.Parts.{line-end}
+use Rattle.desk_commands.specs.Parts.{line-end}
 use Rattle.histories.specs.Histories.{Lent}
-use Rattle.answering.specs.declared.Ran.{Ran}
+use Rattle.desk.specs.declared.answering.Ran.{Ran}
 use Rattle.desk.specs.Desk.{line-leaves, line-ran}
 use Rattle.rounds.specs.Rounds.{Reached, line-lent, lines-lent, printing-room}
 use Rattle.input.proofs.Cuts.{no-lines-from}

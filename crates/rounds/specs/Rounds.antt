@@ -7,8 +7,8 @@ use lib.ListN.{length}
 use Rattle.input.specs.Splitting.{input-limit, lines-in}
 use Rattle.book.specs.Books.{Book}
 use Rattle.book.specs.Layout.{Buffers, edit-width, line-width, node-width}
-use Rattle.opening.specs.Opening.{Opening, opens, declined, left, opening}
-use Rattle.opened.specs.Opened.{opens-at}
+use Rattle.book_opening.specs.Opening.{Opening, opens, declined, left, opening}
+use Rattle.book_opened.specs.Opened.{opens-at}
 use Rattle.histories.specs.Histories.{Lent}
 use Rattle.histories.specs.Demand.{lent-opening}
 use Rattle.desk.specs.Desk.{has-room, line-step}

@@ -8,7 +8,7 @@ use lib.ListN.{length, take, drop}
 use lib.Seq.{take-length}
 use Rattle.lists.specs.Front.{front}
 use Rattle.lists.proofs.FrontLaws.{front-nil}
-use Rattle.pattern.specs.declared.Edition.{Edition}
+use Rattle.numbers.specs.declared.Edition.{Edition}
 use Rattle.pattern.specs.Patterns.{refusal}
 use Rattle.pattern.specs.Storing.{stored}
 use Rattle.classes.specs.declared.Class.{Class}

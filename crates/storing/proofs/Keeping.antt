@@ -15,7 +15,7 @@ use Rattle.numbers.specs.Limits.{over, token-limit}
 use Rattle.lists.specs.Pieces.{piece}
 use Rattle.lists.proofs.PiecesLaws.{pieces-cons, pieces-end, pieces-few}
 use Rattle.pattern.specs.Storing.{stored, stored-byte, negated-from}
-use Rattle.pattern.specs.declared.Edition.{Edition}
+use Rattle.numbers.specs.declared.Edition.{Edition}
 use Rattle.pattern.specs.Patterns.{refusal}
 use Rattle.classes.specs.declared.Class.{Class}
 use Rattle.classes.specs.declared.Class.the-variants.{Exact, Escaped, NonStar, Star, All}

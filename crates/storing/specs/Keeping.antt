@@ -7,7 +7,7 @@ use Rattle.numbers.specs.Limits.{over, token-limit}
 use Rattle.numbers.specs.Refusals.{no-room, too-long}
 use Rattle.numbers.specs.Signs.{backslash}
 use Rattle.lists.specs.Pieces.{piece, Reader, pieces}
-use Rattle.pattern.specs.declared.Edition.{Edition}
+use Rattle.numbers.specs.declared.Edition.{Edition}
 use Rattle.pattern.specs.Patterns.{refusal}
 use Rattle.pattern.specs.Storing.{stored}
 use Rattle.classes.specs.declared.Class.{Class}

@@ -12,10 +12,10 @@ use classes::Class;
 use classes::analyze_glob_pattern;
 use classes::is_lone_star;
 use classes::is_quoted;
+use numbers::Edition;
 use numbers::NO_ROOM;
 use numbers::TOKEN_LIMIT;
 use numbers::TOO_LONG;
-use pattern::Edition;
 
 // A token's class and how many bytes of a lent buffer hold what is stored of it, or the number that
 // refused it; then nothing was written.

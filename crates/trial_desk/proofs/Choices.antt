@@ -3,11 +3,11 @@ use Prim.Native.Nat.{ℕ}
 use mathlib.Core.Path.{_≡_, refl}
 use mathlib.Core.List.{List}
 use mathlib.Core.Bool.{Bool, true, false, cond}
-use Rattle.cursors.specs.Places.{at-list, at-script}
+use Rattle.reading_cursors.specs.Places.{at-list, at-script}
 use Rattle.book.specs.Layout.{Buffers}
-use Rattle.opening.specs.declared.Opened.{Opened}
-use Rattle.opening.specs.Opening.{left, opening, told}
-use Rattle.opened.specs.Opened.{opens-at}
+use Rattle.book_opening.specs.declared.Opened.{Opened}
+use Rattle.book_opening.specs.Opening.{left, opening, told}
+use Rattle.book_opened.specs.Opened.{opens-at}
 
 -- both are places where a text opens
 pub chosen-opens : (v : Bool) → opens-at (cond v at-list at-script) ≡ true

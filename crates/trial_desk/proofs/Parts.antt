@@ -9,8 +9,8 @@ use Rattle.linker_script.specs.declared.Found.{Found}
 use Rattle.linker_script.specs.declared.Found.the-variants.{Here}
 use Rattle.input.specs.Splitting.{mark}
 use Rattle.input.proofs.Marks.{mark-within}
-use Rattle.line_parts.specs.Parts.{line-end}
-use Rattle.line_parts.proofs.Ends.{end-within}
+use Rattle.desk_commands.specs.Parts.{line-end}
+use Rattle.desk_commands.proofs.Ends.{end-within}
 
 module _ (s : List ℕ) (x : Found) (e : x ≡ mark s) (p : ℕ) (f : x ≡ Here p) where
   pub text-within : p < length s

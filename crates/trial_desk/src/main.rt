@@ -8,19 +8,17 @@ ghost use mathlib.Core.Bool.{cond};
 ghost use Prim.Native.Nat.{_≤_};
 ghost use lib.ListN.{length};
 ghost use Rattle.input.specs.Splitting.{input-limit, lines-in};
-ghost use Rattle.cursors.specs.Places.{at-list, at-script};
+ghost use Rattle.reading_cursors.specs.Places.{at-list, at-script};
 ghost use Rattle.book.specs.Layout.{five};
 ghost use Rattle.rounds.specs.Rounds.{Desk-rooms, Reached, desk-left, line-lent, lines-lent};
 use book::Counts;
-use cursors::places::AT_LIST;
-use cursors::places::AT_SCRIPT;
 use desk::run_line;
+use desk_commands::parts::Numeral;
+use desk_commands::parts::line_end;
+use desk_commands::parts::number_at;
 use input::splitting::find_mark;
 use libc::STDIN_FILENO;
 use libc::STDOUT_FILENO;
-use line_parts::Numeral;
-use line_parts::line_end;
-use line_parts::number_at;
 use linker_script::Found;
 use linker_script::byte_at;
 use meanings::front;
@@ -29,7 +27,9 @@ use meanings::say_meaning;
 use meanings::say_refused;
 use numbers::TOO_LONG;
 use packing::same_bytes;
-use rendering::render_refused;
+use printing_symbols::render_refused;
+use reading_cursors::places::AT_LIST;
+use reading_cursors::places::AT_SCRIPT;
 
 // The longest input.
 const INPUT_LIMIT: usize = 65536;
@@ -154,7 +154,7 @@ fn work(
         ≡ desk-left (cond export at-list at-script) (five (now (nodes .entry)) (now (names .entry)) (now (lines .entry)) (now (pool .entry)) (now (journal .entry))) (now (text .entry)) (now (commands .entry)) ⌝ }
 {
     let place = place_of(export);
-    let opened = opening::open(place, text, nodes, names, lines, pool, journal);
+    let opened = book_opening::open(place, text, nodes, names, lines, pool, journal);
     if opened.refusal != 0 {
         return refuse(text, opened.refusal, opened.place, out);
     }

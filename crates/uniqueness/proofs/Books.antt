@@ -5,24 +5,24 @@ use Rattle.uniqueness.specs.Unique.{Unique}
 use Rattle.uniqueness.proofs.Same.{_▹_, same}
 use Rattle.book.proofs.editions.edition_of
 use Rattle.book.proofs.nodes.first_named
-use Rattle.node_check.proofs.nodes_packed
-use Rattle.node_check.proofs.nodes_good
-use Rattle.line_check.proofs.lines_packed
-use Rattle.line_check.proofs.has_star
-use Rattle.journal_check.proofs.edits_packed
-use Rattle.journal_check.proofs.journal_fits
+use Rattle.book_check.proofs.nodes.nodes_packed
+use Rattle.book_check.proofs.nodes.nodes_good
+use Rattle.book_check.proofs.lines.lines_packed
+use Rattle.book_check.proofs.lines.has_star
+use Rattle.book_check.proofs.journal.edits_packed
+use Rattle.book_check.proofs.journal.journal_fits
 use Rattle.book_check.proofs.is_book
-use Rattle.building.proofs.clear_book
-use Rattle.building.proofs.take_extern
-use Rattle.building.proofs.take_closed
-use Rattle.opening.proofs.open as opening-open
+use Rattle.book_building.proofs.clear_book
+use Rattle.book_building.proofs.take_extern
+use Rattle.book_building.proofs.take_closed
+use Rattle.book_opening.proofs.open as opening-open
 use Rattle.ranking.proofs.rank_of
-use Rattle.deciding.proofs.find_match
+use Rattle.ranking.proofs.finding.find_match
 use Rattle.ranking.proofs.names.name_refusal
-use Rattle.version_lookup.proofs.version_in_book
-use Rattle.version_lookup.proofs.version_for_symbol
-use Rattle.locality_lookup.proofs.locality_in_book
-use Rattle.locality_lookup.proofs.locality
+use Rattle.lookups.proofs.version_lookup.version_in_book
+use Rattle.lookups.proofs.version_lookup.version_for_symbol
+use Rattle.lookups.proofs.locality_lookup.locality_in_book
+use Rattle.lookups.proofs.locality_lookup.locality
 use Rattle.lookups.proofs.index.VersionIndex.from_node
 use Rattle.lookups.proofs.wanted.wanted_version
 use Rattle.version_script.proofs.open as version-script-open

@@ -8,7 +8,7 @@ use lib.ListN.{length}
 use denote.Ref.{now}
 use Rattle.storing.specs.declared.Stored.{Stored}
 use Rattle.storing.specs.Keeping.{Keep, kept, refused, keep}
-use Rattle.rooms.specs.Rooms.{Put, pool-room}
+use Rattle.book_rooms.specs.Rooms.{Put, pool-room}
 use Rattle.uniqueness.specs.Unique.{Unique}
 use Rattle.uniqueness.proofs.Same.{_▹_, same}
 use Rattle.packing.proofs.clear_bytes
@@ -21,10 +21,10 @@ use Rattle.copying.proofs.move_down
 use Rattle.copying.proofs.put_two
 use Rattle.copying.proofs.put_three
 use Rattle.copying.proofs.put_four
-use Rattle.rooms.proofs.has_row
-use Rattle.rooms.proofs.has_edit
-use Rattle.rooms.proofs.pool_end
-use Rattle.rooms.proofs.put_token
+use Rattle.book_rooms.proofs.has_row
+use Rattle.book_rooms.proofs.has_edit
+use Rattle.book_rooms.proofs.pool_end
+use Rattle.book_rooms.proofs.put_token
 use Rattle.printing.proofs.put_number
 use Rattle.printing.proofs.put_text
 use Rattle.printing.proofs.put_refused_fields

@@ -1,5 +1,5 @@
 -- What a C, C++ or Rust program calls leaves one answer and one end state: c_api. Assumes nothing.
-use Rattle.lending.specs.Calls.{Edits, Opens, Replies}
+use Rattle.c_lending.specs.Calls.{Edits, Opens, Replies}
 use Rattle.uniqueness.specs.Unique.{Unique}
 use Rattle.uniqueness.proofs.Same.{_▹_, same}
 use Rattle.c_api.proofs.edits.tuno_add

@@ -2,17 +2,17 @@
 use mathlib.Core.Path.{refl}
 use Rattle.uniqueness.specs.Unique.{Unique}
 use Rattle.uniqueness.proofs.Same.{_▹_, same}
-use Rattle.adding.proofs.append
-use Rattle.settling.proofs.settle_lines
-use Rattle.symbol_events.proofs.add_event
-use Rattle.clearing.proofs.take_back
-use Rattle.symbol_lines.proofs.add_lines
-use Rattle.symbols.proofs.add_symbol
-use Rattle.taking_back.proofs.take_back_latest
-use Rattle.undoing.proofs.undo_latest
-use Rattle.trial_adds.proofs.add
-use Rattle.trial_strikes.proofs.strike
-use Rattle.trial_settles.proofs.settle
+use Rattle.trial_add.proofs.adding.append
+use Rattle.trial_settle.proofs.settling.settle_lines
+use Rattle.trial_symbols.proofs.events.add_event
+use Rattle.trial_symbols.proofs.clearing.take_back
+use Rattle.trial_symbols.proofs.lines.add_lines
+use Rattle.trial_symbols.proofs.add_symbol
+use Rattle.trial_undo.proofs.taking_back.take_back_latest
+use Rattle.trial_undo.proofs.undo_latest
+use Rattle.trial_add.proofs.add
+use Rattle.trial_strike.proofs.strike
+use Rattle.trial_settle.proofs.settle
 
 -- ---- adding
 pub append-unique : Unique append.ended append.Reads.Post

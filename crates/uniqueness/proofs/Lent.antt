@@ -1,23 +1,23 @@
 -- What answers for a lent book leaves one answer and one end state: lending, lent_openings, lent_questions, lent_additions, lent_edits. Assumes nothing.
 use mathlib.Core.Path.{refl}
-use Rattle.lending.specs.Calls.{Edits, Opens, Replies}
+use Rattle.c_lending.specs.Calls.{Edits, Opens, Replies}
 use Rattle.uniqueness.specs.Unique.{Unique}
 use Rattle.uniqueness.proofs.Same.{_▹_, same}
-use Rattle.lending.proofs.counts_of
-use Rattle.lending.proofs.put_counts
-use Rattle.lending.proofs.answer
-use Rattle.lending.proofs.finish
-use Rattle.lent_openings.proofs.open_lent
-use Rattle.lent_questions.proofs.version_count
-use Rattle.lent_questions.proofs.parent_count
-use Rattle.lent_questions.proofs.version_for_symbol
-use Rattle.lent_questions.proofs.locality
-use Rattle.lent_questions.proofs.contains
-use Rattle.lent_additions.proofs.add
-use Rattle.lent_additions.proofs.add_symbol
-use Rattle.lent_edits.proofs.strike
-use Rattle.lent_edits.proofs.undo
-use Rattle.lent_edits.proofs.settle
+use Rattle.c_lending.proofs.counts_of
+use Rattle.c_lending.proofs.put_counts
+use Rattle.c_lending.proofs.answer
+use Rattle.c_lending.proofs.finish
+use Rattle.c_api.proofs.lent_openings.open_lent
+use Rattle.c_api.proofs.lent_questions.version_count
+use Rattle.c_api.proofs.lent_questions.parent_count
+use Rattle.c_api.proofs.lent_questions.version_for_symbol
+use Rattle.c_api.proofs.lent_questions.locality
+use Rattle.c_api.proofs.lent_questions.contains
+use Rattle.c_api.proofs.lent_additions.add
+use Rattle.c_api.proofs.lent_additions.add_symbol
+use Rattle.c_api.proofs.lent_edits.strike
+use Rattle.c_api.proofs.lent_edits.undo
+use Rattle.c_api.proofs.lent_edits.settle
 
 -- ---- lending
 pub counts-of-unique : Unique counts_of.ended counts_of.Reads.Post

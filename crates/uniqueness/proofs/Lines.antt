@@ -1,25 +1,25 @@
 -- What prints leaves one answer and one end state: rendering, rendering_symbols, listing_symbols, listing_script, listing, showing, showing_lines, dumping,
 -- answering, asking, desk_edits, desk_questions, desk. Assumes nothing.
 use mathlib.Core.Path.{refl}
-use Rattle.answering.specs.Answers.{Runs}
+use Rattle.desk.specs.Answers.{Runs}
 use Rattle.uniqueness.specs.Unique.{Unique}
 use Rattle.uniqueness.proofs.Same.{_▹_, same}
-use Rattle.rendering.proofs.render_refused
-use Rattle.rendering.proofs.render_counts
-use Rattle.rendering_symbols.proofs.put_symbol_line
-use Rattle.rendering_symbols.proofs.render_symbol
-use Rattle.listing_symbols.proofs.render_symbols
-use Rattle.listing_script.proofs.render_script
-use Rattle.listing_script.proofs.render_too_long
-use Rattle.listing.proofs.listed.render_listing
-use Rattle.showing.proofs.shown_room
-use Rattle.showing.proofs.show_counts
-use Rattle.showing_lines.proofs.show_lines
-use Rattle.dumping.proofs.show_dump
-use Rattle.answering.proofs.printed
-use Rattle.asking.proofs.run_ask
-use Rattle.desk_edits.proofs.run_edit
-use Rattle.desk_questions.proofs.run_question
+use Rattle.printing_symbols.proofs.render_refused
+use Rattle.printing_symbols.proofs.render_counts
+use Rattle.printing_symbols.proofs.symbols.put_symbol_line
+use Rattle.printing_symbols.proofs.symbols.render_symbol
+use Rattle.printing_listing.proofs.symbols.render_symbols
+use Rattle.printing_listing.proofs.script.render_script
+use Rattle.printing_listing.proofs.script.render_too_long
+use Rattle.printing_listing.proofs.render_listing
+use Rattle.printing_book.proofs.shown_room
+use Rattle.printing_book.proofs.show_counts
+use Rattle.printing_book.proofs.lines.show_lines
+use Rattle.printing_book.proofs.dump.show_dump
+use Rattle.desk.proofs.answering.printed
+use Rattle.desk.proofs.asking.run_ask
+use Rattle.desk.proofs.edits.run_edit
+use Rattle.desk.proofs.questions.run_question
 use Rattle.desk.proofs.run_line
 
 -- ---- rendering, rendering_symbols

@@ -2,19 +2,19 @@
 -- written out here and shown to be what the clauses say. Assumes nothing.
 use mathlib.Core.Path.{_≡_, refl}
 use denote.Ref.{now}
-use Rattle.cursors.specs.Moves.{start}
+use Rattle.reading_cursors.specs.Moves.{start}
 use Rattle.reading.specs.Scripts.{next as next-of}
 use Rattle.book.specs.Layout.{five}
 use Rattle.book.specs.View.{view}
-use Rattle.changes.specs.Changes.{after, counts-after, edit-refusal, edited}
-use Rattle.changes.specs.Trial.{undo-asked}
+use Rattle.trial.specs.Changes.{after, counts-after, edit-refusal, edited}
+use Rattle.trial.specs.Trial.{undo-asked}
 use Rattle.uniqueness.specs.Unique.{Promise, Says, Unique}
 use Rattle.uniqueness.proofs.Same.{_▹_, same}
 use Rattle.reader.proofs.new
 use Rattle.reader.proofs.next
 use Rattle.reader.proofs.moved
 use Rattle.reader.proofs.first
-use Rattle.undoing.proofs.undo
+use Rattle.trial_undo.proofs.undo
 
 -- ---- reader
 abbrev New : Promise new.ended

@@ -1,11 +1,11 @@
-// version_script.rs, the book's side: a version script opened into lent buffers. Definitions: those of the crate `opening`. Its counts and its nodes are asked in
+// version_script.rs, the book's side: a version script opened into lent buffers. Definitions: those of the crate `book_opening`. Its counts and its nodes are asked in
 // counting.
-ghost use Rattle.cursors.specs.Places.{at-script};
+ghost use Rattle.reading_cursors.specs.Places.{at-script};
 ghost use Rattle.book.specs.Layout.{five};
-ghost use Rattle.opening.specs.Opening.{opening};
-ghost use Rattle.opening.specs.State.{Filled};
-use cursors::places::AT_SCRIPT;
-use opening::Opened;
+ghost use Rattle.book_opening.specs.Opening.{opening};
+ghost use Rattle.book_opening.specs.State.{Filled};
+use book_opening::Opened;
+use reading_cursors::places::AT_SCRIPT;
 
 // A version script, opened into lent buffers.
 pub fn open(
@@ -20,5 +20,5 @@ pub fn open(
         (five (now (nodes .entry)) (now (names .entry)) (now (lines .entry)) (now (pool .entry)) (now (journal .entry)))
         (five (now (nodes .exit)) (now (names .exit)) (now (lines .exit)) (now (pool .exit)) (now (journal .exit))) ⌝ }
 {
-    opening::open(AT_SCRIPT, text, nodes, names, lines, pool, journal)
+    book_opening::open(AT_SCRIPT, text, nodes, names, lines, pool, journal)
 }

@@ -1,6 +1,6 @@
 -- `has_room` meets its contract. Assumes nothing.
 use borrow.Author.Needs.{needs}
-use Rattle.desk.proofs.Answered.{room-lacks, room-left}
+use Rattle.desk.proofs.RanLines.{room-lacks, room-left}
 use Rattle.desk.proofs.has_room.Statement.{statement}
 use Rattle.desk.proofs.has_room.Tie as tie
 

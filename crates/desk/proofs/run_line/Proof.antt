@@ -2,7 +2,7 @@
 use borrow.Author.Needs.{needs}
 use mathlib.Core.Path.{refl}
 use Rattle.book.specs.Layout.{five}
-use Rattle.desk.proofs.Answered.{answer-room, edit-answered, line-room, not-answered, question-answered, unknown-answered}
+use Rattle.desk.proofs.RanLines.{answer-room, edit-answered, line-room, not-answered, question-answered, unknown-answered}
 use Rattle.desk.proofs.run_line.Statement.{statement}
 use Rattle.desk.proofs.run_line.Tie as tie
 

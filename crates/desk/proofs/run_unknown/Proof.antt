@@ -1,6 +1,6 @@
 -- `run_unknown` meets its contract. Assumes nothing.
 use borrow.Author.Needs.{needs}
-use Rattle.desk.proofs.Answered.{unknown-told}
+use Rattle.desk.proofs.RanLines.{unknown-told}
 use Rattle.desk.proofs.run_unknown.Statement.{statement}
 use Rattle.desk.proofs.run_unknown.Tie as tie
 

@@ -34,10 +34,10 @@ use denote.Triple.Spec.{Meets, tripleOf}
 use denote.Triple.Table.{entered}
 use denote.Triple.Walked.{says, Stays, stay-none, stay-none-slice, walkOf, goes-none, goes-none-slice, Walks, ends-at, walked, walk-meets}
 use denote.Exit.{yes}
-use Rattle.cursors.specs.declared.Cursor.{Cursor}
+use Rattle.reading_cursors.specs.declared.Cursor.{Cursor}
 use Rattle.reader.specs.declared.Reader.{Reader}
-use Rattle.cursors.proofs.Cursor as Cu
-use Rattle.cursors.proofs.Cursor.Laws as Cu′
+use Rattle.reading_cursors.proofs.Cursor as Cu
+use Rattle.reading_cursors.proofs.Cursor.Laws as Cu′
 use Rattle.reader.proofs.Reader as T
 use Rattle.reader.proofs.Reader.Laws as T′
 use Rattle.reader.proofs.new.Key.{name as #reader·new}

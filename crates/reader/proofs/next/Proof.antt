@@ -43,13 +43,13 @@ use denote.Exit.{yes}
 use denote.Triple.Clauses.{ensured, lasts}
 use Rattle.reading.specs.Scripts.{next as next-of}
 use Rattle.reader.specs.declared.Reader.{Reader}
-use Rattle.cursors.specs.declared.Step.{Step}
-use Rattle.cursors.proofs.Cursor as Cu
-use Rattle.cursors.proofs.Cursor.Laws as Cu′
+use Rattle.reading_cursors.specs.declared.Step.{Step}
+use Rattle.reading_cursors.proofs.Cursor as Cu
+use Rattle.reading_cursors.proofs.Cursor.Laws as Cu′
 use Rattle.reader.proofs.Reader as T
 use Rattle.reader.proofs.Reader.Laws as T′
-use Rattle.cursors.proofs.Step as S
-use Rattle.cursors.proofs.Step.Laws as S′
+use Rattle.reading_cursors.proofs.Step as S
+use Rattle.reading_cursors.proofs.Step.Laws as S′
 use Rattle.reading.proofs.scripts.next_event as event
 use Rattle.reading.proofs.scripts.next_event.Symbol as event-def
 use Rattle.reading.proofs.scripts.next_event.Symbol.{name as #reading·scripts·next-event}

@@ -1,7 +1,7 @@
 -- `work` meets its contract: a text that is refused ends it, and behind one that is opened the commands are run. Assumes nothing.
 use mathlib.Core.Path.{_∙_}
 use mathlib.Core.Bool.{cond}
-use Rattle.cursors.specs.Places.{at-list, at-script}
+use Rattle.reading_cursors.specs.Places.{at-list, at-script}
 use Rattle.book.specs.Layout.{five}
 use Rattle.rounds.proofs.Beginnings.{reached-first, refused-left, run-left}
 use Rattle.trial_desk.proofs.Choices.{chosen-opens, opens-there}

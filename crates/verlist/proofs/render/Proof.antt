@@ -2,7 +2,7 @@
 use Prim.Native.Nat.{ℕ}
 use mathlib.Core.Path.{_≡_, sym}
 use lib.ListN.{length, length-replicate, replicate}
-use Rattle.listing.specs.Listing.{verlist-room}
+use Rattle.printing_listing.specs.Listing.{verlist-room}
 use Rattle.verlist.proofs.render.Statement.{statement}
 use Rattle.verlist.proofs.render.Tie as tie
 

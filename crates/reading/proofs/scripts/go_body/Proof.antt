@@ -1,6 +1,6 @@
 -- `go_body` meets its contract. Assumes nothing.
 use borrow.Author.Needs.{needs}
-use Rattle.bodies.proofs.Deciding.{ways}
+use Rattle.reading_bodies.proofs.Deciding.{ways}
 use Rattle.reading.specs.Scripts.{go-body}
 use Rattle.reading.proofs.scripts.go_body.Statement.{statement}
 use Rattle.reading.proofs.scripts.go_body.Tie as tie

@@ -1,6 +1,6 @@
 -- `go_list` meets its contract. Assumes nothing.
 use borrow.Author.Needs.{needs}
-use Rattle.bodies.proofs.Deciding.{ways}
+use Rattle.reading_bodies.proofs.Deciding.{ways}
 use Rattle.reading.specs.Scripts.{go-list}
 use Rattle.reading.proofs.scripts.go_list.Statement.{statement}
 use Rattle.reading.proofs.scripts.go_list.Tie as tie

@@ -1,6 +1,6 @@
 -- `go_node` meets its contract. Assumes nothing.
 use borrow.Author.Needs.{needs}
-use Rattle.bodies.proofs.Deciding.{ways}
+use Rattle.reading_bodies.proofs.Deciding.{ways}
 use Rattle.reading.specs.Scripts.{go-node}
 use Rattle.reading.proofs.scripts.go_node.Statement.{statement}
 use Rattle.reading.proofs.scripts.go_node.Tie as tie

@@ -1,6 +1,6 @@
 -- `go_sole` meets its contract. Assumes nothing.
 use borrow.Author.Needs.{needs}
-use Rattle.bodies.proofs.Deciding.{ways}
+use Rattle.reading_bodies.proofs.Deciding.{ways}
 use Rattle.reading.specs.Scripts.{go-sole}
 use Rattle.reading.proofs.scripts.go_sole.Statement.{statement}
 use Rattle.reading.proofs.scripts.go_sole.Tie as tie

@@ -1,6 +1,6 @@
 -- `next_symbol` meets its contract. Assumes nothing.
 use borrow.Author.Needs.{needs}
-use Rattle.bodies.proofs.Deciding.{ways}
+use Rattle.reading_bodies.proofs.Deciding.{ways}
 use Rattle.reading.specs.Scripts.{next-symbol}
 use Rattle.reading.proofs.scripts.next_symbol.Statement.{statement}
 use Rattle.reading.proofs.scripts.next_symbol.Tie as tie

@@ -1,7 +1,7 @@
 -- `opening_at` meets its contract. A `{` lies within the text, so the place behind it fits. Assumes nothing.
 use borrow.Author.Needs.{needs}
-use Rattle.matchers.proofs.Stepping.{byte-fits}
-use Rattle.bodies.proofs.Deciding.{ways}
+use Rattle.reading_matchers.proofs.Stepping.{byte-fits}
+use Rattle.reading_bodies.proofs.Deciding.{ways}
 use Rattle.reading.specs.Scripts.{opening-at}
 use Rattle.reading.proofs.scripts.opening_at.Statement.{statement}
 use Rattle.reading.proofs.scripts.opening_at.Tie as tie

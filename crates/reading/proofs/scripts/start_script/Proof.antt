@@ -1,6 +1,6 @@
 -- `start_script` meets its contract. Assumes nothing.
 use borrow.Author.Needs.{needs}
-use Rattle.bodies.proofs.Deciding.{ways}
+use Rattle.reading_bodies.proofs.Deciding.{ways}
 use Rattle.reading.specs.Scripts.{start-script}
 use Rattle.reading.proofs.scripts.start_script.Statement.{statement}
 use Rattle.reading.proofs.scripts.start_script.Tie as tie

@@ -1,0 +1,137 @@
+-- What is kept of a token is as a book's line asks: a kept glob stands, All has no bytes, and no line is longer than a token may be. Assumes
+-- nothing.
+use Prim.Native.Nat.{ℕ, _≤_, _<_}
+use mathlib.Core.Path.{_≡_, refl, ap, ap₂}
+use mathlib.Core.List.{List, [], _∷_}
+use mathlib.Core.Bool.{Bool, true, false, cond, not, _||_}
+use native.Mathlib.Decide.{ℕ-discrete}
+use native.Mathlib.Omega.{arith}
+use borrow.Author.Tests.{eq-eqb, ne-eqb, eqb-true, le-leb, lt-ltb}
+use lib.Dec.{eqb}
+use lib.ListN.{length}
+use Rattle.numbers.specs.Limits.{over, token-limit}
+use Rattle.lists.proofs.SameLaws.{same-refl}
+use Rattle.numbers.specs.declared.Edition.{Edition}
+use Rattle.pattern.specs.Patterns.{refusal}
+use Rattle.pattern.specs.Storing.{stored, stored-byte, negated-from}
+use Rattle.classes.specs.declared.Class.{Class}
+use Rattle.classes.specs.declared.Class.the-variants.{Exact, Escaped, NonStar, Star, All}
+use Rattle.classes.specs.Classes.{class-number, lone-star, quoted, scan, unquoted}
+use Rattle.storing.specs.Keeping.{Keep, kept, refused, keep, keep-as, keep-class, keep-glob, keep-scanned, keep-when}
+use Rattle.storing.proofs.Keeping.{bytes, keep-few}
+use Rattle.book.specs.Books.{edition-of, new-line, regular}
+use Rattle.book.specs.Sanity.{content-good, glob-stands, in-range, kind-allows, line-ok}
+
+-- ---- storing twice changes nothing
+byte-twice : (b : Bool) (c : ℕ) → stored-byte b (stored-byte b c) ≡ stored-byte b c
+unfolding stored-byte
+byte-twice false c = refl
+byte-twice true c = go (ℕ-discrete c 94)
+  where
+    go : Dec (c ≡ 94) → stored-byte true (stored-byte true c) ≡ stored-byte true c
+    go (yes h) = rw h
+    go (no n) = rw (ne-eqb c 94 n, ne-eqb c 94 n)
+
+byte-opens : (b : Bool) (c : ℕ) → eqb (stored-byte b c) 91 ≡ eqb c 91
+unfolding stored-byte
+byte-opens false c = refl
+byte-opens true c = go (ℕ-discrete c 94)
+  where
+    go : Dec (c ≡ 94) → eqb (stored-byte true c) 91 ≡ eqb c 91
+    go (yes h) = rw h
+    go (no n) = rw (ne-eqb c 94 n)
+
+negated-twice : (b : Bool) (s : List ℕ) → negated-from b (negated-from b s) ≡ negated-from b s
+unfolding negated-from
+negated-twice b [] = refl
+negated-twice b (c ∷ s) = rw (byte-opens b c) (ap₂ (λ (x : ℕ) (l : List ℕ). x ∷ l) (byte-twice b c) (negated-twice (eqb c 91) s))
+
+pub stored-twice : (e : Edition) (t : List ℕ) → stored e (stored e t) ≡ stored e t
+unfolding stored
+stored-twice e t = negated-twice false t
+
+-- ---- what is kept, by its class
+abbrev Fine : Edition → Class → List ℕ → Type 0
+Fine e Exact bs = Unit {0}
+Fine e Escaped bs = Unit {0}
+Fine e NonStar bs = glob-stands e bs ≡ true
+Fine e Star bs = glob-stands e bs ≡ true
+Fine e All bs = length bs ≡ 0
+
+abbrev Kept-fine : Edition → Keep → Type 0
+Kept-fine e (kept k bs) = Fine e k bs
+Kept-fine e (refused n) = Unit {0}
+
+glob-fine : (e : Edition) (t : List ℕ) → refusal e (stored e t) ≡ 0 → glob-stands e (stored e t) ≡ true
+unfolding glob-stands
+glob-fine e t h = rw (eq-eqb (refusal e (stored e t)) 0 h, stored-twice e t) (same-refl (stored e t))
+
+when-fine : (e : Edition) (k : Class) (t : List ℕ) → (refusal e (stored e t) ≡ 0 → Fine e k (stored e t)) → Kept-fine e (keep-glob e k t)
+unfolding keep-glob keep-when
+when-fine e k t f = go (eqb (refusal e (stored e t)) 0) refl
+  where
+    go : (x : Bool) → eqb (refusal e (stored e t)) 0 ≡ x → Kept-fine e (cond x (kept k (stored e t)) (refused (refusal e (stored e t))))
+    go true h = f (eqb-true _ _ h)
+    go false h = tt
+
+as-fine : (e : Edition) (k : Class) (t : List ℕ) → Kept-fine e (keep-as e k t)
+unfolding keep-as
+as-fine e Exact t = tt
+as-fine e Escaped t = tt
+as-fine e NonStar t = when-fine e NonStar t (glob-fine e t)
+as-fine e Star t = when-fine e Star t (glob-fine e t)
+as-fine e All t = refl
+
+keep-fine : (e : Edition) (t : List ℕ) → Kept-fine e (keep e t)
+unfolding keep keep-class keep-scanned
+keep-fine e t = go (over token-limit t) (quoted t) (lone-star t)
+  where
+    go : (x y z : Bool)
+        → Kept-fine e (cond x (refused 1) (cond y (kept Exact (unquoted t)) (cond z (kept All []) (keep-as e (scan Exact false t) t))))
+    go true y z = tt
+    go false true z = tt
+    go false false true = refl
+    go false false false = as-fine e (scan Exact false t) t
+
+pub class-few : (k : Class) → class-number k ≤ 4
+class-few Exact = omega arith
+class-few Escaped = omega arith
+class-few NonStar = omega arith
+class-few Star = omega arith
+class-few All = omega arith
+
+-- ---- a line of what is kept
+module _ (t : List ℕ) (k : Class) (bs : List ℕ) (h : keep (edition-of regular) t ≡ kept k bs) where
+  pub kept-few : length bs ≤ token-limit
+  kept-few = omega (arith, keep-few (edition-of regular) t, ap (λ (x : Keep). length (bytes x)) h)
+
+  kept-fine : Fine (edition-of regular) k bs
+  kept-fine = rw h at (keep-fine (edition-of regular) t)
+
+  all-empty : (j : Class) → Fine (edition-of regular) j bs → (not (eqb (class-number j) 4) || eqb (length bs) 0) ≡ true
+  all-empty Exact f = refl
+  all-empty Escaped f = refl
+  all-empty NonStar f = refl
+  all-empty Star f = refl
+  all-empty All f = eq-eqb (length bs) 0 f
+
+  globs-stand : (j : Class) → Fine (edition-of regular) j bs → (not (eqb (class-number j) 2 || eqb (class-number j) 3) || glob-stands (edition-of regular) bs) ≡ true
+  globs-stand Exact f = refl
+  globs-stand Escaped f = refl
+  globs-stand NonStar f = f
+  globs-stand Star f = f
+  globs-stand All f = refl
+
+  pub kept-line : (nodes node section language : ℕ) → node < nodes → section ≤ 1 → language ≤ 1
+      → line-ok regular nodes (new-line node section language (class-number k) bs) ≡ true
+  unfolding line-ok in-range kind-allows content-good
+  kept-line nodes node section language a b c =
+      rw (
+        lt-ltb node nodes a,
+        le-leb (class-number k) 4 (class-few k),
+        le-leb section 1 b,
+        le-leb language 1 c,
+        le-leb (length bs) token-limit kept-few,
+        all-empty k kept-fine,
+      )
+      (globs-stand k kept-fine)

@@ -1,0 +1,5 @@
+pub mod States
+pub mod NodeEvents
+pub mod TakenEvents
+pub mod Kept
+pub mod LineEvents

@@ -1,0 +1,179 @@
+-- `take_line` meets its contract: the token is refused, no row is left, or the line is there. Assumes nothing.
+use borrow.Author.Needs.{needs}
+use native.Mathlib.Omega.{arith}
+use mathlib.Core.List.{[]}
+use mathlib.Core.Path.{sym, _∙_}
+use borrow.Author.Tests.{not-true, not-false}
+use Rattle.book_rooms.proofs.Putting.{room-limit}
+use Rattle.book_rooms.proofs.Rows.{row-number, row-within}
+use Rattle.book_building.proofs.LineEvents.{line-added, line-ends, line-refused, line-rowless}
+use Rattle.book_building.proofs.Kept.{class-few}
+use Rattle.book_building.proofs.lines.take_line.Statement.{statement}
+use Rattle.book_building.proofs.lines.take_line.Tie as tie
+
+edition-of-requires : tie.Need-edition-of-requires
+edition-of-requires c κs = search needs
+
+put-token-requires : tie.Need-put-token-requires
+put-token-requires c κs = search needs
+
+enum-known-no : tie.Need-enum-known-no
+enum-known-no c = search needs
+
+enum-known-class : tie.Need-enum-known-class
+enum-known-class c = search needs
+
+has-row-requires : tie.Need-has-row-requires
+has-row-requires c κs = search needs
+
+same-length : tie.Need-same-length
+same-length c = search needs
+
+same-length-2 : tie.Need-same-length-2
+same-length-2 c = search needs
+
+returns : tie.Need-returns
+returns c =
+    let x = c .before .before .before .before .before .before .before .before in
+    let a = x .before .before .before .before .before .before .args in
+    line-rowless (a .g) (a .p) (a .section) (a .language) (a .token .now) (a .lines .now) (a .pool .now)
+    (x .before .before .edition-of .result) (x .before .before .edition-of .ensures) (x .put-token .result) _ (x .put-token .ensures)
+    _ _ [] [] (c .before .before .before .before .class .given .1) (sym (c .before .has-row .ensures) ∙ not-true _ (c .if1 .taken))
+
+class-number-requires : tie.Need-class-number-requires
+class-number-requires c κs = search needs
+
+sub-node : tie.Need-sub-node
+sub-node c = search needs
+
+cast-node : tie.Need-cast-node
+cast-node c = search needs
+
+mul-put-four : tie.Need-mul-put-four
+mul-put-four c =
+    let x = c .before .before .before .before .before .before .before .before .before .before .before in
+    let a = x .before .before .before .before .before .before .args in
+    let i = c .before .before .before in
+    let r = row-number (a .lines .now) (a .g .lines) (sym (i .before .has-row .ensures) ∙ not-false _ (i .if1 .left)) in
+    omega arith
+
+mul-put-four-2 : tie.Need-mul-put-four-2
+mul-put-four-2 c = omega (arith, c .before .before .class-number .ensures, class-few (c .before .before .before .before .before .before .before .class .given .0 .0))
+
+mul-put-four-3 : tie.Need-mul-put-four-3
+mul-put-four-3 c = search needs
+
+add-put-four : tie.Need-add-put-four
+add-put-four c = omega (arith, c .before .before .class-number .ensures, class-few (c .before .before .before .before .before .before .before .class .given .0 .0))
+
+add-put-four-2 : tie.Need-add-put-four-2
+add-put-four-2 c = omega (arith, c .before .before .class-number .ensures, class-few (c .before .before .before .before .before .before .before .class .given .0 .0))
+
+cast-put-four : tie.Need-cast-put-four
+cast-put-four c =
+    let x = c .before .before .before .before .before .before .before .before .before .before .before in
+    let a = x .before .before .before .before .before .before .args in
+    omega (arith, room-limit (a .pool .now))
+
+cast-put-four-2 : tie.Need-cast-put-four-2
+cast-put-four-2 c =
+    let x = c .before .before .before .before .before .before .before .before .before .before .before in
+    let a = x .before .before .before .before .before .before .args in
+    omega (
+      arith,
+      line-ends (a .g) (a .p) (a .section) (a .language) (a .token .now) (a .lines .now) (a .pool .now)
+          (x .before .before .edition-of .result) (x .before .before .edition-of .ensures) (x .put-token .result) _ (x .put-token .ensures)
+          _ _ (c .before .before .before .before .before .before .before .class .given .1),
+    )
+
+put-four-requires : tie.Need-put-four-requires
+put-four-requires c κs =
+    let x = c .before .before .before .before .before .before .before .before .before .before .before in
+    let a = x .before .before .before .before .before .before .args in
+    let i = c .before .before .before in
+    let r = row-within (a .lines .now) (a .g .lines) (sym (i .before .has-row .ensures) ∙ not-false _ (i .if1 .left)) in
+    omega arith
+
+mixed-behind-requires : tie.Need-mixed-behind-requires
+mixed-behind-requires c κs = search needs
+
+starred-behind-requires : tie.Need-starred-behind-requires
+starred-behind-requires c κs = search needs
+
+add-t26 : tie.Need-add-t26
+add-t26 c =
+    let x = c .before .before .before .before .before .before .before .before .before .before .before .before .before .before .before .before in
+    let a = x .before .before .before .before .before .before .args in
+    let i = c .before .before .before .before .before .before .before .before in
+    let r = row-number (a .lines .now) (a .g .lines) (sym (i .before .has-row .ensures) ∙ not-false _ (i .if1 .left)) in
+    omega arith
+
+add-t36 : tie.Need-add-t36
+add-t36 c =
+    let x = c .before .before .before .before .before .before .before .before .before .before .before .before .before .before .before .before in
+    let a = x .before .before .before .before .before .before .args in
+    omega (
+      arith,
+      line-ends (a .g) (a .p) (a .section) (a .language) (a .token .now) (a .lines .now) (a .pool .now)
+          (x .before .before .edition-of .result) (x .before .before .edition-of .ensures) (x .put-token .result) _ (x .put-token .ensures)
+          _ _ (c .before .before .before .before .before .before .before .before .before .before .before .before .class .given .1),
+    )
+
+same-length-3 : tie.Need-same-length-3
+same-length-3 c = search needs
+
+returns-2 : tie.Need-returns-2
+returns-2 c =
+    let x = c .before .before .before .before .before in
+    let a = x .before .before .before .before .before .before .args in
+    line-refused (a .g) (a .p) (a .section) (a .language) (a .token .now) (a .lines .now) (a .pool .now)
+    (x .before .before .edition-of .result) (x .before .before .edition-of .ensures) (x .put-token .result) _ (x .put-token .ensures) _ [] [] (c .before .no .given .1)
+
+same-length-4 : tie.Need-same-length-4
+same-length-4 c = search needs
+
+same-length-5 : tie.Need-same-length-5
+same-length-5 c = search needs
+
+returns-3 : tie.Need-returns-3
+returns-3 c =
+    let x = c .before .before .before .before .before .before .before .before .before .before .before .before .before .before .before .before in
+    let a = x .before .before .before .before .before .before .args in
+    let i = c .before .before .before .before .before .before .before .before in
+    line-added (a .g) (a .p) (a .section) (a .language) (a .token .now) (a .lines .now) (a .pool .now)
+    (x .before .before .edition-of .result) (x .before .before .edition-of .ensures) (x .put-token .result) _ (x .put-token .ensures)
+    _ _ _ _ _ _ (i .before .before .before .before .class .given .1) (sym (i .before .has-row .ensures) ∙ not-false _ (i .if1 .left)) (omega arith) (omega arith)
+    (c .before .before .before .before .before .before .before .class-number .ensures) (c .before .mixed-behind .ensures) (c .starred-behind .ensures) (c .before .before .before .before .put-four .ensures)
+
+pub take-line-spec : {M : Type 1} → statement M
+take-line-spec =
+    tie.close
+    (tie.spec
+    edition-of-requires
+    put-token-requires
+    enum-known-no
+    enum-known-class
+    has-row-requires
+    same-length
+    same-length-2
+    returns
+    class-number-requires
+    sub-node
+    cast-node
+    mul-put-four
+    mul-put-four-2
+    mul-put-four-3
+    add-put-four
+    add-put-four-2
+    cast-put-four
+    cast-put-four-2
+    put-four-requires
+    mixed-behind-requires
+    starred-behind-requires
+    add-t26
+    add-t36
+    same-length-3
+    returns-2
+    same-length-4
+    same-length-5
+    returns-3)

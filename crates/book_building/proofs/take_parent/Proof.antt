@@ -1,0 +1,75 @@
+-- `take_parent` meets its contract. Assumes nothing.
+use borrow.Author.Needs.{needs}
+use native.Mathlib.Omega.{arith}
+use mathlib.Core.Path.{refl}
+use mathlib.Core.List.{[]}
+use Rattle.book.proofs.NodeRows.{nodes-packed}
+use Rattle.book.specs.Layout.{node-form}
+use Rattle.book_building.proofs.NodeEvents.{parent-none, parent-refused, parent-set}
+use Rattle.book_building.proofs.take_parent.Statement.{statement}
+use Rattle.book_building.proofs.take_parent.Tie as tie
+
+returns : tie.Need-returns
+returns c =
+    let a = c .before .before .before .before .args in
+    parent-none (a .g) (a .p) (a .nodes .now) (a .names .now) (a .parent .now) (c .if1 .taken)
+
+sub-i : tie.Need-sub-i
+sub-i c = search needs
+
+first-named-requires : tie.Need-first-named-requires
+first-named-requires c κs = search needs
+
+same-length : tie.Need-same-length
+same-length c = search needs
+
+returns-2 : tie.Need-returns-2
+returns-2 c =
+    let x = c .before in
+    let a = x .before .before .before .before .before .before .args in
+    parent-refused (a .g) (a .p) (a .nodes .now) (a .names .now) (x .first-named .result) (a .parent .now) [] (x .before .before .if1 .left) (x .first-named .ensures) (omega arith)
+
+cast-nodes : tie.Need-cast-nodes
+cast-nodes c = search needs
+
+mul-nodes : tie.Need-mul-nodes
+mul-nodes c = search needs
+
+add-nodes : tie.Need-add-nodes
+add-nodes c = search needs
+
+mul-nodes-2 : tie.Need-mul-nodes-2
+mul-nodes-2 c = search needs
+
+slice-write-nodes : tie.Need-slice-write-nodes
+unfolding node-form
+slice-write-nodes c =
+    let s = c .before .before .before .before .before .before .before in
+    let a = s .args in
+    omega (arith, nodes-packed (a .g .nodes) (a .g .names) (a .nodes .now) (a .names .now) (s .pre .0) .rowroom)
+
+same-length-2 : tie.Need-same-length-2
+same-length-2 c = search needs
+
+returns-3 : tie.Need-returns-3
+returns-3 c =
+    let x = c .before in
+    let a = x .before .before .before .before .before .before .args in
+    parent-set (a .g) (a .p) (a .nodes .now) (a .names .now) (x .first-named .result) (a .parent .now) _ (x .before .before .if1 .left) (x .first-named .ensures) (omega arith) refl
+
+pub take-parent-spec : {M : Type 1} → statement M
+take-parent-spec =
+    tie.close
+    (tie.spec
+    returns
+    sub-i
+    first-named-requires
+    same-length
+    returns-2
+    cast-nodes
+    mul-nodes
+    add-nodes
+    mul-nodes-2
+    slice-write-nodes
+    same-length-2
+    returns-3)

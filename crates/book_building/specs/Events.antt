@@ -1,0 +1,16 @@
+-- The events that a text can have. Assumes nothing.
+use Prim.Native.Nat.{ℕ, _+_, _≤_}
+use mathlib.Core.List.{List}
+use lib.ListN.{length}
+use Rattle.reading_cursors.specs.declared.Event.{Event}
+use Rattle.reading_cursors.specs.declared.Event.the-variants.{Node, Body, Section, Extern, Closed, Line, Parent}
+
+-- ---- an event whose parts lie in the text s, with a section and a language of the grammar's
+abbrev pub Lies : List ℕ → Event → Type 0
+Lies s (Node p n) = p + n ≤ length s
+Lies s Body = Unit {0}
+Lies s (Section section) = Unit {0}
+Lies s (Extern section language) = Unit {0}
+Lies s Closed = Unit {0}
+Lies s (Line section language p n) = (section ≤ 1) × (language ≤ 1) × (p + n ≤ length s)
+Lies s (Parent p n) = p + n ≤ length s

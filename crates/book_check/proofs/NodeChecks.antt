@@ -1,0 +1,281 @@
+-- The checks of nodes: of each byte of a name, of the rows, and of names and parents, each as a loop makes it, turn by turn. The premises are what the code
+-- has learned. Assumes nothing.
+use Prim.Native.Nat.{ℕ, _+_, _-_, _*_, _/_, _≤_, _<_}
+use mathlib.Core.Path.{_≡_, refl, sym, ap, _∙_}
+use mathlib.Core.List.{List, [], _∷_}
+use mathlib.Core.Bool.{Bool, true, false, _&&_, not, or-false, true≢false}
+use native.Mathlib.Decide.{ℕ-discrete}
+use native.Mathlib.Numerals.{add-one}
+use native.Mathlib.Omega.{arith}
+use borrow.Author.Tests.{eq-eqb, ne-eqb, lt-ltb, le-ltb, not-true, not-false}
+use lib.Dec.{eqb, ltb}
+use lib.ListN.{length, drop, getD, length-drop, drop-of-length-le}
+use lib.Seq.{drop-cons, getD-drop, length-take-le}
+use Rattle.numbers.specs.Signs.{asterisk, carriage-return, hash, line-feed, slash, space, tab}
+use Rattle.lists.proofs.Tests.{both, first-fails, passes-on}
+use Rattle.packing.specs.Padding.{all-zero}
+use Rattle.lists.specs.Each.{every}
+use Rattle.packing.specs.Tables.{fine, packs, things}
+use Rattle.packing.proofs.Turns.{left, left-all, starts-at, size-at, row-bad, size-bad, row-more, end-bad, end-good, packs-no, packs-zero, packs-rows}
+use Rattle.linker_script.specs.Skip.{blank, skips}
+use Rattle.reading_tokens.specs.Tokens.{named}
+use Rattle.book.specs.Books.{Node, first-named, no-node}
+use Rattle.book.specs.Layout.{node-form}
+use Rattle.book.specs.Sanity.{name-good, named-good, no-semicolon, nodes-good, parent-good}
+use Rattle.book.specs.View.{any-node}
+use Rattle.book.proofs.Forms.{node-laws}
+use Rattle.book.proofs.NodeRows.{Row, told-name, node-row, row-at, row-name, nodes-count}
+
+-- ---- a test of each byte: what is left from i on decides
+module _ (ok : ℕ → Bool) (s : List ℕ) (i : ℕ) (z : every ok s ≡ every ok (drop i s)) where
+  pub every-stops : i < length s → ok (getD s i 0) ≡ false → false ≡ every ok s
+  unfolding every
+  every-stops h f = sym (z ∙ rw (drop-cons s i 0 h, f))
+
+  pub every-more : i < length s → ok (getD s i 0) ≡ true → every ok s ≡ every ok (drop (i + 1) s)
+  unfolding every
+  every-more h t = z ∙ rw (add-one, drop-cons s i 0 h, t)
+
+  pub every-ends : length s ≤ i → true ≡ every ok s
+  unfolding every
+  every-ends h = sym (z ∙ rw (drop-of-length-le s h))
+
+-- ---- the rows: what is left from row i on, which starts at `at` and whose name at o, decides
+pub record Rowing (n p : ℕ) (l m : List ℕ) (i at o : ℕ) : Type 0 where
+  pub within : i ≤ n
+  pub place : at ≡ 3 * i
+  pub start : o ≤ p
+  pub goes : fine node-form any-node p n 0 l m ≡ left node-form any-node p n i o l m
+
+module _ (n p : ℕ) (l m : List ℕ) where
+  pub rows-start : Rowing n p l m 0 0 0
+  rows-start = record { within = omega arith; place = omega arith; start = omega arith; goes = left-all node-form any-node p n l m }
+
+  module _ (i at o : ℕ) (z : Rowing n p l m i at o) (room : 3 * n ≤ length l) where
+    starts-is : starts-at node-form i o l ≡ eqb (getD l at 0) o
+    unfolding node-form
+    starts-is = let e : 3 * i + 0 ≡ at = omega (arith, z .place) in rw (getD-drop, e)
+
+    size-is : size-at node-form i l ≡ getD l (at + 1) 0
+    unfolding node-form
+    size-is = let e : 3 * i + 1 ≡ at + 1 = omega (arith, z .place) in rw (getD-drop, e)
+
+    wide : node-form .width * n ≤ length l
+    unfolding node-form
+    wide = room
+
+    pub start-bad : i < n → (getD l at 0 ≡ o → ⊥) → false ≡ fine node-form any-node p n 0 l m
+    start-bad h f = sym (z .goes ∙ row-bad node-form any-node p n l m i o h wide (starts-is ∙ ne-eqb _ _ f))
+
+    module _ (h : i < n) (e : getD l at 0 ≡ o) where
+      told : starts-at node-form i o l ≡ true
+      told = starts-is ∙ eq-eqb _ _ e
+
+      pub name-past : p - o < getD l (at + 1) 0 → false ≡ fine node-form any-node p n 0 l m
+      name-past f = sym (z .goes ∙ size-bad node-form any-node p n l m i o h wide told (omega (arith, z .start, size-is)))
+
+      pub rows-more : getD l (at + 1) 0 ≤ p - o → Rowing n p l m (i + 1) (at + 3) (o + getD l (at + 1) 0)
+      rows-more f = record {
+        within = omega arith;
+        place = omega (arith, z .place);
+        start = omega (arith, z .start);
+        goes = z .goes ∙ row-more node-form any-node p n l m i o h wide told (omega (arith, z .start, size-is)) refl
+            ∙ ap (λ (k : ℕ). left node-form any-node p n (i + 1) (o + k) l m) size-is;
+      }
+
+    pub names-short : n ≤ i → (o ≡ p → ⊥) → false ≡ fine node-form any-node p n 0 l m
+    names-short h f = sym (z .goes ∙ end-bad node-form any-node p n l m i o (omega (arith, z .within)) f)
+
+    pub rows-end : (r : Bool) → n ≤ i → o ≡ p → r ≡ all-zero (drop at l) → r ≡ fine node-form any-node p n 0 l m
+    unfolding node-form
+    rows-end r h f e =
+        let k : at ≡ 3 * n = omega (arith, z .place, z .within) in
+        e ∙ rw k (sym (z .goes ∙ end-good node-form any-node p n l m i o (omega (arith, z .within)) f))
+
+-- ---- the packing from its parts
+module _ (n p : ℕ) (l m : List ℕ) where
+  pub names-lack : length m < p → false ≡ packs node-form any-node n p l m
+  names-lack h = packs-no node-form node-laws n p l m (λ t. omega (arith, t .byteroom))
+
+  pub rows-lack : length l / 3 < n → false ≡ packs node-form any-node n p l m
+  unfolding node-form
+  rows-lack h = packs-no node-form node-laws n p l m (λ t. omega (arith, t .rowroom))
+
+  pub rest-bad : (z : Bool) → p ≤ length m → z ≡ all-zero (drop p m) → not z ≡ true → false ≡ packs node-form any-node n p l m
+  rest-bad z h e f = packs-zero node-form node-laws n p l m z h e (not-true z f)
+
+  pub rows-decide : (z r : Bool) → p ≤ length m → z ≡ all-zero (drop p m) → not z ≡ false → r ≡ fine node-form any-node p n 0 l m
+      → r ≡ packs node-form any-node n p l m
+  rows-decide z r h e f q = packs-rows node-form node-laws n p l m z r h e (not-false z f) q
+
+-- ---- a name: of the blanks only CR is a byte of one
+pub named-blank : (b : ℕ) → named b ≡ true → blank b ≡ eqb b carriage-return
+unfolding named blank
+named-blank b e = go (ℕ-discrete b space) (ℕ-discrete b tab) (ℕ-discrete b line-feed)
+  where
+    go : Dec (b ≡ space) → Dec (b ≡ tab) → Dec (b ≡ line-feed) → blank b ≡ eqb b carriage-return
+    go (yes z) y x = absurd (true≢false (sym (rw z at e)))
+    go (no z) (yes y) x = absurd (true≢false (sym (rw y at e)))
+    go (no z) (no y) (yes x) = absurd (true≢false (sym (rw x at e)))
+    go (no z) (no y) (no x) = rw (ne-eqb b space z, ne-eqb b tab y, ne-eqb b line-feed x) (or-false (eqb b carriage-return))
+
+pub name-blank : (t : List ℕ) → every named t ≡ true → blank (getD t 0 0) ≡ eqb (getD t 0 0) carriage-return
+unfolding every blank
+name-blank [] e = refl
+name-blank (b ∷ t) e = named-blank b (both (named b) (every named t) e .0)
+
+-- whether it begins with what a skip takes, by its first byte b
+module _ (t : List ℕ) (n : every named t ≡ true) (b : ℕ) (e : b ≡ getD t 0 0) where
+  pub first-return : b ≡ carriage-return → true ≡ skips t 0
+  first-return k = rw (name-blank t n, ← e, eq-eqb b carriage-return k)
+
+  module _ (k : b ≡ carriage-return → ⊥) where
+    pub first-hash : b ≡ hash → true ≡ skips t 0
+    first-hash h = rw (name-blank t n, ← e, ne-eqb b carriage-return k, eq-eqb b hash h)
+
+    module _ (h : b ≡ hash → ⊥) where
+      pub first-slash : b ≡ slash → (c : ℕ) → c ≡ getD t 1 0 → eqb c asterisk ≡ skips t 0
+      first-slash g c f = rw (name-blank t n, ← e, ← f, ne-eqb b carriage-return k, ne-eqb b hash h, eq-eqb b slash g)
+
+      pub first-other : (b ≡ slash → ⊥) → false ≡ skips t 0
+      first-other g = rw (name-blank t n, ← e, ne-eqb b carriage-return k, ne-eqb b hash h, ne-eqb b slash g)
+
+module _ (t : List ℕ) where
+  pub name-none : length t ≡ 0 → false ≡ name-good t
+  unfolding name-good
+  name-none h = simp (le-ltb 0 (length t) (omega arith))
+
+  name-parts : (length t ≡ 0 → ⊥) → name-good t ≡ (every named t && not (skips t 0))
+  unfolding name-good
+  name-parts h = simp (lt-ltb 0 (length t) (omega arith))
+
+  pub name-bad : (r : Bool) → (length t ≡ 0 → ⊥) → r ≡ every named t → not r ≡ true → false ≡ name-good t
+  name-bad r h e f = sym (first-fails (name-good t) (every named t) _ (name-parts h) (sym e ∙ not-true r f))
+
+  -- what `is_skipped_first` asks
+  pub names-asked : (r : Bool) → r ≡ every named t → not r ≡ false → every named t ≡ true
+  names-asked r e f = sym e ∙ not-false r f
+
+  pub name-ends : (r q : Bool) → (length t ≡ 0 → ⊥) → r ≡ every named t → not r ≡ false → q ≡ skips t 0 → not q ≡ name-good t
+  name-ends r q h e f g = ap not g ∙ sym (passes-on (name-good t) (every named t) _ (name-parts h) (sym e ∙ not-false r f))
+
+-- ---- a parent: p can be that of node i
+module _ (xs : List Node) (i p : ℕ) where
+  pub parent-none : p ≡ 0 → true ≡ parent-good xs i p
+  unfolding parent-good
+  parent-none e = simp (eq-eqb p 0 e)
+
+  parent-parts : (p ≡ 0 → ⊥)
+      → parent-good xs i p ≡ (ltb p i && (eqb (first-named xs (getD xs p no-node .name)) p && every no-semicolon (getD xs p no-node .name)))
+  unfolding parent-good
+  parent-parts h = simp (ne-eqb p 0 h)
+
+  pub parent-late : (p ≡ 0 → ⊥) → i ≤ p → false ≡ parent-good xs i p
+  parent-late h w = sym (first-fails (parent-good xs i p) (ltb p i) _ (parent-parts h) (le-ltb p i w))
+
+  parent-early : (p ≡ 0 → ⊥) → p < i
+      → parent-good xs i p ≡ (eqb (first-named xs (getD xs p no-node .name)) p && every no-semicolon (getD xs p no-node .name))
+  parent-early h w = passes-on (parent-good xs i p) (ltb p i) _ (parent-parts h) (lt-ltb p i w)
+
+module _ (n b : ℕ) (l m : List ℕ) (g : packs node-form any-node n b l m ≡ true) (i p : ℕ) (h : i ≤ n) (w : p < i) where
+  pub parent-row : Row n b l m g p (3 * p)
+  parent-row = node-row n b l m g p (omega arith)
+
+  module _ (q : ℕ) (y : p ≡ 0 → ⊥) (e : q ≡ first-named (things node-form n l m) (told-name l m (3 * p))) where
+    parent-first : first-named (things node-form n l m) (getD (things node-form n l m) p no-node .name) ≡ q
+    parent-first = sym (e ∙ ap (first-named (things node-form n l m)) (row-name n b l m g p (3 * p) parent-row))
+
+    -- an earlier node has its name
+    pub parent-again : (q ≡ p → ⊥) → false ≡ parent-good (things node-form n l m) i p
+    parent-again f = sym (first-fails _ _ _ (parent-early (things node-form n l m) i p y w) (ne-eqb _ _ (λ u. f (sym parent-first ∙ u))))
+
+    -- it is the first, and its name's bytes decide
+    pub parent-ends : (r : Bool) → q ≡ p → r ≡ every no-semicolon (told-name l m (3 * p)) → r ≡ parent-good (things node-form n l m) i p
+    parent-ends r f d =
+        d ∙ ap (every no-semicolon) (row-name n b l m g p (3 * p) parent-row)
+        ∙ sym (passes-on _ _ _ (parent-early (things node-form n l m) i p y w) (eq-eqb _ _ (parent-first ∙ f)))
+
+-- ---- the nodes: what is left from node i on, whose row starts at `at`, decides
+pub record Judging (n : ℕ) (l m : List ℕ) (i at : ℕ) : Type 0 where
+  pub within : i ≤ n
+  pub place : at ≡ 3 * i
+  pub goes : nodes-good (things node-form n l m) ≡ named-good (things node-form n l m) i (drop i (things node-form n l m))
+
+-- the first of some nodes, and the nodes behind it
+root-parts : (xs : List Node) → 0 < length xs
+    → nodes-good xs ≡ (eqb (length (getD xs 0 no-node .name)) 0 && (eqb (getD xs 0 no-node .parent) 0 && named-good xs 1 (drop 1 xs)))
+unfolding nodes-good
+root-parts [] h = absurd (omega arith)
+root-parts (x ∷ xs) h = refl
+
+-- node i of them, and the nodes behind it
+node-parts : (xs : List Node) (i : ℕ) → i < length xs
+    → named-good xs i (drop i xs)
+    ≡ (name-good (getD xs i no-node .name) && (parent-good xs i (getD xs i no-node .parent) && named-good xs (i + 1) (drop (i + 1) xs)))
+unfolding named-good
+node-parts xs i h = rw (drop-cons xs i no-node h, add-one)
+
+pub nodes-none : (n : ℕ) (l m : List ℕ) → n ≡ 0 → false ≡ nodes-good (things node-form n l m)
+unfolding nodes-good things
+nodes-none n l m e = rw e
+
+module _ (n p : ℕ) (l m : List ℕ) (g : packs node-form any-node n p l m ≡ true) where
+  pub root-row : (n ≡ 0 → ⊥) → Row n p l m g 0 0
+  root-row y = row-at n p l m g 0 0 (omega arith) (omega arith)
+
+  module _ (y : n ≡ 0 → ⊥) where
+    root-long : length (getD (things node-form n l m) 0 no-node .name) ≡ getD l 1 0
+    root-long =
+        let r = root-row y in
+        sym (ap length (r .name)) ∙ length-take-le (getD l 1 0) (drop (getD l 0 0) m) (omega (arith, r .room, length-drop (getD l 0 0) m))
+
+    root-is : nodes-good (things node-form n l m)
+        ≡ (eqb (getD l 1 0) 0 && (eqb (getD l 2 0) 0 && named-good (things node-form n l m) 1 (drop 1 (things node-form n l m))))
+    root-is =
+        let r = root-row y in
+        root-parts (things node-form n l m) (omega (arith, nodes-count n p l m g)) ∙ rw (root-long, ← r .parent)
+
+    -- the first node has a name, or a parent
+    pub root-named : (getD l 1 0 ≡ 0 → ⊥) → false ≡ nodes-good (things node-form n l m)
+    root-named f = sym (first-fails _ _ _ root-is (ne-eqb _ _ f))
+
+    pub root-below : getD l 1 0 ≡ 0 → (getD l 2 0 ≡ 0 → ⊥) → false ≡ nodes-good (things node-form n l m)
+    root-below e f = sym (first-fails _ _ _ (passes-on _ _ _ root-is (eq-eqb _ _ e)) (ne-eqb _ _ f))
+
+    -- it has neither, and the nodes behind it decide
+    pub nodes-start : getD l 1 0 ≡ 0 → getD l 2 0 ≡ 0 → Judging n l m 1 3
+    nodes-start e f = record {
+      within = omega arith;
+      place = omega arith;
+      goes = passes-on _ _ _ (passes-on _ _ _ root-is (eq-eqb _ _ e)) (eq-eqb _ _ f);
+    }
+
+  module _ (i at : ℕ) (z : Judging n l m i at) where
+    pub judged-row : i < n → Row n p l m g i at
+    judged-row h = row-at n p l m g i at (z .place) h
+
+    module _ (r : Bool) (h : i < n) (e : r ≡ name-good (told-name l m at)) where
+      node-is : nodes-good (things node-form n l m)
+          ≡ (r && (parent-good (things node-form n l m) i (getD l (at + 2) 0) && named-good (things node-form n l m) (i + 1) (drop (i + 1) (things node-form n l m))))
+      node-is =
+          let w = judged-row h in
+          z .goes ∙ node-parts (things node-form n l m) i (omega (arith, nodes-count n p l m g))
+          ∙ rw (← w .parent, e, row-name n p l m g i at w)
+
+      pub node-misnamed : not r ≡ true → false ≡ nodes-good (things node-form n l m)
+      node-misnamed f = sym (first-fails _ _ _ node-is (not-true r f))
+
+      module _ (q : Bool) (d : q ≡ parent-good (things node-form n l m) i (getD l (at + 2) 0)) (f : not r ≡ false) where
+        pub node-misplaced : not q ≡ true → false ≡ nodes-good (things node-form n l m)
+        node-misplaced k = sym (first-fails _ _ _ (passes-on _ _ _ node-is (not-false r f)) (sym d ∙ not-true q k))
+
+        pub nodes-more : not q ≡ false → Judging n l m (i + 1) (at + 3)
+        nodes-more k = record {
+          within = omega arith;
+          place = omega (arith, z .place);
+          goes = passes-on _ _ _ (passes-on _ _ _ node-is (not-false r f)) (sym d ∙ not-false q k);
+        }
+
+    pub nodes-end : n ≤ i → true ≡ nodes-good (things node-form n l m)
+    unfolding named-good
+    nodes-end h = sym (z .goes ∙ rw (drop-of-length-le (things node-form n l m) {i = i} (omega (arith, nodes-count n p l m g))))

@@ -1,0 +1,22 @@
+-- `kind_allows` meets its contract. Assumes nothing.
+use Rattle.book_check.proofs.LineChecks.{allows-local, allows-no-glob, allows-general, allows-global, allows-any}
+use Rattle.book_check.proofs.lines.kind_allows.Statement.{statement}
+use Rattle.book_check.proofs.lines.kind_allows.Tie as tie
+
+returns : tie.Need-returns
+returns c = search allows-local
+
+returns-2 : tie.Need-returns-2
+returns-2 c = search allows-no-glob
+
+returns-3 : tie.Need-returns-3
+returns-3 c = search allows-general
+
+returns-4 : tie.Need-returns-4
+returns-4 c = search allows-global
+
+returns-5 : tie.Need-returns-5
+returns-5 c = search allows-any
+
+pub kind-allows-spec : {M : Type 1} → statement M
+kind-allows-spec = tie.close (tie.spec returns returns-2 returns-3 returns-4 returns-5)

@@ -1,0 +1,138 @@
+-- What an opening gives is a book that a view gives back (specs/Opened.antt): the book so far is sound along the reading, and so it is at the end.
+-- Assumes nothing.
+use Prim.Native.Nat.{ℕ, zero, suc, _+_, _-_, _≤_, _<_}
+use mathlib.Core.Path.{_≡_, refl, _∙_}
+use mathlib.Core.List.{List, []}
+use mathlib.Core.Bool.{Bool, true, false, cond, _||_, true≢false}
+use native.Mathlib.Omega.{arith}
+use borrow.Author.Tests.{eqb-true, leb-true, ltb-false, not-true}
+use lib.Dec.{eqb, leb, ltb}
+use lib.ListN.{length}
+use Rattle.numbers.specs.Limits.{script-limit}
+use Rattle.numbers.specs.Refusals.{no-room, too-long}
+use Rattle.lists.proofs.Tests.{both}
+use Rattle.lists.specs.Each.{every}
+use Rattle.reading_cursors.specs.declared.Cursor.{Cursor}
+use Rattle.reading_cursors.specs.declared.Step.{Step}
+use Rattle.reading_cursors.specs.declared.Step.the-variants.{Go, End, Refused}
+use Rattle.reading_cursors.specs.Moves.{start}
+use Rattle.reading_cursors.specs.Places.{at-list, at-script, at-symbol}
+use Rattle.reading.specs.Scripts.{next}
+use Rattle.reading.specs.Events.{on-step, reading, reading-from, reading-within}
+use Rattle.reading.proofs.Parts.{next-parts}
+use Rattle.reading.proofs.Origins.{block-place, next-origin}
+use Rattle.book.specs.Books.{Book, export, regular, rust}
+use Rattle.book.specs.Layout.{Buffers, node-width}
+use Rattle.book.specs.Sanity.{kind-allows, kind-good, sane}
+use Rattle.book.specs.View.{Fits}
+use Rattle.book.proofs.Views.{view-of-layout}
+use Rattle.book_building.specs.Building.{Building, Taken, on, no, take-event}
+use Rattle.book_opening.specs.Opening.{Opening, opens, declined, build, build-reading, finished, kind-of, nothing-yet, on-taken, opening, rust-style}
+use Rattle.book_opened.specs.Opened.{Opened-holds, opens-at}
+use Rattle.book_opened.proofs.KindLines.{kind-fits, kind-sane, regular-allows}
+use Rattle.book_opened.proofs.Soundness.{Holds, Sound, refuses, sound-event, sound-start, takes}
+
+-- a book that a view gives back
+pub record Viewable (b : Buffers) (w : Book) : Type 0 where
+  pub fits : Fits b w
+  pub sane : sane w ≡ true
+
+-- ---- the end: the kind is one that the lines allow
+record Kind-good (w : Book) : Type 0 where
+  allows : every (kind-allows (w .kind)) (w .lines) ≡ true
+  good : kind-good w ≡ true
+
+module _ (place : ℕ) (b : Buffers) (c : Cursor) (g : Building) (t : Sound place b c g) where
+  abbrev as-kind : ℕ → Book
+  as-kind kind = record { kind = kind; nodes = g .nodes; lines = g .lines; edits = [] }
+
+  list-kind : at-list ≤ c .place → Kind-good (as-kind export)
+  unfolding kind-good
+  list-kind h =
+      let o = t .list h in
+      record { allows = o .globals; good = rw (o .one) }
+
+  script-kind : (v : Bool) → rust-style g ≡ v → Kind-good (as-kind (cond v rust regular))
+  unfolding kind-good rust-style
+  script-kind true e =
+      let a = both (eqb (length (g .nodes)) 1) _ e in
+      let d = both (g .starred) _ (a .1) in
+      record { allows = t .rust .globals (not-true (g .mixed) (d .1)); good = rw (a .0, t .rust .star (d .0)) }
+  script-kind false e = record { allows = regular-allows (g .lines); good = refl }
+
+  ends-kind : Kind-good (finished place g)
+  unfolding kind-of
+  ends-kind = go (eqb place at-list) refl
+    where
+      go : (v : Bool) → eqb place at-list ≡ v → Kind-good (as-kind (cond v export (cond (rust-style g) rust regular)))
+      go true e =
+          let z : place ≡ at-list = eqb-true place at-list e in
+          list-kind (ltb-false (c .place) at-list (t .side ∙ rw z))
+      go false e = script-kind (rust-style g) refl
+
+  ends-viewable : Viewable b (finished place g)
+  ends-viewable =
+      let k = ends-kind in
+      let o = t .good in
+      record {
+        fits = kind-fits b (kind-of place g) (g .nodes) (g .lines) (o .rooms) (o .nodes) (o .lines) (o .stand) (k .allows);
+        sane = kind-sane b (kind-of place g) (g .nodes) (g .lines) (o .rooms) (o .nodes) (o .lines) (o .stand) (k .allows) (k .good);
+      }
+
+-- ---- the reading
+module _ (place : ℕ) (b : Buffers) (s : List ℕ) (w : Book) where
+  -- it ends, or an event is taken and it goes on
+  done : (g : Building) → Viewable b (finished place g) → opens (finished place g) ≡ opens w → Viewable b w
+  done g v e = let z : finished place g ≡ w = cc in rw z at v
+
+  after : (P : Building → Type 0) (f : Building → Opening) (t : Taken) → Holds P t → ((h : Building) → P h → f h ≡ opens w → Viewable b w)
+      → on-taken t f ≡ opens w → Viewable b w
+  after P f (on h) (takes k) more e = more h k e
+  after P f (no n p) refuses more e = absurd (true≢false (cc))
+
+  -- with at most n events: where that bound cuts a reading off, the book so far is sound too, so nothing is asked of it
+  along : (n : ℕ) (c : Cursor) (g : Building) → Sound place b c g → build-reading place b s g (reading-within n s c) ≡ opens w → Viewable b w
+  unfolding reading-within build-reading build
+  along zero c g t e = done g (ends-viewable place b c g t) e
+  along (suc n) c g t e = go (next s c) refl e (along n)
+    where
+      go : (r : Step) → next s c ≡ r → build-reading place b s g (on-step r (λ d. reading-within n s d)) ≡ opens w
+          → ((d : Cursor) (h : Building) → Sound place b d h → build-reading place b s h (reading-within n s d) ≡ opens w → Viewable b w)
+          → Viewable b w
+      go (Go x d) k f more =
+          let p = next-parts s c (t .marked) x d k in
+          let o = next-origin s c x d (t .few) k in
+          after (Sound place b d) (λ h. build-reading place b s h (reading-within n s d)) (take-event b s g x)
+          (sound-event place b s c g t x d (p .0) (p .1) (o .0) (o .1)) (λ h. more d h) f
+      go End k f more = done g (ends-viewable place b c g t) f
+      go (Refused a p) k f more = absurd (true≢false (cc))
+
+-- ---- the whole
+viewable : (place : ℕ) (b : Buffers) (s : List ℕ) (w : Book) → place < at-symbol → block-place place ≡ false → opening place b s ≡ opens w → Viewable b w
+unfolding opening reading reading-from
+viewable place b s w h k e = go (ltb script-limit (length s)) (leb node-width (length (b .nodes))) refl e
+  where
+    go : (x y : Bool) → leb node-width (length (b .nodes)) ≡ y
+        → cond x (declined too-long 0) (cond y (build-reading place b s nothing-yet (reading place s)) (declined no-room 0)) ≡ opens w
+        → Viewable b w
+    go true y z f = absurd (true≢false (cc))
+    go false false z f = absurd (true≢false (cc))
+    go false true z f =
+        along place b s w (length s + 2 - start place s .at) (start place s) nothing-yet (sound-start b s place (leb-true _ _ z) h k) f
+
+starts-free : (place : ℕ) → opens-at place ≡ true → (place < at-symbol) × (block-place place ≡ false)
+starts-free place e = go (eqb place at-script) refl e
+  where
+    go : (v : Bool) → eqb place at-script ≡ v → (v || eqb place at-list) ≡ true → (place < at-symbol) × (block-place place ≡ false)
+    go true z f = let q : place ≡ at-script = eqb-true place at-script z in (omega arith, rw q)
+    go false z f = let q : place ≡ at-list = eqb-true place at-list f in (omega arith, rw q)
+
+pub opened-viewable : (place : ℕ) (b : Buffers) (s : List ℕ) (w : Book) → opens-at place ≡ true → opening place b s ≡ opens w → Viewable b w
+opened-viewable place b s w h e =
+    let f = starts-free place h in
+    viewable place b s w (f .0) (f .1) e
+
+pub opened-holds : Opened-holds
+opened-holds place b s w h e =
+    let v = opened-viewable place b s w h e in
+    view-of-layout b w (v .fits) (v .sane)

@@ -1,0 +1,153 @@
+-- A refused opening has one of the numbers 1 to 8, so 0 says that it is done (`opening-refuses`). Assumes nothing.
+use Prim.Native.Nat.{ℕ, _≤_}
+use mathlib.Core.Path.{_≡_, refl, sym}
+use mathlib.Core.List.{List, [], _∷_}
+use mathlib.Core.Bool.{Bool, true, false, cond, _||_, true≢false}
+use native.Mathlib.Omega.{arith}
+use borrow.Author.Tests.{eqb-true}
+use lib.Dec.{eqb, leb, ltb}
+use lib.ListN.{length}
+use Rattle.linker_script.specs.Parts.{part}
+use Rattle.numbers.specs.Limits.{over, script-limit, token-limit}
+use Rattle.numbers.specs.Refusals.{bad-extern, bad-pattern, glob-not-utf8, no-room, too-long, unclosed, unknown-parent, unreadable}
+use Rattle.utf8.specs.Utf8.{chars, utf8}
+use Rattle.numbers.specs.declared.Edition.{Edition}
+use Rattle.pattern.specs.Patterns.{refusal, shaped-from}
+use Rattle.pattern.specs.Storing.{stored}
+use Rattle.classes.specs.declared.Class.{Class}
+use Rattle.classes.specs.declared.Class.the-variants.{Exact, Escaped, NonStar, Star, All}
+use Rattle.classes.specs.Classes.{lone-star, quoted, scan, unquoted}
+use Rattle.storing.specs.Keeping.{Keep, kept, refused, keep, keep-as, keep-class, keep-glob, keep-scanned, keep-when}
+use Rattle.reading_cursors.specs.declared.Event.{Event}
+use Rattle.reading_cursors.specs.declared.Event.the-variants.{Node, Body, Section, Extern, Closed, Line, Parent}
+use Rattle.reading.specs.Events.{Outcome, accepted, reading}
+use Rattle.reading.specs.Events as events
+use Rattle.reading.proofs.Refusals.{of-reader, reading-refuses}
+use Rattle.book.specs.Books.{edition-of, first-named, regular}
+use Rattle.book.specs.Layout.{Buffers, node-width}
+use Rattle.book_rooms.specs.Rooms.{line-room, node-room}
+use Rattle.book_building.specs.Building.{Building, Taken, no, on, take-event, take-kept, take-node, take-parent}
+use Rattle.book_opening.specs.Opening.{Opening, build, build-reading, declined, ended, nothing-yet, on-taken, opening, opens}
+
+-- a number of a refused opening
+abbrev Says : ℕ → Type 0
+Says n = (1 ≤ n) × (n ≤ 8)
+
+-- ---- what says no, at every step
+abbrev Kept-says : Keep → Type 0
+Kept-says (kept k bs) = Unit {0}
+Kept-says (refused n) = Says n
+
+abbrev Taken-says : Taken → Type 0
+Taken-says (on g) = Unit {0}
+Taken-says (no n p) = Says n
+
+abbrev Says-declined : Opening → Type 0
+Says-declined (opens w) = Unit {0}
+Says-declined (declined n p) = Says n
+
+glob-says : (e : Edition) (k : Class) (t : List ℕ) → Kept-says (keep-glob e k t)
+unfolding keep-glob keep-when refusal
+glob-says e k t = go (utf8 (stored e t)) (shaped-from e false (chars (stored e t)))
+  where
+    go : (x y : Bool)
+        → Kept-says (cond (eqb (cond x (cond y 0 bad-pattern) glob-not-utf8) 0) (kept k (stored e t)) (refused (cond x (cond y 0 bad-pattern) glob-not-utf8)))
+    go true true = tt
+    go true false = (omega arith, omega arith)
+    go false y = (omega arith, omega arith)
+
+as-says : (e : Edition) (k : Class) (t : List ℕ) → Kept-says (keep-as e k t)
+unfolding keep-as
+as-says e Exact t = tt
+as-says e Escaped t = tt
+as-says e NonStar t = glob-says e NonStar t
+as-says e Star t = glob-says e Star t
+as-says e All t = tt
+
+keep-says : (e : Edition) (t : List ℕ) → Kept-says (keep e t)
+unfolding keep keep-class keep-scanned
+keep-says e t = go (over token-limit t) (quoted t) (lone-star t)
+  where
+    go : (x y z : Bool)
+        → Kept-says (cond x (refused too-long) (cond y (kept Exact (unquoted t)) (cond z (kept All []) (keep-as e (scan Exact false t) t))))
+    go true y z = (omega arith, omega arith)
+    go false true z = tt
+    go false false true = tt
+    go false false false = as-says e (scan Exact false t) t
+
+when-says : (t : Bool) (g : Building) (n p : ℕ) → Says n → Taken-says (cond t (on g) (no n p))
+when-says true g n p h = tt
+when-says false g n p h = h
+
+kept-says : (b : Buffers) (g : Building) (p section language : ℕ) (k : Keep) → Kept-says k → Taken-says (take-kept b g p section language k)
+unfolding take-kept
+kept-says b g p section language (kept k bs) h = when-says (line-room b (g .lines) bs) _ no-room p (omega arith, omega arith)
+kept-says b g p section language (refused n) h = h
+
+parent-says : (g : Building) (p : ℕ) (t : List ℕ) → Taken-says (take-parent g p t)
+unfolding take-parent
+parent-says g p [] = tt
+parent-says g p (c ∷ t) = when-says (ltb (first-named (g .nodes) (c ∷ t)) _) _ unknown-parent p (omega arith, omega arith)
+
+event-says : (b : Buffers) (s : List ℕ) (g : Building) (e : Event) → Taken-says (take-event b s g e)
+unfolding take-event take-node
+event-says b s g (Node p n) = when-says (node-room b (g .nodes) (part s p n)) _ no-room p (omega arith, omega arith)
+event-says b s g Body = tt
+event-says b s g (Section k) = tt
+event-says b s g (Extern k l) = tt
+event-says b s g Closed = tt
+event-says b s g (Line k l p n) = kept-says b g p k l (keep (edition-of regular) (part s p n)) (keep-says (edition-of regular) (part s p n))
+event-says b s g (Parent p n) = parent-says g p (part s p n)
+
+-- ---- a reading's own refusal
+reader-says : (n : ℕ) → of-reader n ≡ true → Says n
+reader-says n h = go (eqb n too-long) (eqb n unreadable) (eqb n unclosed) (eqb n bad-extern) refl refl refl refl h
+  where
+    is : (k : ℕ) → 1 ≤ k → k ≤ 8 → eqb n k ≡ true → Says n
+    is k a b e = let z : n ≡ k = eqb-true n k e in (omega arith, omega arith)
+
+    go : (a b c d : Bool) → eqb n too-long ≡ a → eqb n unreadable ≡ b → eqb n unclosed ≡ c → eqb n bad-extern ≡ d → (a || (b || (c || d))) ≡ true → Says n
+    go true b c d x y z w e = is too-long (omega arith) (omega arith) x
+    go false true c d x y z w e = is unreadable (omega arith) (omega arith) y
+    go false false true d x y z w e = is unclosed (omega arith) (omega arith) z
+    go false false false true x y z w e = is bad-extern (omega arith) (omega arith) w
+    go false false false false x y z w e = absurd (true≢false (sym e))
+
+abbrev Outcome-says : Outcome → Type 0
+Outcome-says accepted = Unit {0}
+Outcome-says (events.refused n p) = Says n
+
+outcome-says : (place : ℕ) (s : List ℕ) → Outcome-says (reading place s .outcome)
+outcome-says place s = go (reading place s .outcome) refl
+  where
+    go : (o : Outcome) → reading place s .outcome ≡ o → Outcome-says o
+    go accepted e = tt
+    go (events.refused n p) e = reader-says n (reading-refuses s n p place e)
+
+-- ---- the whole
+on-says : (t : Taken) (f : Building → Opening) → Taken-says t → ((g : Building) → Says-declined (f g)) → Says-declined (on-taken t f)
+on-says (on g) f h k = k g
+on-says (no n p) f h k = h
+
+ended-says : (place : ℕ) (g : Building) (o : Outcome) → Outcome-says o → Says-declined (ended place g o)
+ended-says place g accepted h = tt
+ended-says place g (events.refused n p) h = h
+
+build-says : (place : ℕ) (b : Buffers) (s : List ℕ) (g : Building) (es : List Event) (o : Outcome) → Outcome-says o → Says-declined (build place b s g es o)
+unfolding build
+build-says place b s g [] o h = ended-says place g o h
+build-says place b s g (e ∷ es) o h =
+    on-says (take-event b s g e) (λ x. build place b s x es o) (event-says b s g e) (λ x. build-says place b s x es o h)
+
+opening-says : (place : ℕ) (b : Buffers) (s : List ℕ) → Says-declined (opening place b s)
+unfolding opening build-reading
+opening-says place b s = go (ltb script-limit (length s)) (leb node-width (length (b .nodes)))
+  where
+    go : (x y : Bool)
+        → Says-declined (cond x (declined too-long 0) (cond y (build place b s nothing-yet (reading place s .events) (reading place s .outcome)) (declined no-room 0)))
+    go true y = (omega arith, omega arith)
+    go false true = build-says place b s nothing-yet (reading place s .events) (reading place s .outcome) (outcome-says place s)
+    go false false = (omega arith, omega arith)
+
+pub opening-refuses : (place : ℕ) (b : Buffers) (s : List ℕ) (n p : ℕ) → opening place b s ≡ declined n p → (1 ≤ n) × (n ≤ 8)
+opening-refuses place b s n p e = rw e at (opening-says place b s)

@@ -1,0 +1,55 @@
+-- `open` meets its contract: what `fill` leaves, with the journal cleared. Assumes nothing.
+use borrow.Author.Needs.{needs}
+use Rattle.book_opening.proofs.Opens.{clear-now, open-filled}
+use Rattle.book_opening.proofs.open.Statement.{statement}
+use Rattle.book_opening.proofs.open.Tie as tie
+
+clear-book-requires : tie.Need-clear-book-requires
+clear-book-requires c κs = search needs
+
+clear-numbers-requires : tie.Need-clear-numbers-requires
+clear-numbers-requires c κs = search needs
+
+fill-requires : tie.Need-fill-requires
+fill-requires c κs = clear-now _ _ _ _ _ _ _ _ (c .before .before .before .before .before .before .before .before .before .before .before .before .before .before .before .before .clear-book .ensures)
+
+same-length : tie.Need-same-length
+same-length c = search needs
+
+same-length-2 : tie.Need-same-length-2
+same-length-2 c = search needs
+
+same-length-3 : tie.Need-same-length-3
+same-length-3 c = search needs
+
+same-length-4 : tie.Need-same-length-4
+same-length-4 c = search needs
+
+same-length-5 : tie.Need-same-length-5
+same-length-5 c = search needs
+
+returns : tie.Need-returns
+returns c =
+    let x = c .before .before .before .before .before .before .before .before in
+    let z = x .before .before .before .before .before .before .before in
+    let y = z .before .before .before .before .before .before .before .before .before .before in
+    let a = y .before .before .before .before .before .before .before .before .before .before .before .args in
+    open-filled (a .place) (a .nodes .now) (a .names .now) (a .lines .now) (a .pool .now) (a .journal .now) (a .text .now)
+    (y .clear-book .last .0) (y .clear-book .last .1 .0) (y .clear-book .last .1 .1 .0) (y .clear-book .last .1 .1 .1 .0)
+    (z .clear-numbers .last .0)
+    (y .clear-book .ensures) (z .clear-numbers .ensures) (x .fill .result) (x .fill .last .1 .1 .0) (x .fill .last .1 .1 .1 .0) (x .fill .last .1 .1 .1 .1 .0) (x .fill .last .1 .1 .1 .1 .1 .0)
+    (x .fill .ensures)
+
+pub open-spec : {M : Type 1} → statement M
+open-spec =
+    tie.close
+    (tie.spec
+    clear-book-requires
+    clear-numbers-requires
+    fill-requires
+    same-length
+    same-length-2
+    same-length-3
+    same-length-4
+    same-length-5
+    returns)

@@ -1,0 +1,2 @@
+mod OpeningExits
+mod Asked

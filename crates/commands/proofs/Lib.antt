@@ -1,2 +1,0 @@
-mod Exits
-mod Points

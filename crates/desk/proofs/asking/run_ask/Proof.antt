@@ -1,0 +1,58 @@
+-- `run_ask` meets its contract. Assumes nothing.
+use borrow.Author.Needs.{needs}
+use Rattle.book.specs.Layout.{five}
+use Rattle.book.specs.View.{view}
+use Rattle.desk.proofs.AskExits.{list-asked, script-asked}
+use Rattle.desk.proofs.asking.run_ask.Statement.{statement}
+use Rattle.desk.proofs.asking.run_ask.Tie as tie
+
+ask-member-requires : tie.Need-ask-member-requires
+ask-member-requires c κs = search needs
+
+printed-requires : tie.Need-printed-requires
+printed-requires c κs = search needs
+
+same-length : tie.Need-same-length
+same-length c = search needs
+
+returns : tie.Need-returns
+returns c =
+    let at-ask-member = c .before .before .before in
+    let at-if1 = at-ask-member .before .before in
+    let at-args = at-if1 .before .before .before .before .before .before .before .before .before in
+    let a = at-args .args in
+    let b = five (a .nodes .now) (a .names .now) (a .lines .now) (a .pool .now) (a .journal .now) in
+    list-asked (a .c) b (view (a .c) b) (a .t .now) (a .out .now) _ (at-ask-member .ask-member .result) _ (c .printed .ensures)
+    (at-if1 .if1 .taken) (at-ask-member .ask-member .ensures)
+
+render-symbol-requires : tie.Need-render-symbol-requires
+render-symbol-requires c κs = search needs
+
+printed-requires-2 : tie.Need-printed-requires-2
+printed-requires-2 c κs = search needs
+
+same-length-2 : tie.Need-same-length-2
+same-length-2 c = search needs
+
+returns-2 : tie.Need-returns-2
+returns-2 c =
+    let at-render-symbol = c .before .before .before in
+    let at-if1 = at-render-symbol .before .before in
+    let at-args = at-if1 .before .before .before .before .before .before .before .before .before in
+    let a = at-args .args in
+    let b = five (a .nodes .now) (a .names .now) (a .lines .now) (a .pool .now) (a .journal .now) in
+    script-asked (a .c) b (view (a .c) b) (a .t .now) (a .out .now) _ (at-render-symbol .render-symbol .result) _
+    (c .printed2 .ensures) (at-if1 .if1 .left) (at-args .pre) (at-render-symbol .render-symbol .ensures)
+
+pub run-ask-spec : {M : Type 1} → statement M
+run-ask-spec =
+    tie.close
+    (tie.spec
+    ask-member-requires
+    printed-requires
+    same-length
+    returns
+    render-symbol-requires
+    printed-requires-2
+    same-length-2
+    returns-2)

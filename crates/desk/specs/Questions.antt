@@ -1,0 +1,27 @@
+-- The release desk's questions: what each prints of a book. Assumes nothing.
+use Prim.Native.Nat.{ℕ}
+use mathlib.Core.List.{List}
+use mathlib.Core.Option.{Option, some, none}
+use lib.ListN.{drop}
+use Rattle.numbers.specs.Refusals.{no-book}
+use Rattle.book.specs.declared.Counts.{Counts}
+use Rattle.book.specs.Books.{Book}
+use Rattle.book.specs.Layout.{Buffers}
+use Rattle.printing.specs.Printing.{refused-answer}
+use Rattle.desk_commands.specs.declared.Question.{Question}
+use Rattle.desk_commands.specs.declared.Question.the-variants as question
+use Rattle.printing_book.specs.Shown.{counts-shown, dump-shown, lines-shown}
+use Rattle.desk.specs.Answers.{Step, telling}
+use Rattle.desk.specs.Asked.{asked}
+
+-- ---- what is shown of a book; where there is none it is refused 14
+abbrev pub of-book : Option Book → (Book → List ℕ) → List ℕ
+of-book none show = refused-answer no-book
+of-book (some w) show = show w
+
+-- a question of the line l, on the book w of the counts c and the buffers b
+unfoldable pub question-step : Counts → Buffers → Option Book → List ℕ → Question → Step
+question-step c b w l (question.Ask at) = telling c b (asked (c .kind) w (drop at l))
+question-step c b w l question.Counts = telling c b (of-book w (λ v. counts-shown c))
+question-step c b w l question.Lines = telling c b (of-book w (λ v. lines-shown 0 (v .lines)))
+question-step c b w l question.Dump = telling c b (of-book w (λ v. dump-shown c b))

@@ -1,0 +1,5 @@
+mod Exits
+mod Points
+mod Behind
+pub mod Ends
+mod Numbers

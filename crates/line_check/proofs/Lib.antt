@@ -1,2 +1,0 @@
-mod LineChecks
-pub mod LineRows

@@ -1,3 +1,0 @@
-mod Behind
-pub mod Ends
-mod Numbers

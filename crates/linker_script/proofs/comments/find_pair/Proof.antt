@@ -1,0 +1,50 @@
+-- `find_pair` meets its contract. The loop's invariant: what is found from i on decides. Assumes nothing.
+use Prim.Native.Nat.{_-_}
+use mathlib.Core.Path.{_≡_, refl}
+use borrow.Author.Needs.{needs}
+use lib.ListN.{length}
+use Rattle.linker_script.specs.Finding.{first-from, are}
+use Rattle.linker_script.proofs.Searches.{pair-here, pair-on, pair-none}
+use Rattle.linker_script.proofs.comments.find_pair.Statement.{statement}
+use Rattle.linker_script.proofs.comments.find_pair.Tie as tie
+
+abbrev Inv-loop : tie.InvT-loop
+Inv-loop s x y at i₀ i = first-from (are x y) s at ≡ first-from (are x y) s i
+
+abbrev μ-loop : tie.MeasureT-loop
+μ-loop s x y at i₀ i = length s - i
+
+loop-holds : tie.Need-loop-holds Inv-loop μ-loop
+loop-holds c = refl
+
+is-pair-requires : tie.Need-is-pair-requires Inv-loop μ-loop
+is-pair-requires c κs = search needs
+
+returns : tie.Need-returns Inv-loop μ-loop
+returns c = search pair-here
+
+add-i : tie.Need-add-i Inv-loop μ-loop
+add-i c = search needs
+
+loop-less : tie.Need-loop-less Inv-loop μ-loop
+loop-less c = search needs
+
+loop-again : tie.Need-loop-again Inv-loop μ-loop
+loop-again c = search pair-on
+
+returns-2 : tie.Need-returns-2 Inv-loop μ-loop
+returns-2 c = search pair-none
+
+pub find-pair-spec : {M : Type 1} → statement M
+find-pair-spec =
+    tie.close
+    (tie.spec
+    Inv-loop
+    μ-loop
+    loop-holds
+    is-pair-requires
+    returns
+    add-i
+    loop-less
+    loop-again
+    returns-2)

@@ -1,0 +1,59 @@
+-- `decided_locality` meets its contract, by the laws of Decided. Assumes nothing.
+use borrow.Author.Needs.{needs}
+use native.Mathlib.Omega.{arith}
+use Rattle.lookups.proofs.Decided.{decider-global, decider-local, decider-row, nothing-decides}
+use Rattle.lookups.proofs.locality_lookup.decided_locality.Statement.{statement}
+use Rattle.lookups.proofs.locality_lookup.decided_locality.Tie as tie
+
+cast-find-match : tie.Need-cast-find-match
+cast-find-match c = search needs
+
+cast-find-match-2 : tie.Need-cast-find-match-2
+cast-find-match-2 c = search needs
+
+find-match-requires : tie.Need-find-match-requires
+find-match-requires c κs = search needs
+
+enum-told : tie.Need-enum-told
+enum-told c = search needs
+
+enum-known-i : tie.Need-enum-known-i
+enum-known-i c = search needs
+
+mul-if1 : tie.Need-mul-if1
+mul-if1 c = let r = decider-row _ _ _ _ _ _ _ _ (c .before .before .before .before .before .before .before .before .before .before .pre .0) _ (c .before .before .before .find-match .ensures) _ (c .before .i .given .1) in omega arith
+
+add-if1 : tie.Need-add-if1
+add-if1 c = let r = decider-row _ _ _ _ _ _ _ _ (c .before .before .before .before .before .before .before .before .before .before .pre .0) _ (c .before .before .before .find-match .ensures) _ (c .before .i .given .1) in omega arith
+
+mul-if1-2 : tie.Need-mul-if1-2
+mul-if1-2 c = let r = decider-row _ _ _ _ _ _ _ _ (c .before .before .before .before .before .before .before .before .before .before .pre .0) _ (c .before .before .before .find-match .ensures) _ (c .before .i .given .1) in omega arith
+
+shared-slice-read-if1 : tie.Need-shared-slice-read-if1
+shared-slice-read-if1 c = let r = decider-row _ _ _ _ _ _ _ _ (c .before .before .before .before .before .before .before .before .before .before .before .pre .0) _ (c .before .before .before .before .find-match .ensures) _ (c .before .before .i .given .1) in omega arith
+
+returns : tie.Need-returns
+returns c = let d = c .before .before .before .before .before in decider-global _ _ _ _ _ _ _ _ (d .before .before .before .before .before .before .before .pre .0) _ (d .find-match .ensures) _ (c .before .before .before .i .given .1) (c .if1 .taken)
+
+returns-2 : tie.Need-returns-2
+returns-2 c = let d = c .before .before in nothing-decides _ _ _ _ _ _ _ _ (d .before .before .before .before .before .before .before .pre .0) _ (d .find-match .ensures) (c .enum-told .given .1)
+
+returns-3 : tie.Need-returns-3
+returns-3 c = let d = c .before .before .before .before .before in decider-local _ _ _ _ _ _ _ _ (d .before .before .before .before .before .before .before .pre .0) _ (d .find-match .ensures) _ (c .before .before .before .i .given .1) (c .if1 .left)
+
+pub decided-locality-spec : {M : Type 1} → statement M
+decided-locality-spec =
+    tie.close
+    (tie.spec
+    cast-find-match
+    cast-find-match-2
+    find-match-requires
+    enum-told
+    enum-known-i
+    mul-if1
+    add-if1
+    mul-if1-2
+    shared-slice-read-if1
+    returns
+    returns-2
+    returns-3)

@@ -1,0 +1,5 @@
+pub mod Pieces
+pub mod Numbers
+pub mod ShownDump
+pub mod Fields
+pub mod ShownLines

@@ -1,0 +1,115 @@
+-- `show_dump` meets its contract. Assumes nothing.
+use borrow.Author.Needs.{needs}
+use Rattle.book.specs.Layout.{Buffers, five}
+use Rattle.printing_book.proofs.ShownDump.{Ready, dump-long, dump-put, journal-room, lines-room, nodes-room, readied}
+use Rattle.printing_book.proofs.dump.show_dump.Statement.{statement}
+use Rattle.printing_book.proofs.dump.show_dump.Tie as tie
+
+-- what is known where the first pair is put
+abbrev start : tie.After-struct-known2 → tie.Start
+start c = c .before .before .before .before .before .before .before .before .before .before .before
+
+abbrev held : tie.Start → Buffers
+held s = five (s .args .nodes .now) (s .args .names .now) (s .args .lines .now) (s .args .pool .now) (s .args .journal .now)
+
+ready : (c : tie.After-struct-known2) → Ready (start c .args .c) (held (start c)) (start c .args .out .now)
+ready c =
+    let pool = c .before .before .before .before .before .before .before in
+    let names = pool .before .before in
+    readied (start c .args .c) (held (start c)) (start c .args .out .now) (start c .pre .0) (start c .pre .1) (names .shared-slice-known2 .given)
+    (pool .shared-slice-known4 .given)
+
+-- ---- the needs
+slice-aggregate-put-pair : tie.Need-slice-aggregate-put-pair
+slice-aggregate-put-pair c = search needs
+
+cast-put-pair : tie.Need-cast-put-pair
+cast-put-pair c = search needs
+
+mul-put-pair : tie.Need-mul-put-pair
+mul-put-pair c = search needs
+
+slice-aggregate-put-pair-2 : tie.Need-slice-aggregate-put-pair-2
+slice-aggregate-put-pair-2 c = search needs
+
+cast-put-pair-2 : tie.Need-cast-put-pair-2
+cast-put-pair-2 c = search needs
+
+put-pair-requires : tie.Need-put-pair-requires
+put-pair-requires c κs =
+    let k = ready c in
+    (k .held .nodes, k .held .names, nodes-room k)
+
+slice-aggregate-put-pair-3 : tie.Need-slice-aggregate-put-pair-3
+slice-aggregate-put-pair-3 c = search needs
+
+cast-put-pair-3 : tie.Need-cast-put-pair-3
+cast-put-pair-3 c = search needs
+
+mul-put-pair-2 : tie.Need-mul-put-pair-2
+mul-put-pair-2 c = search needs
+
+slice-aggregate-put-pair-4 : tie.Need-slice-aggregate-put-pair-4
+slice-aggregate-put-pair-4 c = search needs
+
+cast-put-pair-4 : tie.Need-cast-put-pair-4
+cast-put-pair-4 c = search needs
+
+put-pair-requires-2 : tie.Need-put-pair-requires-2
+put-pair-requires-2 c κs =
+    let p = c .before .before .before .before .before .before .before in
+    let k = ready (p .before) in
+    (k .held .lines, k .held .pool, lines-room k _ _ (p .put-pair .ensures))
+
+slice-aggregate-put-buffer : tie.Need-slice-aggregate-put-buffer
+slice-aggregate-put-buffer c = search needs
+
+cast-put-buffer : tie.Need-cast-put-buffer
+cast-put-buffer c = search needs
+
+mul-put-buffer : tie.Need-mul-put-buffer
+mul-put-buffer c = search needs
+
+put-buffer-requires : tie.Need-put-buffer-requires
+put-buffer-requires c κs =
+    let q = c .before .before .before .before .before in
+    let p = q .before .before .before .before .before .before .before .before in
+    let k = ready (p .before) in
+    (k .held .journal, journal-room k _ _ (p .put-pair .ensures) _ _ (q .put-pair2 .ensures))
+
+same-length : tie.Need-same-length
+same-length c =
+    let u = c .before .before in
+    let q = u .before .before .before .before .before .before in
+    let p = q .before .before .before .before .before .before .before .before in
+    dump-long (ready (p .before)) _ _ (p .put-pair .ensures) _ _ (q .put-pair2 .ensures) _ _ (u .put-buffer .ensures)
+
+returns : tie.Need-returns
+returns c =
+    let u = c .before .before in
+    let q = u .before .before .before .before .before .before in
+    let p = q .before .before .before .before .before .before .before .before in
+    dump-put (ready (p .before)) _ _ (p .put-pair .ensures) _ _ (q .put-pair2 .ensures) _ _ (u .put-buffer .ensures)
+
+pub show-dump-spec : {M : Type 1} → statement M
+show-dump-spec =
+    tie.close
+    (tie.spec
+    slice-aggregate-put-pair
+    cast-put-pair
+    mul-put-pair
+    slice-aggregate-put-pair-2
+    cast-put-pair-2
+    put-pair-requires
+    slice-aggregate-put-pair-3
+    cast-put-pair-3
+    mul-put-pair-2
+    slice-aggregate-put-pair-4
+    cast-put-pair-4
+    put-pair-requires-2
+    slice-aggregate-put-buffer
+    cast-put-buffer
+    mul-put-buffer
+    put-buffer-requires
+    same-length
+    returns)

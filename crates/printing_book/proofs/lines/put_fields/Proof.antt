@@ -1,0 +1,142 @@
+-- `put_fields` meets its contract: behind each call the fields stand as far as to one of them. Assumes nothing.
+use Prim.Native.Nat.{ℕ}
+use mathlib.Core.List.{List, []}
+use borrow.Author.Needs.{needs}
+use native.Mathlib.Omega.{arith}
+use lib.ListN.{length}
+use Rattle.book.specs.Books.{Line}
+use Rattle.book.specs.Layout.{line-of}
+use Rattle.printing_book.proofs.Pieces.{Placed, room-behind, spaced-behind, spaced-placed}
+use Rattle.printing_book.proofs.Fields.{fields-put, to-class, to-language, to-length, to-node, to-section, to-struck}
+use Rattle.printing_book.proofs.lines.put_fields.Statement.{statement}
+use Rattle.printing_book.proofs.lines.put_fields.Tie as tie
+
+abbrev line : tie.Start → Line
+line s = line-of (s .args .node) (s .args .code) (s .args .bytes .now)
+
+-- a text of this line, m bytes at most, stands from the place on
+abbrev Stands : tie.Start → ℕ → (Line → List ℕ) → List ℕ → ℕ → Type 0
+Stands s m text l r = Placed (s .args .out .now) (s .args .at) m (text (line s)) l r
+
+-- behind the first call
+abbrev start : tie.After-put-spaced → tie.Start
+start c = c .before .before .before .before .before
+
+node : (c : tie.After-put-spaced) → Stands (start c) 11 to-node (c .put-spaced .last .0) (c .put-spaced .result)
+node c = spaced-placed _ _ [] (line (start c) .node) _ _ (omega (arith, start c .pre .0)) (c .put-spaced .ensures)
+
+-- behind the second
+abbrev start2 : tie.After-put-spaced2 → tie.Start
+start2 c = start (c .before .before .before .before .before)
+
+class : (c : tie.After-put-spaced2) → Stands (start2 c) 22 to-class (c .put-spaced2 .last .0) (c .put-spaced2 .result)
+class c =
+    let p = node (c .before .before .before .before .before) in
+    spaced-behind p [] (line (start2 c) .class) _ _ (omega (arith, start2 c .pre .0)) (c .put-spaced2 .ensures)
+
+-- behind the third
+abbrev start3 : tie.After-put-spaced3 → tie.Start
+start3 c = start2 (c .before .before .before .before .before)
+
+section : (c : tie.After-put-spaced3) → Stands (start3 c) 33 to-section (c .put-spaced3 .last .0) (c .put-spaced3 .result)
+section c =
+    let p = class (c .before .before .before .before .before) in
+    spaced-behind p [] (line (start3 c) .section) _ _ (omega (arith, start3 c .pre .0)) (c .put-spaced3 .ensures)
+
+-- behind the fourth
+abbrev start4 : tie.After-put-spaced4 → tie.Start
+start4 c = start3 (c .before .before .before .before .before)
+
+language : (c : tie.After-put-spaced4) → Stands (start4 c) 44 to-language (c .put-spaced4 .last .0) (c .put-spaced4 .result)
+language c =
+    let p = section (c .before .before .before .before .before) in
+    spaced-behind p [] (line (start4 c) .language) _ _ (omega (arith, start4 c .pre .0)) (c .put-spaced4 .ensures)
+
+-- behind the fifth
+abbrev start5 : tie.After-put-spaced5 → tie.Start
+start5 c = start4 (c .before .before .before .before .before)
+
+struck : (c : tie.After-put-spaced5) → Stands (start5 c) 55 to-struck (c .put-spaced5 .last .0) (c .put-spaced5 .result)
+struck c =
+    let p = language (c .before .before .before .before .before) in
+    spaced-behind p [] (line (start5 c) .struck) _ _ (omega (arith, start5 c .pre .0)) (c .put-spaced5 .ensures)
+
+-- ---- the needs
+slice-aggregate-put-spaced : tie.Need-slice-aggregate-put-spaced
+slice-aggregate-put-spaced c = search needs
+
+put-spaced-requires : tie.Need-put-spaced-requires
+put-spaced-requires c κs = search needs
+
+slice-aggregate-put-spaced-2 : tie.Need-slice-aggregate-put-spaced-2
+slice-aggregate-put-spaced-2 c = search needs
+
+put-spaced-requires-2 : tie.Need-put-spaced-requires-2
+put-spaced-requires-2 c κs =
+    let p = c .before .before .before .before in
+    room-behind (node p) 0 (omega (arith, start p .pre .0))
+
+slice-aggregate-put-spaced-3 : tie.Need-slice-aggregate-put-spaced-3
+slice-aggregate-put-spaced-3 c = search needs
+
+put-spaced-requires-3 : tie.Need-put-spaced-requires-3
+put-spaced-requires-3 c κs =
+    let p = c .before .before .before .before in
+    room-behind (class p) 0 (omega (arith, start2 p .pre .0))
+
+slice-aggregate-put-spaced-4 : tie.Need-slice-aggregate-put-spaced-4
+slice-aggregate-put-spaced-4 c = search needs
+
+put-spaced-requires-4 : tie.Need-put-spaced-requires-4
+put-spaced-requires-4 c κs =
+    let p = c .before .before .before .before in
+    room-behind (section p) 0 (omega (arith, start3 p .pre .0))
+
+slice-aggregate-put-spaced-5 : tie.Need-slice-aggregate-put-spaced-5
+slice-aggregate-put-spaced-5 c = search needs
+
+put-spaced-requires-5 : tie.Need-put-spaced-requires-5
+put-spaced-requires-5 c κs =
+    let p = c .before .before .before .before in
+    room-behind (language p) 0 (omega (arith, start4 p .pre .0))
+
+slice-aggregate-put-spaced-6 : tie.Need-slice-aggregate-put-spaced-6
+slice-aggregate-put-spaced-6 c = search needs
+
+cast-put-spaced : tie.Need-cast-put-spaced
+cast-put-spaced c = omega (arith, start5 (c .before .before .before .before) .pre .1)
+
+put-spaced-requires-6 : tie.Need-put-spaced-requires-6
+put-spaced-requires-6 c κs =
+    let p = c .before .before .before .before in
+    room-behind (struck p) 0 (omega (arith, start5 p .pre .0))
+
+same-length : tie.Need-same-length
+same-length c = search needs
+
+returns : tie.Need-returns
+returns c =
+    let q = c .before .before in
+    let p = q .before .before .before .before .before in
+    let x = line (start5 p) in
+    fields-put x (spaced-behind (struck p) [] (length (x .bytes)) _ _ (omega (arith, start5 p .pre .0)) (q .put-spaced6 .ensures))
+
+pub put-fields-spec : {M : Type 1} → statement M
+put-fields-spec =
+    tie.close
+    (tie.spec
+    slice-aggregate-put-spaced
+    put-spaced-requires
+    slice-aggregate-put-spaced-2
+    put-spaced-requires-2
+    slice-aggregate-put-spaced-3
+    put-spaced-requires-3
+    slice-aggregate-put-spaced-4
+    put-spaced-requires-4
+    slice-aggregate-put-spaced-5
+    put-spaced-requires-5
+    slice-aggregate-put-spaced-6
+    cast-put-spaced
+    put-spaced-requires-6
+    same-length
+    returns)

@@ -1,0 +1,3 @@
+mod Inputs
+mod Scripts
+pub mod Answers

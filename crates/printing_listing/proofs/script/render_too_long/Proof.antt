@@ -1,0 +1,76 @@
+-- `render_too_long` meets its contract. Assumes nothing.
+use borrow.Author.Needs.{needs}
+use Rattle.printing_listing.proofs.Scripts.{all-cleared}
+use Rattle.printing_listing.proofs.script.render_too_long.Statement.{statement}
+use Rattle.printing_listing.proofs.script.render_too_long.Tie as tie
+
+clear-numbers-requires : tie.Need-clear-numbers-requires
+clear-numbers-requires c κs = search needs
+
+clear-bytes-requires : tie.Need-clear-bytes-requires
+clear-bytes-requires c κs = search needs
+
+clear-numbers-requires-2 : tie.Need-clear-numbers-requires-2
+clear-numbers-requires-2 c κs = search needs
+
+clear-bytes-requires-2 : tie.Need-clear-bytes-requires-2
+clear-bytes-requires-2 c κs = search needs
+
+clear-numbers-requires-3 : tie.Need-clear-numbers-requires-3
+clear-numbers-requires-3 c κs = search needs
+
+render-listing-refused-requires : tie.Need-render-listing-refused-requires
+render-listing-refused-requires c κs = search needs
+
+same-length : tie.Need-same-length
+same-length c = c .before .before .before .before .before .before .before .before .before .before .before .before .before .before .before .before .before .before .before .before .before .nodes .given
+
+same-length-2 : tie.Need-same-length-2
+same-length-2 c = c .before .before .before .before .before .before .before .before .before .before .before .before .before .before .before .before .before .names .given
+
+same-length-3 : tie.Need-same-length-3
+same-length-3 c = c .before .before .before .before .before .before .before .before .before .before .before .before .before .lines .given
+
+same-length-4 : tie.Need-same-length-4
+same-length-4 c = c .before .before .before .before .before .before .before .before .before .pool .given
+
+same-length-5 : tie.Need-same-length-5
+same-length-5 c = c .before .before .before .before .before .journal .given
+
+same-length-6 : tie.Need-same-length-6
+same-length-6 c = c .before .out .given
+
+returns : tie.Need-returns
+returns c =
+    let at-refused = c .before .before in
+    let at-journal = at-refused .before .before .before .before in
+    let at-pool = at-journal .before .before .before .before in
+    let at-lines = at-pool .before .before .before .before in
+    let at-names = at-lines .before .before .before .before in
+    let at-nodes = at-names .before .before .before .before in
+    let at-args = at-nodes .before .before .before .before .before .before .before .before in
+    let a = at-args .args in
+    let p = at-refused .render-listing-refused in (
+      p .ensures .0,
+      p .ensures .1,
+      all-cleared (a .nodes .now) (a .names .now) (a .lines .now) (a .pool .now) (a .journal .now) _ _ _ _ _ (at-nodes .clear-numbers .ensures)
+          (at-names .clear-bytes .ensures) (at-lines .clear-numbers2 .ensures) (at-pool .clear-bytes2 .ensures) (at-journal .clear-numbers3 .ensures),
+    )
+
+pub render-too-long-spec : {M : Type 1} → statement M
+render-too-long-spec =
+    tie.close
+    (tie.spec
+    clear-numbers-requires
+    clear-bytes-requires
+    clear-numbers-requires-2
+    clear-bytes-requires-2
+    clear-numbers-requires-3
+    render-listing-refused-requires
+    same-length
+    same-length-2
+    same-length-3
+    same-length-4
+    same-length-5
+    same-length-6
+    returns)

@@ -1,0 +1,4 @@
+pub mod Pieces
+pub mod Rendered
+pub mod Fields
+pub mod Asked

@@ -1,0 +1,57 @@
+-- `put_symbol_line` meets its contract. Assumes nothing.
+use borrow.Author.Needs.{needs}
+use native.Mathlib.Omega.{arith}
+use Rattle.printing_symbols.proofs.Fields.{few-fields, symbol-line-put}
+use Rattle.printing_symbols.proofs.symbols.put_symbol_line.Statement.{statement}
+use Rattle.printing_symbols.proofs.symbols.put_symbol_line.Tie as tie
+
+put-text-requires : tie.Need-put-text-requires
+put-text-requires c κs = search needs
+
+slice-aggregate-put-text : tie.Need-slice-aggregate-put-text
+slice-aggregate-put-text c = search needs
+
+put-text-requires-2 : tie.Need-put-text-requires-2
+put-text-requires-2 c κs = search needs
+
+put-fields-requires : tie.Need-put-fields-requires
+put-fields-requires c κs = search needs
+
+slice-aggregate-put-text-2 : tie.Need-slice-aggregate-put-text-2
+slice-aggregate-put-text-2 c = search needs
+
+put-text-requires-3 : tie.Need-put-text-requires-3
+put-text-requires-3 c κs =
+    let at-args = c .before .before .before .before .before .before .before .before .before .before .before .before .before .before .before .before .before in
+    omega (arith, few-fields (at-args .args .v) (at-args .args .l))
+
+same-length : tie.Need-same-length
+same-length c = search needs
+
+returns : tie.Need-returns
+returns c =
+    let at-put-text3 = c .before .before in
+    let at-put-fields = at-put-text3 .before .before .before .before .before in
+    let at-put-text2 = at-put-fields .before .before .before .before in
+    let at-put-text = at-put-text2 .before .before .before .before .before in
+    let at-args = at-put-text .before .before .before .before in
+    let a = at-args .args in
+    let p = at-put-text .put-text in
+    let q = at-put-text2 .put-text2 in
+    let s = at-put-fields .put-fields in
+    let t = at-put-text3 .put-text3 in
+    symbol-line-put (a .out .now) (a .name .now) (a .v) (a .l) (p .last .0) (q .last .0) (s .last .0) (t .last .0) (p .result)
+    (q .result) (s .result) (t .result) (at-args .pre) (p .ensures) (q .ensures) (s .ensures) (t .ensures)
+
+pub put-symbol-line-spec : {M : Type 1} → statement M
+put-symbol-line-spec =
+    tie.close
+    (tie.spec
+    put-text-requires
+    slice-aggregate-put-text
+    put-text-requires-2
+    put-fields-requires
+    slice-aggregate-put-text-2
+    put-text-requires-3
+    same-length
+    returns)

@@ -1,0 +1,145 @@
+// The lines that verlist prints for symbols, each into a lent buffer. Definitions: specs/Lines.antt, from document 01, 'Known points' (the program
+// `verlist`).
+ghost use Prim.Native.Nat.{_+_, _≤_};
+ghost use mathlib.Core.List.{_++_};
+ghost use lib.ListN.{length};
+ghost use Rattle.book.specs.Layout.{five};
+ghost use Rattle.book.specs.View.{view};
+ghost use Rattle.lookups.specs.Lookups.{wanted-of};
+ghost use Rattle.printing.specs.Printing.{Begins, Puts, decimal};
+ghost use Rattle.printing_symbols.specs.Lines.{Rendered, asked-line, fields, symbol-answered, symbol-line, tail-room};
+use crate::TAIL_ROOM;
+use book::Counts;
+use input::splitting::find_at;
+use linker_script::Found;
+use lookups::answers::Locality;
+use lookups::answers::Version;
+use lookups::locality_lookup::locality;
+use lookups::version_lookup::version_for_symbol;
+use printing::put_number;
+use printing::put_refused_fields;
+use printing::put_text;
+
+// An index, and what stands behind it.
+fn put_index(out: &mut [u8], at: usize, index: u32, behind: &[u8]) -> usize
+    requires { ⌜ (at + 12 ≤ length (now out)) × (length (now behind) ≤ 2) ⌝ }
+    ensures { λ r. ⌜ Puts (now (out .entry)) at (decimal index ++ now (behind .entry)) (now (out .exit)) r ⌝ }
+{
+    let end = put_number(out, at, index);
+    put_text(out, end, behind)
+}
+
+// The two fields behind a name.
+fn put_fields(out: &mut [u8], at: usize, v: Version, l: Locality) -> usize
+    requires { ⌜ at + 14 ≤ length (now out) ⌝ }
+    ensures { λ r. ⌜ Puts (now (out .entry)) at (fields v l) (now (out .exit)) r ⌝ }
+{
+    match v {
+        Version::Refused(no) => put_refused_fields(out, at, no),
+        Version::Unversioned => match l {
+            Locality::Global => put_text(out, at, b"- G"),
+            Locality::Local => put_text(out, at, b"- L"),
+            Locality::Nothing => put_text(out, at, b"- -"),
+            Locality::Refused(no) => put_refused_fields(out, at, no),
+        },
+        Version::Index(i) => match l {
+            Locality::Global => put_index(out, at, i.0, b" G"),
+            Locality::Local => put_index(out, at, i.0, b" L"),
+            Locality::Nothing => put_index(out, at, i.0, b" -"),
+            Locality::Refused(no) => put_refused_fields(out, at, no),
+        },
+    }
+}
+
+// A symbol's line, with its name.
+pub fn put_symbol_line(out: &mut [u8], name: &[u8], v: Version, l: Locality) -> usize
+    requires { ⌜ length (now name) + tail-room ≤ length (now out) ⌝ }
+    ensures { λ r. ⌜ Begins (now (out .entry)) (symbol-line (now (name .entry)) v l) (now (out .exit)) r ⌝ }
+{
+    let a = put_text(out, 0, name);
+    let b = put_text(out, a, b" ");
+    let c = put_fields(out, b, v, l);
+    put_text(out, c, b"\n")
+}
+
+// A symbol that a book is asked for, with the version that is wanted, if one is.
+fn render_asked(
+    c: Counts,
+    nodes: &[u32],
+    names: &[u8],
+    lines: &[u32],
+    pool: &[u8],
+    journal: &[u32],
+    name: &[u8],
+    has_wanted: bool,
+    wanted: &[u8],
+    out: &mut [u8],
+) -> usize
+    requires { ⌜ length (now name) + tail-room ≤ length (now out) ⌝ }
+    ensures { λ r. ⌜ Begins (now (out .entry)) (asked-line (view c (five (now (nodes .entry)) (now (names .entry)) (now (lines .entry)) (now (pool .entry)) (now (journal .entry)))) (now (name .entry)) (wanted-of «has_wanted» (now (wanted .entry)))) (now (out .exit)) r ⌝ }
+{
+    let v = version_for_symbol(
+        c,
+        nodes,
+        names,
+        lines,
+        pool,
+        journal,
+        name,
+        name,
+        has_wanted,
+        wanted,
+    );
+    let l = locality(c, nodes, names, lines, pool, journal, name, name);
+    put_symbol_line(out, name, v, l)
+}
+
+// A symbol's line of the input, asked of a book. The room that is asked for goes by the whole line.
+pub fn render_symbol(
+    c: Counts,
+    nodes: &[u32],
+    names: &[u8],
+    lines: &[u32],
+    pool: &[u8],
+    journal: &[u32],
+    line: &[u8],
+    out: &mut [u8],
+) -> usize
+    ensures { λ r. ⌜ Rendered (length (now (line .entry))) (symbol-answered (view c (five (now (nodes .entry)) (now (names .entry)) (now (lines .entry)) (now (pool .entry)) (now (journal .entry)))) (now (line .entry))) (now (out .entry)) (now (out .exit)) r ⌝ }
+{
+    if out.len() < TAIL_ROOM {
+        return 0;
+    }
+    if out.len() - TAIL_ROOM < line.len() {
+        return 0;
+    }
+    match find_at(line) {
+        Found::Nowhere => render_asked(
+            c,
+            nodes,
+            names,
+            lines,
+            pool,
+            journal,
+            line,
+            false,
+            line,
+            out,
+        ),
+        Found::Here(p) => {
+            let from = p + 1;
+            render_asked(
+                c,
+                nodes,
+                names,
+                lines,
+                pool,
+                journal,
+                &line[..p],
+                true,
+                &line[from..],
+                out,
+            )
+        }
+    }
+}

@@ -1,0 +1,48 @@
+-- Where a reading stands, and what a step of it answers. Assumes nothing.
+use Prim.Native.Nat.{ℕ, _+_}
+use mathlib.Core.List.{List}
+use mathlib.Core.Bool.{cond}
+use lib.Dec.{eqb}
+use lib.ListN.{length, getD}
+use Rattle.numbers.specs.Marks.{general, global}
+use Rattle.numbers.specs.Refusals.{unreadable}
+use Rattle.linker_script.specs.declared.Skipped.{Skipped}
+use Rattle.linker_script.specs.declared.Skipped.the-variants.{At, Open}
+use Rattle.linker_script.specs.Finding.{last-close}
+use Rattle.linker_script.specs.Skip.{skip, skip-refusal}
+use Rattle.reading_cursors.specs.declared.Cursor.{Cursor}
+use Rattle.reading_cursors.specs.declared.Step.{Step}
+use Rattle.reading_cursors.specs.declared.Step.the-variants.{End, Refused}
+
+-- a reading starts at the text's first byte
+unfoldable pub start : ℕ → List ℕ → Cursor
+start place s = record { at = 0; place = place; section = global; language = general; last = last-close s }
+
+-- the cursor moved to another place of the text and of the reading
+abbrev pub moved : Cursor → ℕ → ℕ → Cursor
+moved c place p = record { at = p; place = place; section = c .section; language = c .language; last = c .last }
+
+-- with another section, or another language
+abbrev pub in-section : Cursor → ℕ → Cursor
+in-section c section = record { at = c .at; place = c .place; section = section; language = c .language; last = c .last }
+
+abbrev pub in-language : Cursor → ℕ → Cursor
+in-language c language = record { at = c .at; place = c .place; section = c .section; language = language; last = c .last }
+
+-- ---- how a step goes on. A refusal has the place at which the rule began that failed: of a token, a parent text, a comment or an `extern `, its first byte;
+-- else the byte where a name, `{`, `;` or the end was due
+-- behind a skip
+abbrev pub on-skip : Skipped → (ℕ → Step) → Step
+on-skip (At p) on = on p
+on-skip (Open p) on = Refused (skip-refusal (Open p)) p
+
+abbrev pub skipping : List ℕ → ℕ → (ℕ → Step) → Step
+skipping s p on = on-skip (skip s p) on
+
+-- behind a byte that must stand there
+abbrev pub expecting : ℕ → List ℕ → ℕ → (ℕ → Step) → Step
+expecting b s p on = cond (eqb (getD s p 0) b) (on (p + 1)) (Refused unreadable p)
+
+-- where the text must end
+abbrev pub ending : List ℕ → ℕ → Step
+ending s p = cond (eqb p (length s)) End (Refused unreadable p)

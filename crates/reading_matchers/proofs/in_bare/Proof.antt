@@ -1,0 +1,42 @@
+-- `in_bare` meets its contract. Assumes nothing.
+use borrow.Author.Needs.{needs}
+use Rattle.reading_matchers.specs.Matchers.{in-bare}
+use Rattle.reading_matchers.proofs.Exits.{inside-with}
+use Rattle.reading_matchers.proofs.Stepping.{steps}
+use Rattle.reading_matchers.proofs.in_bare.Statement.{statement}
+use Rattle.reading_matchers.proofs.in_bare.Tie as tie
+
+skip-comments-and-whitespace-requires : tie.Need-skip-comments-and-whitespace-requires
+skip-comments-and-whitespace-requires c κs = search needs
+
+enum-known-o : tie.Need-enum-known-o
+enum-known-o c = search needs
+
+enum-known-p : tie.Need-enum-known-p
+enum-known-p c = search needs
+
+bare-extern-end-requires : tie.Need-bare-extern-end-requires
+bare-extern-end-requires c κs = search needs
+
+extern-inside-requires : tie.Need-extern-inside-requires
+extern-inside-requires c κs = search needs
+
+returns : tie.Need-returns
+unfolding in-bare
+returns c = search steps
+
+returns-2 : tie.Need-returns-2
+unfolding in-bare
+returns-2 c = search (steps, inside-with)
+
+pub in-bare-spec : {M : Type 1} → statement M
+in-bare-spec =
+    tie.close
+    (tie.spec
+    skip-comments-and-whitespace-requires
+    enum-known-o
+    enum-known-p
+    bare-extern-end-requires
+    extern-inside-requires
+    returns
+    returns-2)

@@ -1,0 +1,95 @@
+-- Where a token of an extern block ends is what 01 says, though it is asked of the last `};` of the text and of the byte before the first `;`. Assumes
+-- nothing.
+use Prim.Native.Nat.{ℕ, _+_, _-_, _<_, _≤_}
+use mathlib.Core.Path.{_≡_, refl, sym, _∙_}
+use mathlib.Core.List.{List}
+use mathlib.Core.Bool.{Bool, true, false, _&&_, true≢false}
+use native.Mathlib.Decide.{decLt}
+use native.Mathlib.Omega.{arith}
+use borrow.Author.Tests.{eq-eqb, eqb-true, lt-ltb, le-ltb, ltb-true}
+use lib.Dec.{eqb, ltb}
+use lib.ListN.{getD}
+use Rattle.numbers.specs.Signs.{closing-brace, semicolon}
+use Rattle.linker_script.specs.declared.Found.{Found}
+use Rattle.linker_script.specs.declared.Found.the-variants.{Here, Nowhere}
+use Rattle.linker_script.specs.Finding.{closes, first-from, is, last-close}
+use Rattle.linker_script.proofs.Searches.{First, first-within, last-close-none, last-close-some}
+use Rattle.reading_tokens.specs.declared.TokenEnd.{TokenEnd}
+use Rattle.reading_tokens.specs.Tokens.{to-semicolon, to-either, brace-before, extern-end, bare-extern-end}
+
+pub and-both : (a b : Bool) → a && b ≡ true → (a ≡ true) × (b ≡ true)
+and-both true b h = (refl, h)
+and-both false b h = absurd (true≢false (sym h))
+
+-- a test that cannot hold
+fails : (t : Bool) → (t ≡ true → ⊥) → t ≡ false
+fails true n = absurd (n refl)
+fails false n = refl
+
+-- the first `};` from p on stands at c, and the first `;` at q: no `;` stands before the `};` exactly where q has a `}` before it
+module _ (s : List ℕ) (p c q : ℕ) (close : First closes s p c) (end : First (is semicolon) s p q) where
+  closing : (getD s c 0 ≡ closing-brace) × (getD s (c + 1) 0 ≡ semicolon)
+  closing =
+      let h = and-both (eqb (getD s c 0) closing-brace) (eqb (getD s (c + 1) 0) semicolon) (close .holds) in
+      (eqb-true (getD s c 0) closing-brace (h .0), eqb-true (getD s (c + 1) 0) semicolon (h .1))
+
+  -- the `;` of the `};` is none before q
+  not-past : c + 1 < q → ⊥
+  not-past h = true≢false (sym (eq-eqb (getD s (c + 1) 0) semicolon (closing .1)) ∙ end .before (c + 1) (omega (arith, close .onward)) h)
+
+  -- nor is a `}` before q that of a `};` before c
+  not-before : q ≤ c → brace-before s p (Here q) ≡ true → ⊥
+  not-before h b =
+      let a = and-both (ltb p q) (eqb (getD s (q - 1) 0) closing-brace) b in
+      let l = ltb-true p q (a .0) in
+      let z : q - 1 + 1 ≡ q = omega arith in
+      let n = close .before (q - 1) (omega arith) (omega arith) in
+      true≢false (sym (rw (z, a .1) (end .holds)) ∙ n)
+
+  same-end : brace-before s p (Here q) ≡ ltb c q
+  same-end = go (decLt c q)
+    where
+      go : Dec (c < q) → brace-before s p (Here q) ≡ ltb c q
+      go (yes h) =
+          let z : q - 1 ≡ c = omega (arith, not-past) in
+          let l : p < q = omega (arith, close .onward) in
+          rw (lt-ltb p q l, z, closing .0, lt-ltb c q h)
+      go (no h) = fails (brace-before s p (Here q)) (not-before (omega arith)) ∙ sym (le-ltb c q (omega arith))
+
+module _ (s : List ℕ) (p : ℕ) where
+  none-left : last-close s ≤ p → extern-end (last-close s) s p ≡ to-either s p
+  unfolding extern-end to-either
+  none-left h = rw (le-ltb p (last-close s) h, last-close-none s p h)
+
+  one-left : p < last-close s → (c : ℕ) → first-from closes s p ≡ Here c → (f : Found) → first-from (is semicolon) s p ≡ f
+      → extern-end (last-close s) s p ≡ to-either s p
+  unfolding extern-end to-either
+  one-left h c e (Here q) g =
+      rw (lt-ltb p (last-close s) h, e, g, same-end s p c q (first-within closes s p c e) (first-within (is semicolon) s p q g))
+  one-left h c e Nowhere g = rw (lt-ltb p (last-close s) h, e, g)
+
+  pub extern-end-01 : extern-end (last-close s) s p ≡ to-either s p
+  extern-end-01 = go (decLt p (last-close s))
+    where
+      go : Dec (p < last-close s) → extern-end (last-close s) s p ≡ to-either s p
+      go (yes h) =
+          let c = last-close-some s p h in
+          one-left h (c .0) (c .1) (first-from (is semicolon) s p) refl
+      go (no h) = none-left (omega arith)
+
+-- "An extern block there differs in one point: with no `};` left, tokens go to `;`": f is the first `};` from p on
+abbrev pub bare-either : List ℕ → ℕ → Found → TokenEnd
+bare-either s p (Here c) = to-either s p
+bare-either s p Nowhere = to-semicolon s p
+
+pub bare-extern-01 : (s : List ℕ) (p : ℕ) → bare-extern-end (last-close s) s p ≡ bare-either s p (first-from closes s p)
+unfolding bare-extern-end
+bare-extern-01 s p = go (decLt p (last-close s))
+  where
+    go : Dec (p < last-close s) → bare-extern-end (last-close s) s p ≡ bare-either s p (first-from closes s p)
+    go (yes h) =
+        let c = last-close-some s p h in
+        rw (lt-ltb p (last-close s) h, c .1) (extern-end-01 s p)
+    go (no h) =
+        let l : last-close s ≤ p = omega arith in
+        rw (le-ltb p (last-close s) l, last-close-none s p l)

@@ -1,0 +1,137 @@
+// Words, names and the ends of tokens: the leaves of the reader. Definitions: specs/Tokens.antt, from document 01, 'Reading'.
+ghost use mathlib.Core.Path.{_≡_};
+ghost use Prim.Native.Nat.{_+_, _<_};
+ghost use Rattle.reading_tokens.specs.Tokens.{stands-at, name-end, to-semicolon, to-brace, extern-end, bare-extern-end, bare-end, bare-skip};
+use crate::names::is_named;
+use linker_script::Found;
+use linker_script::byte_at;
+use linker_script::searching::find;
+use numbers::UNCLOSED;
+use numbers::UNREADABLE;
+
+pub mod names;
+
+// Where a token ends, or the number of its refusal.
+pub enum TokenEnd {
+    To(usize),
+    Refused(u32),
+}
+
+// Whether the word w stands at a place of s: what `try_take` asks before it takes.
+pub fn try_take(s: &[u8], w: &[u8], at: usize) -> bool
+    ensures { λ r. ⌜ r ≡ stands-at (now (w .entry)) (now (s .entry)) at ⌝ }
+{
+    let mut i = 0;
+    let mut j = at;
+    while i < w.len() {
+        if s.len() <= j {
+            return false;
+        }
+        if s[j] != w[i] {
+            return false;
+        }
+        i += 1;
+        j += 1;
+    }
+    true
+}
+
+// Where the name at a place ends: `parse_token`.
+pub fn parse_token(s: &[u8], at: usize) -> usize
+    ensures { λ r. ⌜ r ≡ name-end (now (s .entry)) at ⌝ }
+{
+    let mut i = at;
+    while i < s.len() {
+        if !is_named(s[i]) {
+            return i;
+        }
+        i += 1;
+    }
+    i
+}
+
+// Up to the first `;`.
+pub fn to_semicolon(s: &[u8], at: usize) -> TokenEnd
+    ensures { λ r. ⌜ r ≡ to-semicolon (now (s .entry)) at ⌝ }
+{
+    match find(s, b';', at) {
+        Found::Here(semicolon) => {
+            if at < semicolon {
+                return TokenEnd::To(semicolon);
+            }
+            TokenEnd::Refused(UNREADABLE)
+        }
+        Found::Nowhere => TokenEnd::Refused(UNREADABLE),
+    }
+}
+
+// Up to the first `}`.
+fn to_brace(s: &[u8], at: usize) -> TokenEnd
+    ensures { λ r. ⌜ r ≡ to-brace (now (s .entry)) at ⌝ }
+{
+    match find(s, b'}', at) {
+        Found::Here(q) => {
+            if at < q {
+                return TokenEnd::To(q);
+            }
+            TokenEnd::Refused(UNREADABLE)
+        }
+        Found::Nowhere => TokenEnd::Refused(UNCLOSED),
+    }
+}
+
+// In an extern block: up to `}` where no `};` is left, or none with a `;` before it. `last` is the place from which on the text has no `};`.
+pub fn extern_end(last: usize, s: &[u8], at: usize) -> TokenEnd
+    ensures { λ r. ⌜ r ≡ extern-end last (now (s .entry)) at ⌝ }
+{
+    if last <= at {
+        return to_brace(s, at);
+    }
+    match find(s, b';', at) {
+        Found::Nowhere => to_brace(s, at),
+        Found::Here(q) => {
+            if q <= at {
+                return to_semicolon(s, at);
+            }
+            if byte_at(s, q - 1) == b'}' {
+                return to_brace(s, at);
+            }
+            to_semicolon(s, at)
+        }
+    }
+}
+
+// In an extern block of an `add_symbol` text without semicolon.
+pub fn bare_extern_end(last: usize, s: &[u8], at: usize) -> TokenEnd
+    ensures { λ r. ⌜ r ≡ bare-extern-end last (now (s .entry)) at ⌝ }
+{
+    if last <= at {
+        return to_semicolon(s, at);
+    }
+    extern_end(last, s, at)
+}
+
+// A whole `add_symbol` text without semicolon, as a token.
+pub fn bare_end(s: &[u8]) -> TokenEnd
+    ensures { λ r. ⌜ r ≡ bare-end (now (s .entry)) ⌝ }
+{
+    match find(s, b'}', 0) {
+        Found::Here(q) => {
+            if 0 < q {
+                return TokenEnd::To(q);
+            }
+            TokenEnd::Refused(UNREADABLE)
+        }
+        Found::Nowhere => TokenEnd::To(s.len()),
+    }
+}
+
+// Where the skip behind that token starts.
+pub fn bare_skip(s: &[u8]) -> usize
+    ensures { λ r. ⌜ r ≡ bare-skip (now (s .entry)) ⌝ }
+{
+    match find(s, b'}', 0) {
+        Found::Here(q) => q,
+        Found::Nowhere => 0,
+    }
+}

@@ -1,3 +1,0 @@
-mod Unstruck
-mod Sifting
-mod Settles

@@ -1,0 +1,3 @@
+mod AskedAdd
+pub mod Laying
+pub mod Appending

@@ -1,0 +1,4 @@
+mod AskedSettle
+mod Unstruck
+mod Sifting
+mod Settles

@@ -1,0 +1,162 @@
+-- The lines that stand, packed in place, turn by turn: the first i are read, and those of them that stand are packed at the front. Assumes nothing.
+use Prim.Native.Nat.{ℕ, _+_, _-_, _*_, _≤_, _<_}
+use mathlib.Core.Path.{_≡_, ap, _∙_}
+use mathlib.Core.List.{List, [], _∷_, _++_}
+use native.Mathlib.Omega.{arith}
+use borrow.Author.Tests.{eq-eqb, ne-eqb}
+use lib.ListN.{length, take, drop, getD}
+use lib.Seq.{paste, take-all}
+use Rattle.packing.specs.Padding.{pad, zeros}
+use Rattle.packing.specs.Tables.{packed, rows, things}
+use Rattle.packing.proofs.TableLaws.{every-at}
+use Rattle.packing.proofs.Packings.{Packs}
+use Rattle.packing.proofs.Windows.{Midway, midway-start, midway-cell, midway-bytes, midway-within, midway-skip, midway-keep, midway-rows, midway-packed}
+use Rattle.book.specs.Books.{Line, no-line}
+use Rattle.book.specs.Edits.{line-at}
+use Rattle.book.specs.Layout.{code-of, line-form}
+use Rattle.book.specs.Sanity.{line-ok}
+use Rattle.book.proofs.Forms.{Ranged, line-laws, ranged}
+use Rattle.book.proofs.LineRows.{line-in-range, lines-packed}
+use Rattle.trial.specs.Trial.{standing}
+use Rattle.trial.proofs.Standing.{standing-kept, standing-struck}
+use Rattle.trial_settle.specs.Lines.{Packed, Settled}
+
+-- i lines are read, with `read` bytes; j of them stand, with `written` bytes
+pub record Sifting (n : ℕ) (l₀ p₀ l p : List ℕ) (i read j written : ℕ) : Type 0 where
+  pub asked : Packed n l₀ p₀
+  pub within : i ≤ n
+  pub fewer : j ≤ i
+  pub order : written ≤ read
+  pub upto : read ≤ asked .total
+  pub rowroom : 4 * n ≤ length l
+  pub byteroom : asked .total ≤ length p
+  pub midway : Midway line-form (things line-form n l₀ p₀) (standing (take i (things line-form n l₀ p₀))) l₀ p₀ l p i read j written
+
+module _ (n : ℕ) (l₀ p₀ : List ℕ) where
+  abbrev lines : List Line
+  lines = things line-form n l₀ p₀
+
+  packing : (a : Packed n l₀ p₀) → Packs line-form (line-ok (a .kind) (a .nodes)) n (a .total) l₀ p₀ lines
+  packing a = lines-packed (a .kind) (a .nodes) n (a .total) l₀ p₀ (a .lines)
+
+  sifting : (a : Packed n l₀ p₀) (l p : List ℕ) (i read j written : ℕ) → read ≤ a .total
+      → Midway line-form lines (standing (take i lines)) l₀ p₀ l p i read j written → Sifting n l₀ p₀ l p i read j written
+  unfolding line-form
+  sifting a l p i read j written h m =
+      let t = packing a in
+      record {
+        asked = a;
+        within = omega (arith, m .within, t .count);
+        fewer = m .fewer;
+        order = omega (arith, m .pooled .order, m .total);
+        upto = h;
+        rowroom = omega (arith, m .lined .long, t .rowroom);
+        byteroom = omega (arith, m .pooled .long, t .byteroom);
+        midway = m;
+      }
+
+  -- nothing is read at first
+  pub sift-starts : Packed n l₀ p₀ → Sifting n l₀ p₀ l₀ p₀ 0 0 0 0
+  unfolding standing
+  sift-starts a = sifting a l₀ p₀ 0 0 0 0 (omega arith) (midway-start line-form (line-laws (a .kind) (a .nodes)) n (a .total) l₀ p₀ lines (packing a))
+
+  module _ (l p : List ℕ) (i read j written : ℕ) (s : Sifting n l₀ p₀ l p i read j written) where
+    module _ (h : i < n) where
+      below : i < length lines
+      below = omega (arith, packing (s .asked) .count)
+
+      -- the numbers of row i are those of line i, and so are the bytes from `read` on
+      cell-now : (v : ℕ) → v < 4 → getD l (4 * i + v) 0 ≡ getD (line-form .row read (line-at lines i)) v 0
+      unfolding line-form
+      cell-now v g =
+          let a = s .asked in
+          midway-cell line-form (line-laws (a .kind) (a .nodes)) n (a .total) l₀ p₀ lines (packing a) _
+          l p i read j written (s .midway) no-line below v g
+
+      node-now : getD l (4 * i) 0 ≡ line-at lines i .node
+      unfolding line-form
+      node-now = let z : 4 * i + 0 ≡ 4 * i = omega arith in rw z at (cell-now 0 (omega arith))
+
+      code-now : getD l (4 * i + 1) 0 ≡ code-of (line-at lines i)
+      unfolding line-form
+      code-now = cell-now 1 (omega arith)
+
+      size-now : getD l (4 * i + 3) 0 ≡ length (line-at lines i .bytes)
+      unfolding line-form
+      size-now = cell-now 3 (omega arith)
+
+      bytes-now : take (length (line-at lines i .bytes)) (drop read p) ≡ line-at lines i .bytes
+      unfolding line-form
+      bytes-now =
+          let a = s .asked in
+          midway-bytes line-form (line-laws (a .kind) (a .nodes)) n (a .total) l₀ p₀ lines (packing a) _ l p i read j written (s .midway) no-line below
+
+      line-ranged : Ranged (s .asked .nodes) (line-at lines i)
+      line-ranged =
+          let a = s .asked in
+          ranged (a .nodes) (line-at lines i)
+          (line-in-range (a .kind) (a .nodes) (line-at lines i) (every-at (line-ok (a .kind) (a .nodes)) lines i no-line (packing a .all) below))
+
+      -- its bytes end within those of all
+      pub sift-fits : read + getD l (4 * i + 3) 0 ≤ s .asked .total
+      unfolding line-form
+      sift-fits =
+          let a = s .asked in
+          let w : read + length (line-at lines i .bytes) ≤ a .total
+          = midway-within line-form (line-laws (a .kind) (a .nodes)) n (a .total) l₀ p₀ lines (packing a) _
+          l p i read j written (s .midway) no-line below in
+          omega (arith, size-now)
+
+      -- a struck line is left out
+      pub sift-skips : 32 ≤ getD l (4 * i + 1) 0 → Sifting n l₀ p₀ l p (i + 1) (read + getD l (4 * i + 3) 0) j written
+      unfolding line-form
+      sift-skips g =
+          let a = s .asked in
+          let f : line-at lines i .struck ≡ 0 → ⊥ = λ z. omega (arith, code-now, line-ranged) in
+          let e : standing (take (i + 1) lines) ≡ standing (take i lines) = standing-struck lines i below (ne-eqb (line-at lines i .struck) 0 f) in
+          sifting a l p (i + 1) (read + getD l (4 * i + 3) 0) j written sift-fits
+          (rw (e, size-now)
+          (midway-skip line-form (line-laws (a .kind) (a .nodes)) n (a .total) l₀ p₀ lines (packing a) _ l p i read j written (s .midway) no-line below))
+
+      -- a line that stands is packed
+      pub sift-keeps : (l′ p′ : List ℕ) → getD l (4 * i + 1) 0 < 32
+          → l′ ≡ paste l (4 * j) (getD l (4 * i) 0 ∷ getD l (4 * i + 1) 0 ∷ written ∷ getD l (4 * i + 3) 0 ∷ []) 4
+          → p′ ≡ paste p written (take (getD l (4 * i + 3) 0) (drop read p)) (getD l (4 * i + 3) 0)
+          → Sifting n l₀ p₀ l′ p′ (i + 1) (read + getD l (4 * i + 3) 0) (j + 1) (written + getD l (4 * i + 3) 0)
+      unfolding line-form
+      sift-keeps l′ p′ g el ep =
+          let a = s .asked in
+          let x : Line = line-at lines i in
+          let z : line-at lines i .struck ≡ 0 = omega (arith, code-now) in
+          let e : standing (take (i + 1) lines) ≡ standing (take i lines) ++ line-at lines i ∷ []
+          = standing-kept lines i below (eq-eqb (line-at lines i .struck) 0 z) in
+          let el′ : l′ ≡ paste l (4 * j) (line-form .row written x) 4 = rw (← node-now, ← code-now, ← size-now) el in
+          let ep′ : p′ ≡ paste p written (x .bytes) (length (x .bytes))
+          = ep
+          ∙ ap (λ (k : ℕ). paste p written (take k (drop read p)) k) size-now
+          ∙ ap (λ (b : List ℕ). paste p written b (length (x .bytes))) bytes-now in
+          sifting a l′ p′ (i + 1) (read + getD l (4 * i + 3) 0) (j + 1) (written + getD l (4 * i + 3) 0) sift-fits
+          (rw (e, size-now)
+          (midway-keep line-form (line-laws (a .kind) (a .nodes)) n (a .total) l₀ p₀ lines (packing a) (standing (take i lines))
+          l p i read j written (s .midway) no-line below l′ p′ el′ ep′))
+
+    -- all are read: ys and zs are what the cleared parts hold
+    pub sift-ends : (ys zs : List ℕ) → n ≤ i
+        → ys ≡ zeros (length (take (4 * n - 4 * j) (drop (4 * j) l)))
+        → zs ≡ zeros (length (take (read - written) (drop written p)))
+        → Settled n l₀ p₀ (take (4 * j) l ++ (ys ++ drop (4 * n - 4 * j) (drop (4 * j) l)))
+        (take written p ++ (zs ++ drop (read - written) (drop written p)))
+        (record { lines = j; pool = written })
+    unfolding line-form
+    sift-ends ys zs h el ep =
+        let a = s .asked in
+        let e : i ≡ n = omega (arith, s .within) in
+        let t : take i lines ≡ lines = take-all i lines (omega (arith, packing a .count)) in
+        record {
+          lines = s .midway .count ∙ ap (λ (q : List Line). length (standing q)) t;
+          pool = s .midway .total ∙ ap (λ (q : List Line). length (packed line-form (standing q))) t;
+          lined = midway-rows line-form (line-laws (a .kind) (a .nodes)) n (a .total) l₀ p₀ lines (packing a) _ l p i read j written (s .midway) e ys el
+              ∙ ap (λ (q : List Line). pad (length l₀) (rows line-form 0 (standing q))) t;
+          pooled = midway-packed line-form (line-laws (a .kind) (a .nodes)) n (a .total) l₀ p₀ lines (packing a) _ l p i read j written (s .midway) e zs ep
+              ∙ ap (λ (q : List Line). pad (length p₀) (packed line-form (standing q))) t;
+        }

@@ -1,0 +1,215 @@
+-- The loop of `add_lines`: what is left to read decides, from event to event, and the end leaves the book laid out, or all is as it was. The premises are what
+-- the code learned. Assumes nothing.
+use Prim.Native.Nat.{ℕ, _+_, _-_, _*_, _≤_, _<_}
+use mathlib.Core.Path.{_≡_, refl, sym, ap, subst, _∙_}
+use mathlib.Core.List.{List}
+use mathlib.Core.Bool.{true, false, true≢false}
+use native.Mathlib.Omega.{arith}
+use borrow.Author.Tests.{ne-eqb}
+use lib.Dec.{eqb}
+use lib.ListN.{length}
+use lib.Seq.{paste}
+use Rattle.packing.specs.Padding.{zeros}
+use Rattle.reading_cursors.specs.declared.Cursor.{Cursor}
+use Rattle.reading_cursors.specs.declared.Event.{Event}
+use Rattle.reading_cursors.specs.declared.Step.{Step}
+use Rattle.reading_cursors.specs.declared.Step.the-variants.{Go, End, Refused}
+use Rattle.reading_cursors.specs.Moves.{start}
+use Rattle.reading.specs.Scripts.{next}
+use Rattle.reading.specs.Events.{on-step, reading, reading-from}
+use Rattle.reading.proofs.Onward.{Standing, next-onward, next-stands, reading-step, start-stands}
+use Rattle.reading.proofs.Parts.{Marked, next-parts, start-marked}
+use Rattle.book.specs.declared.Counts.{Counts}
+use Rattle.book.specs.Books.{Book, Node, export, rust}
+use Rattle.book.specs.Layout.{Buffers, counts-of, edit-width, five, laid-out, line-width}
+use Rattle.book.specs.View.{book-of, laid}
+use Rattle.book.proofs.Views.{Layout, Rooms, fits-layout, fits-same, laid-from, laid-out-rooms, laid-out-same, laid-packs, layout-fits}
+use Rattle.book_building.specs.Events.{Lies}
+use Rattle.book_opening.proofs.EachEvent.{parts-lie}
+use Rattle.trial.specs.declared.Edited.{Edited}
+use Rattle.trial.specs.declared.Edited.the-variants as answer
+use Rattle.trial.specs.Changes.{Answers, Change, after, edited, no, to}
+use Rattle.trial.specs.Symbols.{add-event, add-events, add-reading, on-change}
+use Rattle.trial.proofs.Answers.{layout-answers, refusal-answers}
+use Rattle.trial.proofs.Growth.{Grown, back-asks, event-grows, grown-none, taken-back}
+use Rattle.trial.proofs.SameRooms.{event-same}
+
+-- ---- a change that was made, by what was answered: d are its counts, and b′ the buffers behind it
+record Made (b b′ : Buffers) (d : Counts) (x : Change) : Type 0 where
+  book : Book
+  is : x ≡ to book
+  counts : d ≡ counts-of book
+  laid : b′ ≡ laid-out b book
+
+made : (b b′ : Buffers) (r : Edited) (d : Counts) → r ≡ answer.Done d → (x : Change) → Answers r b b′ x → Made b b′ d x
+unfolding edited after
+made b b′ r d z (to w) h = let e = h .0 in record { book = w; is = refl; counts = cc; laid = h .1 }
+made b b′ r d z (no n) h = let e = h .0 in absurd (true≢false (cc))
+
+-- and one that was refused
+refused : (b b′ : Buffers) (r : Edited) (n : ℕ) → r ≡ answer.Refused n → (x : Change) → Answers r b b′ x → (x ≡ no n) × (b′ ≡ b)
+unfolding edited after
+refused b b′ r n z (to w) h = let e = h .0 in absurd (true≢false (cc))
+refused b b′ r n z (no i) h = let e = h .0 in (cc, h .1)
+
+-- ---- the loop: n m l q j are the buffers at entry, with the counts c, and l′ q′ j′ as they are, with the counts k
+pub record Going (c : Counts) (place : ℕ) (s n m l q j l′ q′ j′ : List ℕ) (x : Cursor) (k : Counts) : Type 0 where
+  pub stands : Standing s x
+  pub marked : Marked x
+  pub book : Book
+  pub layout : Layout k (five n m l′ q′ j′) book
+  pub rooms : Rooms (five n m l′ q′ j′) (five n m l q j)
+  pub grown : Grown (book-of c (five n m l q j)) book
+  pub whole : add-reading (five n m l q j) s (book-of c (five n m l q j)) (reading place s) ≡ add-reading (five n m l q j) s book (reading-from s x)
+
+module _ (c : Counts) (place : ℕ) (s n m l q j : List ℕ) (pre : (laid c (five n m l q j) ≡ true) × (0 < c .nodes) × (c .kind ≡ export)) where
+  abbrev lent : Buffers
+  lent = five n m l q j
+
+  abbrev held : Book
+  held = book-of c (five n m l q j)
+
+  abbrev change : Change
+  change = add-reading (five n m l q j) s (book-of c (five n m l q j)) (reading place s)
+
+  layout-held : Layout c lent held
+  layout-held = laid-packs c lent (pre .0)
+
+  pub going-starts : (x : Cursor) → x ≡ start place s → Going c place s n m l q j l q j x c
+  unfolding reading
+  going-starts x z = record {
+    stands = rw z (start-stands place s);
+    marked = rw z (start-marked place s);
+    book = held;
+    layout = layout-held;
+    rooms = record { nodes = refl; names = refl; lines = refl; pool = refl; journal = refl };
+    grown = grown-none held;
+    whole = rw z;
+  }
+
+  module _ (l′ q′ j′ : List ℕ) (x : Cursor) (k : Counts) (i : Going c place s n m l q j l′ q′ j′ x k) (y : Step) (e : y ≡ next s x) where
+    abbrev lent-now : Buffers
+    lent-now = five n m l′ q′ j′
+
+    -- what is left, by the next step
+    left-to-read : (z : Step) → y ≡ z → change ≡ add-reading lent s (i .book) (on-step z (λ d. reading-from s d))
+    left-to-read z w = i .whole ∙ ap (add-reading lent s (i .book)) (reading-step s x (i .stands) ∙ rw (← e, w))
+
+    -- the text has ended
+    pub going-ends : y ≡ End → Answers (answer.Done k) lent lent-now change
+    unfolding add-reading add-events
+    going-ends z = layout-answers k lent lent-now (i .book) change (left-to-read End z) (i .layout) (i .rooms)
+
+    -- what `take_back` asks, and what it leaves
+    pub going-back : (c .lines ≤ k .lines) × (line-width * k .lines ≤ length l′) × (c .pool ≤ k .pool) × (k .pool ≤ length q′) × (c .edits ≤ k .edits)
+        × (edit-width * k .edits ≤ length j′)
+    going-back = back-asks c k n m l q j l′ q′ j′ held (i .book) layout-held (i .layout) (i .grown)
+
+    abbrev Back : List ℕ → List ℕ → List ℕ → Type 0
+    Back l″ q″ j″ =
+        (l″ ≡ paste l′ (line-width * c .lines) (zeros (line-width * k .lines - line-width * c .lines)) (line-width * k .lines - line-width * c .lines))
+        × (q″ ≡ paste q′ (c .pool) (zeros (k .pool - c .pool)) (k .pool - c .pool))
+        × (j″ ≡ paste j′ (edit-width * c .edits) (zeros (edit-width * k .edits - edit-width * c .edits)) (edit-width * k .edits - edit-width * c .edits))
+
+    back-same : (l″ q″ j″ : List ℕ) → Back l″ q″ j″ → five n m l″ q″ j″ ≡ lent
+    back-same l″ q″ j″ t = taken-back c k n m l q j l′ q′ j′ held (i .book) layout-held (i .layout) (i .grown) (i .rooms) l″ q″ j″ (t .0) (t .1) (t .2)
+
+    declines : (a : ℕ) (l″ q″ j″ : List ℕ) → change ≡ no a → Back l″ q″ j″ → Answers (answer.Refused a) lent (five n m l″ q″ j″) change
+    declines a l″ q″ j″ z t =
+        subst (λ (b : Buffers). Answers (answer.Refused a) lent b change) (sym (back-same l″ q″ j″ t)) (refusal-answers lent change a z)
+
+    -- the reading is refused
+    pub going-refused : (a p : ℕ) (l″ q″ j″ : List ℕ) → y ≡ Refused a p → Back l″ q″ j″ → Answers (answer.Refused a) lent (five n m l″ q″ j″) change
+    unfolding add-reading add-events
+    going-refused a p l″ q″ j″ z t = declines a l″ q″ j″ (left-to-read (Refused a p) z) t
+
+    module _ (v : Event) (d : Cursor) (z : y ≡ Go v d) where
+      pub event-lies : Lies s v
+      event-lies = parts-lie s v (next-parts s x (i .marked) v d (sym e ∙ z) .0)
+
+      pub going-onward : length s + 2 - d .at < length s + 2 - x .at
+      going-onward =
+          let o = next-onward s x d v (i .stands .fresh) (sym e ∙ z) in
+          omega (arith, o .onward, o .within)
+
+      -- what `add_event` asks
+      some-nodes : 0 < k .nodes
+      some-nodes =
+          let a = layout-held .nodes .count in
+          let b = i .layout .nodes .count in
+          omega (arith, pre .1, ap (λ (ns : List Node). length ns) (i .grown .nodes))
+
+      pub event-asks : (laid k lent-now ≡ true) × (0 < k .nodes) × Lies s v
+      event-asks = (laid-from k lent-now (i .book) (i .layout) .0, some-nodes, event-lies)
+
+      -- r is what it answers, and l₁ q₁ j₁ are the buffers behind it
+      module _ (r : Edited) (l₁ q₁ j₁ : List ℕ) (h : Answers r lent-now (five n m l₁ q₁ j₁) (add-event lent-now s (book-of k lent-now) v)) where
+        event-now : add-event lent-now s (book-of k lent-now) v ≡ add-event lent s (i .book) v
+        event-now =
+            ap (λ (w : Book). add-event lent-now s w v) (laid-from k lent-now (i .book) (i .layout) .1)
+            ∙ event-same lent-now lent (i .rooms) s (i .book) v
+
+        onward : (w : Change) → add-event lent s (i .book) v ≡ w
+            → change ≡ on-change w (λ u. add-events lent s u (reading-from s d .events) (reading-from s d .outcome))
+        unfolding add-reading add-events
+        onward w o =
+            left-to-read (Go v d) z
+            ∙ ap (λ (u : Change). on-change u (λ u. add-events lent s u (reading-from s d .events) (reading-from s d .outcome))) o
+
+        module _ (a : ℕ) (f : r ≡ answer.Refused a) where
+          says-no : (add-event lent-now s (book-of k lent-now) v ≡ no a) × (five n m l₁ q₁ j₁ ≡ lent-now)
+          says-no = refused lent-now (five n m l₁ q₁ j₁) r a f _ h
+
+          same-lines : l₁ ≡ l′
+          same-lines = ap (λ (b : Buffers). b .lines) (says-no .1)
+
+          same-pool : q₁ ≡ q′
+          same-pool = ap (λ (b : Buffers). b .pool) (says-no .1)
+
+          same-journal : j₁ ≡ j′
+          same-journal = ap (λ (b : Buffers). b .journal) (says-no .1)
+
+          pub event-back : (c .lines ≤ k .lines) × (line-width * k .lines ≤ length l₁) × (c .pool ≤ k .pool) × (k .pool ≤ length q₁)
+              × (c .edits ≤ k .edits) × (edit-width * k .edits ≤ length j₁)
+          event-back = rw (same-lines, same-pool, same-journal) going-back
+
+          -- what `take_back` leaves then
+          module _ (l″ q″ j″ : List ℕ)
+              (t : (l″
+              ≡ paste l₁ (line-width * c .lines) (zeros (line-width * k .lines - line-width * c .lines)) (line-width * k .lines - line-width * c .lines))
+              × (q″ ≡ paste q₁ (c .pool) (zeros (k .pool - c .pool)) (k .pool - c .pool))
+              × (j″
+              ≡ paste j₁ (edit-width * c .edits) (zeros (edit-width * k .edits - edit-width * c .edits)) (edit-width * k .edits - edit-width * c .edits))) where
+            back-now : Back l″ q″ j″
+            back-now = rw (same-lines, same-pool, same-journal) at t
+
+            pub same-lengths : (length l″ ≡ length l) × (length q″ ≡ length q) × (length j″ ≡ length j)
+            same-lengths =
+                let w = back-same l″ q″ j″ back-now in
+                (ap (λ (b : Buffers). length (b .lines)) w, ap (λ (b : Buffers). length (b .pool)) w, ap (λ (b : Buffers). length (b .journal)) w)
+
+            pub going-no : Answers (answer.Refused a) lent (five n m l″ q″ j″) change
+            going-no = declines a l″ q″ j″ (onward (no a) (sym event-now ∙ says-no .0)) back-now
+
+        -- it is added
+        pub going-on : (u : Counts) → r ≡ answer.Done u → Going c place s n m l q j l₁ q₁ j₁ d u
+        unfolding add-reading
+        going-on u f =
+            let w = made lent-now (five n m l₁ q₁ j₁) r u f _ h in
+            let b = w .book in
+            let t : add-event lent s (i .book) v ≡ to b = sym event-now ∙ w .is in
+            let kind : eqb (held .kind) rust ≡ false = ne-eqb (held .kind) rust (λ o. omega (arith, pre .2, layout-held .kind, o)) in
+            let some-held : 0 < length (held .nodes) = omega (arith, pre .1, layout-held .nodes .count) in
+            let fits = fits-same lent-now lent (i .book) (i .rooms) (layout-fits k lent-now (i .book) (i .layout)) in
+            let g = event-grows lent held kind some-held s (i .book) (record { grown = i .grown; fits = fits }) v event-lies b t in
+            let o : five n m l₁ q₁ j₁ ≡ laid-out lent b = w .laid ∙ laid-out-same lent-now lent b (i .rooms) in
+            record {
+              stands = next-stands s x d v (i .stands) (sym e ∙ z);
+              marked = next-parts s x (i .marked) v d (sym e ∙ z) .1;
+              book = b;
+              layout = subst (λ (y : Counts). Layout y (five n m l₁ q₁ j₁) b) (sym (w .counts))
+                  (subst (λ (y : Buffers). Layout (counts-of b) y b) (sym o) (fits-layout lent b (g .fits)));
+              rooms = subst (λ (y : Buffers). Rooms y lent) (sym o) (laid-out-rooms lent b (g .fits));
+              grown = g .grown;
+              whole = onward (to b) t;
+            }

@@ -1,0 +1,3 @@
+mod AskedSymbol
+mod AddedEvents
+mod AddedTexts

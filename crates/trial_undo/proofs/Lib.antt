@@ -1,0 +1,2 @@
+mod TakenBack
+mod Backs

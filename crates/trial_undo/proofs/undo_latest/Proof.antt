@@ -1,0 +1,73 @@
+-- `undo_latest` meets its contract, by the laws of TakenBack. Assumes nothing.
+use borrow.Author.Needs.{needs}
+use Rattle.trial_undo.proofs.TakenBack.{undo-able, undo-done, undo-no-book, undo-nothing}
+use Rattle.trial_undo.proofs.undo_latest.Statement.{statement}
+use Rattle.trial_undo.proofs.undo_latest.Tie as tie
+
+is-book-requires : tie.Need-is-book-requires
+is-book-requires c κs = search needs
+
+same-length : tie.Need-same-length
+same-length c = search needs
+
+same-length-2 : tie.Need-same-length-2
+same-length-2 c = search needs
+
+same-length-3 : tie.Need-same-length-3
+same-length-3 c = search needs
+
+returns : tie.Need-returns
+returns c = undo-no-book _ _ _ _ _ _ _ (c .before .is-book .ensures) (c .if1 .taken)
+
+same-length-4 : tie.Need-same-length-4
+same-length-4 c = search needs
+
+same-length-5 : tie.Need-same-length-5
+same-length-5 c = search needs
+
+same-length-6 : tie.Need-same-length-6
+same-length-6 c = search needs
+
+returns-2 : tie.Need-returns-2
+returns-2 c =
+    let d = c .before .before in
+    undo-nothing _ _ _ _ _ _ _ (d .before .is-book .ensures) (d .if1 .left) (c .if2 .taken)
+
+take-back-latest-requires : tie.Need-take-back-latest-requires
+take-back-latest-requires c κs =
+    let d = c .before .before .before in
+    undo-able _ _ _ _ _ _ _ (d .before .before .before .is-book .ensures) (d .before .before .if1 .left) (d .if2 .left)
+
+same-length-7 : tie.Need-same-length-7
+same-length-7 c = search needs
+
+same-length-8 : tie.Need-same-length-8
+same-length-8 c = search needs
+
+same-length-9 : tie.Need-same-length-9
+same-length-9 c = search needs
+
+returns-3 : tie.Need-returns-3
+returns-3 c =
+    let t = c .before .before .before .before .before .before in
+    let d = t .before .before .before .before in
+    undo-done _ _ _ _ _ _ _ (d .before .before .before .is-book .ensures) (d .before .before .if1 .left) (d .if2 .left) _ _ _ _ (t .take-back-latest .ensures)
+
+pub undo-latest-spec : {M : Type 1} → statement M
+undo-latest-spec =
+    tie.close
+    (tie.spec
+    is-book-requires
+    same-length
+    same-length-2
+    same-length-3
+    returns
+    same-length-4
+    same-length-5
+    same-length-6
+    returns-2
+    take-back-latest-requires
+    same-length-7
+    same-length-8
+    same-length-9
+    returns-3)
