@@ -3,10 +3,12 @@ use Prim.Native.Nat.{ℕ, _+_, _-_, _*_, _/_, _%_, _≤_, _<_}
 use mathlib.Core.Path.{_≡_, sym, ap, ap₂, _∙_}
 use mathlib.Core.List.{List, [], _∷_}
 use mathlib.Core.Bool.{true}
+use native.Mathlib.Numerals.{add-one, add-two, add-three}
 use native.Mathlib.Omega.{arith}
 use lib.Dec.{leb, ltb}
 use borrow.Author.Tests.{leb-true}
-use lib.ListN.{length, drop, getD, take}
+use lib.ListN.{length, drop, getD, set, take}
+use lib.Seq.{paste, sets-eq}
 use Rattle.numbers.specs.Limits.{token-limit}
 use Rattle.lists.proofs.Tests.{both}
 use Rattle.lists.specs.Each.{every}
@@ -14,7 +16,7 @@ use Rattle.packing.specs.Tables.{packed, packs, things}
 use Rattle.packing.proofs.TableLaws.{every-at}
 use Rattle.packing.proofs.Packings.{Packs, packs-is, row-cell, bytes-at, bytes-room}
 use Rattle.book.specs.Books.{Line, no-line}
-use Rattle.book.specs.Layout.{line-form, code-of, line-of}
+use Rattle.book.specs.Layout.{code-of, line-form, line-of, row-of-line}
 use Rattle.book.specs.Sanity.{in-range, line-ok}
 use Rattle.book.proofs.Forms.{Ranged, ranged, line-laws}
 
@@ -116,3 +118,8 @@ module _ (kind nodes n : ℕ) (l m : List ℕ) (i at : ℕ) (r : Row kind nodes 
   -- the line is that of the row's numbers, with these bytes
   pub row-line : getD (things line-form n l m) i no-line ≡ line-of (getD l at 0) (getD l (at + 1) 0) (getD (things line-form n l m) i no-line .bytes)
   row-line = line-is nodes _ row-ranged ∙ ap₂ (λ (u v : ℕ). line-of u v (getD (things line-form n l m) i no-line .bytes)) (sym (r .node)) (sym (r .code))
+
+-- ---- a row put store by store
+pub row-stored : (l : List ℕ) (at node code start size : ℕ) → at + 4 ≤ length l
+    → set (set (set (set l at node) (at + 1) code) (at + 2) start) (at + 3) size ≡ paste l at (row-of-line node code start size) 4
+row-stored l at node code start size h = rw (add-one, add-two, add-three) (sets-eq (row-of-line node code start size) l at h)

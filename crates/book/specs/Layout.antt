@@ -1,8 +1,8 @@
 -- How a book stands in lent buffers, as 01 has it under 'The book'. Assumes nothing.
 use Prim.Native.Nat.{ℕ, _+_, _*_, _/_, _%_}
 use mathlib.Core.List.{List, [], _∷_}
-use mathlib.Core.Bool.{true}
-use lib.Dec.{eqb}
+use mathlib.Core.Bool.{Bool, true}
+use lib.Dec.{eqb, leb}
 use lib.ListN.{length, getD}
 use Rattle.packing.specs.Padding.{pad}
 use Rattle.packing.specs.Tables.{Form, rows, packed}
@@ -30,24 +30,45 @@ line-width = 4
 abbrev pub struck-mark : ℕ
 struck-mark = 32
 
+-- "class x 4 + section x 2 + language"
+abbrev pub standing-code : ℕ → ℕ → ℕ → ℕ
+standing-code class section language = class * 4 + section * 2 + language
+
 abbrev pub code-of : Line → ℕ
-code-of x = x .class * 4 + x .section * 2 + x .language + x .struck * struck-mark
+code-of x = standing-code (x .class) (x .section) (x .language) + x .struck * struck-mark
+
+-- a code taken apart
+abbrev pub class-in : ℕ → ℕ
+class-in code = code % struck-mark / 4
+
+abbrev pub section-in : ℕ → ℕ
+section-in code = code % 4 / 2
+
+abbrev pub language-in : ℕ → ℕ
+language-in code = code % 2
+
+abbrev pub has-mark : ℕ → Bool
+has-mark code = leb struck-mark code
 
 -- the line with that code
 abbrev pub line-of : ℕ → ℕ → List ℕ → Line
 line-of node code bs = record {
   node = node;
-  class = code % struck-mark / 4;
-  section = code % 4 / 2;
-  language = code % 2;
+  class = class-in code;
+  section = section-in code;
+  language = language-in code;
   struck = code / struck-mark;
   bytes = bs;
 }
 
+-- a line's row
+abbrev pub row-of-line : ℕ → ℕ → ℕ → ℕ → List ℕ
+row-of-line node code start size = node ∷ code ∷ start ∷ size ∷ []
+
 unfoldable pub line-form : Form Line
 line-form = record {
   width = line-width;
-  row = λ (o : ℕ) (x : Line). x .node ∷ code-of x ∷ o ∷ length (x .bytes) ∷ [];
+  row = λ (o : ℕ) (x : Line). row-of-line (x .node) (code-of x) o (length (x .bytes));
   bytes = λ (x : Line). x .bytes;
   starts = λ (o : ℕ) (l : List ℕ). eqb (getD l 2 0) o;
   size = λ (l : List ℕ). getD l 3 0;
@@ -100,3 +121,11 @@ counts-of w = record {
   pool = length (packed line-form (w .lines));
   edits = length (w .edits);
 }
+
+-- the counts of no book: "A refused opening returns zero counts"
+abbrev pub no-counts : Counts
+no-counts = record { kind = 0; nodes = 0; names = 0; lines = 0; pool = 0; edits = 0 }
+
+-- the counts of the same nodes, with other lines and edits
+abbrev pub counts-with : Counts → ℕ → ℕ → ℕ → Counts
+counts-with c lines pool edits = record { kind = c .kind; nodes = c .nodes; names = c .names; lines = lines; pool = pool; edits = edits }

@@ -1,4 +1,4 @@
-// The numbers of document 01, each under one name: limits and refusals. The same names stand in specs/, and each promise that uses one of these
+// The numbers of document 01, each under one name: limits, refusals, classes, sections and languages. The same names stand in specs/, and each promise that uses one of these
 // constants cites its name there, so the two are shown equal wherever they are used.
 
 // "Limits, last accepted".
@@ -48,6 +48,26 @@ pub const NOTHING_TO_UNDO: u32 = 12;
 pub const WRONG_KIND: u32 = 13;
 
 pub const NO_BOOK: u32 = 14;
+
+// "Classes: 0 Exact, 1 Escaped, 2 NonStar, 3 Star, 4 All".
+pub const EXACT_CLASS: u32 = 0;
+
+pub const ESCAPED_CLASS: u32 = 1;
+
+pub const NONSTAR_CLASS: u32 = 2;
+
+pub const STAR_CLASS: u32 = 3;
+
+pub const ALL_CLASS: u32 = 4;
+
+// "Section 1 is local, language 1 C++."
+pub const GLOBAL: u32 = 0;
+
+pub const LOCAL: u32 = 1;
+
+pub const GENERAL: u32 = 0;
+
+pub const CXX: u32 = 1;
 
 // How texts and patterns are read. There is one way today, reld's; document 02 (request 06) brings a second. The definitions that promises cite of a pattern's
 // spelling take the edition already, and so do the functions.
