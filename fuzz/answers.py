@@ -323,10 +323,10 @@ def trial_desk(run, printed, errors):
 
 
 # ---- the programs that replay: how much of the file they read, and what a case begins with
-ROOMS = {'glob_replay': 262144, 'reading_replay': 262144, 'lookup_replay': 262144, 'verlist_replay': 65536}
-SIGNS = {'glob_replay': b'CUSM', 'reading_replay': b'R', 'lookup_replay': b'SVWLC'}
+ROOMS = {'replay_glob': 262144, 'replay_reading': 262144, 'replay_lookups': 262144, 'replay_verlist': 65536}
+SIGNS = {'replay_glob': b'CUSM', 'replay_reading': b'R', 'replay_lookups': b'SVWLC'}
 
-# the longest input or output of a case of verlist_replay, how many times it repeats a text at most, and how much of an output it shows
+# the longest input or output of a case of replay_verlist, how many times it repeats a text at most, and how much of an output it shows
 EXPANDED = 66000
 MOST_TIMES = 100000
 SHOWN = 400
@@ -335,11 +335,11 @@ SHOWN = 400
 def cases_of(program, data):
     """The cases of a file: the number of each one's line, and the lines that its answer depends on."""
     lines = lines_of(data[:ROOMS[program]])
-    if program == 'verlist_replay':
+    if program == 'replay_verlist':
         return [(k, case) for k, case in enumerate(zip(lines, [*lines[1:], b'']), 1) if case[0].startswith(b'<')]
     cases, text = [], b''
     for k, line in enumerate(lines, 1):
-        if program == 'lookup_replay' and (k == 1 or line.startswith(b'S')):
+        if program == 'replay_lookups' and (k == 1 or line.startswith(b'S')):
             text = line
         cases.append((k, (text, line)))
     return cases
@@ -347,7 +347,7 @@ def cases_of(program, data):
 
 def is_case(program, case):
     """Whether a line has the sign of a case; one that has none is never the same."""
-    if program == 'verlist_replay':
+    if program == 'replay_verlist':
         return case[1].startswith(b'>')
     return case[1][:1] != b'' and case[1][:1] in SIGNS[program]
 
@@ -365,7 +365,7 @@ def hex_value(digit):
 
 
 def expanded(line):
-    """What a line of verlist_replay's file says behind its sign and a blank. The head of its main.rt has the signs."""
+    """What a line of replay_verlist's file says behind its sign and a blank. The head of its main.rt has the signs."""
     text, start, times, at = bytearray(), 0, 1, 2
     while at < len(line):
         sign = line[at:at + 2]
@@ -390,7 +390,7 @@ def expanded(line):
 
 
 def skip_shown(printed, given):
-    """Goes past the front of verlist's output for an input, which verlist_replay shows. Of an input that verlist would not read to its end it shows nothing."""
+    """Goes past the front of verlist's output for an input, which replay_verlist shows. Of an input that verlist would not read to its end it shows nothing."""
     end = printed.at + SHOWN
     if len(given) > LIMIT + 1 or printed.maybe(b'refused [2-8]' if len(given) <= LIMIT else b'refused 1'):
         return
@@ -411,7 +411,7 @@ def replay(program, run, real, printed, errors):
             different += 1
             if case in real:
                 raise Fault(f'line {k} is different, and stands in data/cases.txt')
-            if program == 'verlist_replay' and is_case(program, case):
+            if program == 'replay_verlist' and is_case(program, case):
                 skip_shown(printed, expanded(case[0]))
         elif not is_case(program, case):
             raise Fault(f'line {k} is no case, and not named as different')
