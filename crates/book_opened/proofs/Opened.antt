@@ -27,6 +27,7 @@ use Rattle.book.specs.Sanity.{kind-allows, kind-good, sane}
 use Rattle.book.specs.View.{Fits}
 use Rattle.book.proofs.Views.{view-of-layout}
 use Rattle.book_building.specs.Building.{Building, Taken, on, no, take-event}
+use Rattle.book_opening.specs.declared.How.{How}
 use Rattle.book_opening.specs.Opening.{Opening, opens, declined, build, build-reading, finished, kind-of, nothing-yet, on-taken, opening, rust-style}
 use Rattle.book_opened.specs.Opened.{Opened-holds, opens-at}
 use Rattle.book_opened.proofs.KindLines.{kind-fits, kind-sane, regular-allows}
@@ -108,31 +109,33 @@ module _ (place : ℕ) (b : Buffers) (s : List ℕ) (w : Book) where
       go (Refused a p) k f more = absurd (true≢false (cc))
 
 -- ---- the whole
-viewable : (place : ℕ) (b : Buffers) (s : List ℕ) (w : Book) → place < at-symbol → block-place place ≡ false → opening place b s ≡ opens w → Viewable b w
+viewable : (how : How) (b : Buffers) (s : List ℕ) (w : Book) → how .place < at-symbol → block-place (how .place) ≡ false → opening how b s ≡ opens w
+    → Viewable b w
 unfolding opening reading reading-from
-viewable place b s w h k e = go (ltb script-limit (length s)) (leb node-width (length (b .nodes))) refl e
+viewable how b s w h k e = go (ltb script-limit (length s)) (leb node-width (length (b .nodes))) refl e
   where
     go : (x y : Bool) → leb node-width (length (b .nodes)) ≡ y
-        → cond x (declined too-long 0) (cond y (build-reading place b s nothing-yet (reading place s)) (declined no-room 0)) ≡ opens w
+        → cond x (declined too-long 0) (cond y (build-reading (how .place) b s nothing-yet (reading (how .place) s)) (declined no-room 0)) ≡ opens w
         → Viewable b w
     go true y z f = absurd (true≢false (cc))
     go false false z f = absurd (true≢false (cc))
     go false true z f =
-        along place b s w (length s + 2 - start place s .at) (start place s) nothing-yet (sound-start b s place (leb-true _ _ z) h k) f
+        let p = how .place in
+        along p b s w (length s + 2 - start p s .at) (start p s) nothing-yet (sound-start b s p (leb-true _ _ z) h k) f
 
-starts-free : (place : ℕ) → opens-at place ≡ true → (place < at-symbol) × (block-place place ≡ false)
-starts-free place e = go (eqb place at-script) refl e
+starts-free : (how : How) → opens-at how ≡ true → (how .place < at-symbol) × (block-place (how .place) ≡ false)
+starts-free how e = go (how .place) (eqb (how .place) at-script) refl e
   where
-    go : (v : Bool) → eqb place at-script ≡ v → (v || eqb place at-list) ≡ true → (place < at-symbol) × (block-place place ≡ false)
-    go true z f = let q : place ≡ at-script = eqb-true place at-script z in (omega arith, rw q)
-    go false z f = let q : place ≡ at-list = eqb-true place at-list f in (omega arith, rw q)
+    go : (place : ℕ) (v : Bool) → eqb place at-script ≡ v → (v || eqb place at-list) ≡ true → (place < at-symbol) × (block-place place ≡ false)
+    go place true z f = let q : place ≡ at-script = eqb-true place at-script z in (omega arith, rw q)
+    go place false z f = let q : place ≡ at-list = eqb-true place at-list f in (omega arith, rw q)
 
-pub opened-viewable : (place : ℕ) (b : Buffers) (s : List ℕ) (w : Book) → opens-at place ≡ true → opening place b s ≡ opens w → Viewable b w
-opened-viewable place b s w h e =
-    let f = starts-free place h in
-    viewable place b s w (f .0) (f .1) e
+pub opened-viewable : (how : How) (b : Buffers) (s : List ℕ) (w : Book) → opens-at how ≡ true → opening how b s ≡ opens w → Viewable b w
+opened-viewable how b s w h e =
+    let f = starts-free how h in
+    viewable how b s w (f .0) (f .1) e
 
 pub opened-holds : Opened-holds
-opened-holds place b s w h e =
-    let v = opened-viewable place b s w h e in
+opened-holds how b s w h e =
+    let v = opened-viewable how b s w h e in
     view-of-layout b w (v .fits) (v .sane)

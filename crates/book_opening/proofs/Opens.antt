@@ -29,6 +29,7 @@ use Rattle.book.specs.Layout.{Buffers, counts-of, edit-form, five, laid-out, no
 use Rattle.book.proofs.Views.{laid-out-same}
 use Rattle.book_opening.specs.declared.Built.{Built}
 use Rattle.book_opening.specs.declared.Built.the-variants.{Done, Refused}
+use Rattle.book_opening.specs.declared.How.{How}
 use Rattle.book_opening.specs.declared.Opened.{Opened}
 use Rattle.book_building.specs.declared.Progress.{Progress}
 use Rattle.book_building.specs.declared.Taking.{Taking}
@@ -142,27 +143,27 @@ module _ (place : ℕ) (s n m l q : List ℕ) where
           }
 
 -- ---- the exits of `fill`: n m l q are the buffers at entry
-module _ (place : ℕ) (s n m l q : List ℕ) where
+module _ (how : How) (s n m l q : List ℕ) where
   -- a refusal before the first event: r is what `refused` answers
   module _ (r : Opened) (a : Clear n) (b : Clear m) (c : Clear l) (d : Clear q) where
-    unread : (k p : ℕ) → opening place (five n m l q []) s ≡ declined k p → r ≡ told (declined k p)
-        → Filled (opening place (five n m l q []) s) r (five n m l q []) (five n m l q [])
+    unread : (k p : ℕ) → opening how (five n m l q []) s ≡ declined k p → r ≡ told (declined k p)
+        → Filled (opening how (five n m l q []) s) r (five n m l q []) (five n m l q [])
     unfolding left cleared
     unread k p z x = (rw z x, rw z (λ i. record { nodes = a i; names = b i; lines = c i; pool = d i; journal = [] }))
 
-    pub fill-long : script-limit < length s → r ≡ told (declined too-long 0) → Filled (opening place (five n m l q []) s) r (five n m l q []) (five n m l q [])
+    pub fill-long : script-limit < length s → r ≡ told (declined too-long 0) → Filled (opening how (five n m l q []) s) r (five n m l q []) (five n m l q [])
     unfolding opening
     fill-long h x = unread too-long 0 (rw (lt-ltb script-limit (length s) h)) x
 
     pub fill-roomless : length s ≤ script-limit → length n < node-width → r ≡ told (declined no-room 0)
-        → Filled (opening place (five n m l q []) s) r (five n m l q []) (five n m l q [])
+        → Filled (opening how (five n m l q []) s) r (five n m l q []) (five n m l q [])
     unfolding opening
     fill-roomless h k x = unread no-room 0 (rw (le-ltb script-limit (length s) h, lt-leb node-width (length n) k)) x
 
   -- row 0 has room
   pub filled-on : (r : Opened) (b′ : Buffers) → length s ≤ script-limit → node-width ≤ length n
-      → Filled (build-reading place (five n m l q []) s nothing-yet (reading place s)) r (five n m l q []) b′
-      → Filled (opening place (five n m l q []) s) r (five n m l q []) b′
+      → Filled (build-reading (how .place) (five n m l q []) s nothing-yet (reading (how .place) s)) r (five n m l q []) b′
+      → Filled (opening how (five n m l q []) s) r (five n m l q []) b′
   unfolding opening
   filled-on r b′ h k t = rw (le-ltb script-limit (length s) h, le-leb node-width (length n) k) t
 
@@ -207,11 +208,11 @@ clear-now n m l q n₀ m₀ l₀ q₀ c = (
   c .pool ∙ ap zeros (sym (long q₀ q (c .pool))),
 )
 
-module _ (place : ℕ) (n m l q j s n₀ m₀ l₀ q₀ j₀ : List ℕ) (c : Cleared n m l q n₀ m₀ l₀ q₀) (d : j₀ ≡ zeros (length j)) (r : Opened) where
+module _ (how : How) (n m l q j s n₀ m₀ l₀ q₀ j₀ : List ℕ) (c : Cleared n m l q n₀ m₀ l₀ q₀) (d : j₀ ≡ zeros (length j)) (r : Opened) where
   abbrev Opens : List ℕ → List ℕ → List ℕ → List ℕ → Type 0
   Opens n′ m′ l′ q′ =
-      (r ≡ told (opening place (five n m l q j) s))
-      × (five n′ m′ l′ q′ j₀ ≡ left (five n m l q j) (opening place (five n m l q j) s))
+      (r ≡ told (opening how (five n m l q j) s))
+      × (five n′ m′ l′ q′ j₀ ≡ left (five n m l q j) (opening how (five n m l q j) s))
 
   module _ (n₁ m₁ l₁ q₁ : List ℕ) where
     -- the layout in the cleared buffers is that in the lent ones, and a book that is opened has no edits
@@ -234,7 +235,7 @@ module _ (place : ℕ) (n m l q j s n₀ m₀ l₀ q₀ j₀ : List ℕ) (c : Cl
     )
 
     -- what `fill` leaves
-    pub open-filled : Filled (opening place (five n₀ m₀ l₀ q₀ []) s) r (five n₀ m₀ l₀ q₀ []) (five n₁ m₁ l₁ q₁ []) → Opens n₁ m₁ l₁ q₁
+    pub open-filled : Filled (opening how (five n₀ m₀ l₀ q₀ []) s) r (five n₀ m₀ l₀ q₀ []) (five n₁ m₁ l₁ q₁ []) → Opens n₁ m₁ l₁ q₁
     open-filled t =
         let a : Alike (five n m l q j) (five n₀ m₀ l₀ q₀ []) = record {
           nodes = sym (long n₀ n (c .nodes));
@@ -242,4 +243,4 @@ module _ (place : ℕ) (n m l q j s n₀ m₀ l₀ q₀ j₀ : List ℕ) (c : Cl
           lines = sym (long l₀ l (c .lines));
           pool = sym (long q₀ q (c .pool));
         } in
-        rw (opening-alike (five n m l q j) (five n₀ m₀ l₀ q₀ []) a place s) (filled-again (opening place (five n₀ m₀ l₀ q₀ []) s) t)
+        rw (opening-alike (five n m l q j) (five n₀ m₀ l₀ q₀ []) a how s) (filled-again (opening how (five n₀ m₀ l₀ q₀ []) s) t)

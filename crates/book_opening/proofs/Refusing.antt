@@ -27,6 +27,7 @@ use Rattle.book.specs.Books.{edition-of, first-named, regular}
 use Rattle.book.specs.Layout.{Buffers, node-width}
 use Rattle.book_rooms.specs.Rooms.{line-room, node-room}
 use Rattle.book_building.specs.Building.{Building, Taken, no, on, take-event, take-kept, take-node, take-parent}
+use Rattle.book_opening.specs.declared.How.{How}
 use Rattle.book_opening.specs.Opening.{Opening, build, build-reading, declined, ended, nothing-yet, on-taken, opening, opens}
 
 -- a number of a refused opening
@@ -139,15 +140,17 @@ build-says place b s g [] o h = ended-says place g o h
 build-says place b s g (e ∷ es) o h =
     on-says (take-event b s g e) (λ x. build place b s x es o) (event-says b s g e) (λ x. build-says place b s x es o h)
 
-opening-says : (place : ℕ) (b : Buffers) (s : List ℕ) → Says-declined (opening place b s)
+opening-says : (how : How) (b : Buffers) (s : List ℕ) → Says-declined (opening how b s)
 unfolding opening build-reading
-opening-says place b s = go (ltb script-limit (length s)) (leb node-width (length (b .nodes)))
+opening-says how b s = go (ltb script-limit (length s)) (leb node-width (length (b .nodes)))
   where
     go : (x y : Bool)
-        → Says-declined (cond x (declined too-long 0) (cond y (build place b s nothing-yet (reading place s .events) (reading place s .outcome)) (declined no-room 0)))
+        → Says-declined (cond x (declined too-long 0) (cond y (build-reading (how .place) b s nothing-yet (reading (how .place) s)) (declined no-room 0)))
     go true y = (omega arith, omega arith)
-    go false true = build-says place b s nothing-yet (reading place s .events) (reading place s .outcome) (outcome-says place s)
+    go false true =
+        let r = reading (how .place) s in
+        build-says (how .place) b s nothing-yet (r .events) (r .outcome) (outcome-says (how .place) s)
     go false false = (omega arith, omega arith)
 
-pub opening-refuses : (place : ℕ) (b : Buffers) (s : List ℕ) (n p : ℕ) → opening place b s ≡ declined n p → (1 ≤ n) × (n ≤ 8)
-opening-refuses place b s n p e = rw e at (opening-says place b s)
+pub opening-refuses : (how : How) (b : Buffers) (s : List ℕ) (n p : ℕ) → opening how b s ≡ declined n p → (1 ≤ n) × (n ≤ 8)
+opening-refuses how b s n p e = rw e at (opening-says how b s)

@@ -1,5 +1,5 @@
 -- Opening a text into lent buffers, as 01 has it: "opening starts with 1 and row 0's room", then goes on in reading order. A text is read from a place of the
--- grammar on (`place`); a refusal is answered with its place in the text (p), which 01 does not ask for. Assumes nothing.
+-- grammar on (`place`), the one of `how` it is opened; a refusal is answered with its place in the text (p), which 01 does not ask for. Assumes nothing.
 use Prim.Native.Nat.{ℕ}
 use mathlib.Core.List.{List, [], _∷_}
 use mathlib.Core.Bool.{Bool, false, cond, _&&_, not}
@@ -9,11 +9,12 @@ use Rattle.numbers.specs.Limits.{over, script-limit}
 use Rattle.numbers.specs.Refusals.{no-room, too-long}
 use Rattle.packing.specs.Padding.{zeroed}
 use Rattle.reading_cursors.specs.declared.Event.{Event}
-use Rattle.reading_cursors.specs.Places.{at-list}
+use Rattle.reading_cursors.specs.Places.{at-list, at-script}
 use Rattle.reading.specs.Events.{Outcome, accepted, refused, Reading, reading}
 use Rattle.book.specs.declared.Counts.{Counts}
 use Rattle.book.specs.Books.{Book, export, no-node, regular, rust}
 use Rattle.book.specs.Layout.{Buffers, counts-of, laid-out, node-width}
+use Rattle.book_opening.specs.declared.How.{How}
 use Rattle.book_opening.specs.declared.Opened.{Opened}
 use Rattle.book_building.specs.Building.{Building, Taken, on, no, take-event}
 
@@ -21,6 +22,13 @@ use Rattle.book_building.specs.Building.{Building, Taken, on, no, take-event}
 pub data Opening : Type 0 where
   opens : Book → Opening
   declined : ℕ → ℕ → Opening
+
+-- how a text is opened: as a version script, or as an export list
+abbrev pub as-script : How
+as-script = record { place = at-script }
+
+abbrev pub as-list : How
+as-list = record { place = at-list }
 
 -- "node 0 holds the body", or "is the empty base"
 unfoldable pub nothing-yet : Building
@@ -60,11 +68,11 @@ build place b s g (e ∷ es) o = on-taken (take-event b s g e) (λ h. build plac
 unfoldable pub build-reading : ℕ → Buffers → List ℕ → Building → Reading → Opening
 build-reading place b s g r = build place b s g (r .events) (r .outcome)
 
--- the text s, read from a place of the grammar on, into buffers with the rooms of b
-unfoldable pub opening : ℕ → Buffers → List ℕ → Opening
-opening place b s =
+-- the text s, into buffers with the rooms of b
+unfoldable pub opening : How → Buffers → List ℕ → Opening
+opening how b s =
     cond (over script-limit s) (declined too-long 0)
-    (cond (leb node-width (length (b .nodes))) (build-reading place b s nothing-yet (reading place s))
+    (cond (leb node-width (length (b .nodes))) (build-reading (how .place) b s nothing-yet (reading (how .place) s))
     (declined no-room 0))
 
 -- ---- what is answered, and what is left in the buffers: "A refused opening returns zero counts and zero buffers"

@@ -10,6 +10,7 @@ ghost use Rattle.book_building.specs.State.{Clear};
 ghost use Rattle.book_opening.specs.Opening.{build-reading, declined, nothing-yet, opening, told};
 ghost use Rattle.book_opening.specs.State.{Ended, Filled, Finished, kind-told};
 use crate::Built;
+use crate::How;
 use crate::Opened;
 use book::Counts;
 use book::EXPORT;
@@ -125,7 +126,7 @@ fn build(
 
 // What is answered: "opening starts with 1 and row 0's room", and what is refused leaves nothing.
 pub(crate) fn fill(
-    place: u32,
+    how: How,
     s: &[u8],
     nodes: &mut [u32],
     names: &mut [u8],
@@ -133,7 +134,7 @@ pub(crate) fn fill(
     pool: &mut [u8],
 ) -> Opened
     requires { ⌜ Clear (now nodes) × Clear (now names) × Clear (now lines) × Clear (now pool) ⌝ }
-    ensures { λ r. ⌜ Filled (opening place (five (now (nodes .entry)) (now (names .entry)) (now (lines .entry)) (now (pool .entry)) []) (now (s .entry)))
+    ensures { λ r. ⌜ Filled (opening how (five (now (nodes .entry)) (now (names .entry)) (now (lines .entry)) (now (pool .entry)) []) (now (s .entry)))
         r (five (now (nodes .entry)) (now (names .entry)) (now (lines .entry)) (now (pool .entry)) [])
         (five (now (nodes .exit)) (now (names .exit)) (now (lines .exit)) (now (pool .exit)) []) ⌝ }
 {
@@ -143,7 +144,7 @@ pub(crate) fn fill(
     if nodes.len() < NODE_WIDTH {
         return refused(NO_ROOM, 0);
     }
-    match build(place, s, nodes, names, lines, pool) {
+    match build(how.place, s, nodes, names, lines, pool) {
         Built::Done(counts) => Opened {
             refusal: 0,
             place: 0,
