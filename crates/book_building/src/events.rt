@@ -7,6 +7,7 @@ ghost use Prim.Native.Nat.{_+_, _*_, _≤_, _<_};
 ghost use lib.ListN.{length};
 ghost use Rattle.linker_script.specs.Parts.{part};
 ghost use Rattle.numbers.specs.Limits.{node-limit, script-limit};
+ghost use Rattle.numbers.specs.Marks.{cxx, local};
 ghost use Rattle.packing.specs.Tables.{packs};
 ghost use Rattle.book.specs.Layout.{five, node-form};
 ghost use Rattle.book.specs.View.{any-node};
@@ -50,7 +51,7 @@ fn line_stands(
     lines: &mut [u32],
     pool: &mut [u8],
 ) -> Taking
-    requires { ⌜ (p + n ≤ length (now s)) × (g .pool ≤ pool-room (now pool)) × (0 < g .nodes) × (g .nodes ≤ node-limit) × (section ≤ 1) × (language ≤ 1) ⌝ }
+    requires { ⌜ (p + n ≤ length (now s)) × (g .pool ≤ pool-room (now pool)) × (0 < g .nodes) × (g .nodes ≤ node-limit) × (section ≤ local) × (language ≤ cxx) ⌝ }
     ensures { λ r. ⌜ Took-line g p section language (part (now (s .entry)) p n) (now (lines .entry)) (now (pool .entry)) r (now (lines .exit)) (now (pool .exit)) ⌝ }
 {
     let end = p + n;

@@ -14,6 +14,7 @@ use book::NODE_WIDTH;
 use book::nodes::first_named;
 use copying::put_bytes;
 use copying::put_three;
+use numbers::GLOBAL;
 use numbers::NO_ROOM;
 use numbers::NODE_LIMIT;
 use numbers::UNKNOWN_PARENT;
@@ -87,7 +88,7 @@ fn mixed_in_block(g: Progress, section: u32) -> bool
     if g.mixed {
         return true;
     }
-    section == 0
+    section == GLOBAL
 }
 
 // An extern block opens.

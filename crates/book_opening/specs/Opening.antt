@@ -11,9 +11,8 @@ use Rattle.packing.specs.Padding.{zeroed}
 use Rattle.reading_cursors.specs.declared.Event.{Event}
 use Rattle.reading_cursors.specs.Places.{at-list, at-script}
 use Rattle.reading.specs.Events.{Outcome, accepted, refused, Reading, reading}
-use Rattle.book.specs.declared.Counts.{Counts}
 use Rattle.book.specs.Books.{Book, export, no-node, regular, rust}
-use Rattle.book.specs.Layout.{Buffers, counts-of, laid-out, node-width}
+use Rattle.book.specs.Layout.{Buffers, counts-of, laid-out, no-counts, node-width}
 use Rattle.book_opening.specs.declared.How.{How}
 use Rattle.book_opening.specs.declared.Opened.{Opened}
 use Rattle.book_building.specs.Building.{Building, Taken, on, no, take-event}
@@ -76,9 +75,6 @@ opening how b s =
     (declined no-room 0))
 
 -- ---- what is answered, and what is left in the buffers: "A refused opening returns zero counts and zero buffers"
-abbrev pub no-counts : Counts
-no-counts = record { kind = 0; nodes = 0; names = 0; lines = 0; pool = 0; edits = 0 }
-
 unfoldable pub told : Opening → Opened
 told (opens w) = record { refusal = 0; place = 0; counts = counts-of w }
 told (declined n p) = record { refusal = n; place = p; counts = no-counts }

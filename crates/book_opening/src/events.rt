@@ -17,6 +17,7 @@ use book::EXPORT;
 use book::NODE_WIDTH;
 use book::REGULAR;
 use book::RUST;
+use book::no_counts;
 use book_building::Progress;
 use book_building::Taking;
 use book_building::clear_book;
@@ -35,14 +36,7 @@ fn refused(refusal: u32, place: usize) -> Opened
     Opened {
         refusal,
         place,
-        counts: Counts {
-            kind: 0,
-            nodes: 0,
-            names: 0,
-            lines: 0,
-            pool: 0,
-            edits: 0,
-        },
+        counts: no_counts(),
     }
 }
 
