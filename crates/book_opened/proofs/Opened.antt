@@ -3,7 +3,7 @@
 use Prim.Native.Nat.{ℕ, zero, suc, _+_, _-_, _≤_, _<_}
 use mathlib.Core.Path.{_≡_, refl, _∙_}
 use mathlib.Core.List.{List, []}
-use mathlib.Core.Bool.{Bool, true, false, cond, _||_, true≢false}
+use mathlib.Core.Bool.{Bool, true, false, cond, not, _&&_, _||_, true≢false}
 use native.Mathlib.Omega.{arith}
 use borrow.Author.Tests.{eqb-true, leb-true, ltb-false, not-true}
 use lib.Dec.{eqb, leb, ltb}
@@ -28,7 +28,7 @@ use Rattle.book.specs.View.{Fits}
 use Rattle.book.proofs.Views.{view-of-layout}
 use Rattle.book_building.specs.Building.{Building, Taken, on, no, take-event}
 use Rattle.book_opening.specs.declared.How.{How}
-use Rattle.book_opening.specs.Opening.{Opening, opens, declined, build, build-reading, finished, kind-of, nothing-yet, on-taken, opening, rust-style}
+use Rattle.book_opening.specs.Opening.{Opening, opens, declined, build, build-reading, finished, kind-of, nothing-yet, on-taken, opening}
 use Rattle.book_opened.specs.Opened.{Opened-holds, opens-at}
 use Rattle.book_opened.proofs.KindLines.{kind-fits, kind-sane, regular-allows}
 use Rattle.book_opened.proofs.Soundness.{Holds, Sound, refuses, sound-event, sound-start, takes}
@@ -53,8 +53,11 @@ module _ (place : ℕ) (b : Buffers) (c : Cursor) (g : Building) (t : Sound plac
       let o = t .list h in
       record { allows = o .globals; good = rw (o .one) }
 
-  script-kind : (v : Bool) → rust-style g ≡ v → Kind-good (as-kind (cond v rust regular))
-  unfolding kind-good rust-style
+  abbrev rusty : Bool
+  rusty = eqb (length (g .nodes)) 1 && (g .starred && not (g .mixed))
+
+  script-kind : (v : Bool) → rusty ≡ v → Kind-good (as-kind (cond v rust regular))
+  unfolding kind-good
   script-kind true e =
       let a = both (eqb (length (g .nodes)) 1) _ e in
       let d = both (g .starred) _ (a .1) in
@@ -65,19 +68,19 @@ module _ (place : ℕ) (b : Buffers) (c : Cursor) (g : Building) (t : Sound plac
   unfolding kind-of
   ends-kind = go (eqb place at-list) refl
     where
-      go : (v : Bool) → eqb place at-list ≡ v → Kind-good (as-kind (cond v export (cond (rust-style g) rust regular)))
+      go : (v : Bool) → eqb place at-list ≡ v → Kind-good (as-kind (cond v export (cond rusty rust regular)))
       go true e =
           let z : place ≡ at-list = eqb-true place at-list e in
           list-kind (ltb-false (c .place) at-list (t .side ∙ rw z))
-      go false e = script-kind (rust-style g) refl
+      go false e = script-kind rusty refl
 
   ends-viewable : Viewable b (finished place g)
   ends-viewable =
       let k = ends-kind in
       let o = t .good in
       record {
-        fits = kind-fits b (kind-of place g) (g .nodes) (g .lines) (o .rooms) (o .nodes) (o .lines) (o .stand) (k .allows);
-        sane = kind-sane b (kind-of place g) (g .nodes) (g .lines) (o .rooms) (o .nodes) (o .lines) (o .stand) (k .allows) (k .good);
+        fits = kind-fits b (finished place g .kind) (g .nodes) (g .lines) (o .rooms) (o .nodes) (o .lines) (o .stand) (k .allows);
+        sane = kind-sane b (finished place g .kind) (g .nodes) (g .lines) (o .rooms) (o .nodes) (o .lines) (o .stand) (k .allows) (k .good);
       }
 
 -- ---- the reading

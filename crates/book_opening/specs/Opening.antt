@@ -34,22 +34,17 @@ unfoldable pub nothing-yet : Building
 nothing-yet = record { nodes = no-node ∷ []; lines = []; inside = false; mixed = false; starred = false }
 
 -- "Rust kind: a one-body script with a bare `*;` among its locals (outside extern) and only Exact lines, outside extern, as globals". A script with a line
--- and no named node has one body
-abbrev pub rust-body : ℕ → Bool → Bool → Bool
-rust-body nodes starred mixed = eqb nodes 1 && (starred && not mixed)
-
--- an export list's kind is its own; a script's is the Rust kind or Regular
-abbrev pub kind-by : ℕ → Bool → ℕ
-kind-by place rusty = cond (eqb place at-list) export (cond rusty rust regular)
-
-unfoldable pub rust-style : Building → Bool
-rust-style g = rust-body (length (g .nodes)) (g .starred) (g .mixed)
-
-unfoldable pub kind-of : ℕ → Building → ℕ
-kind-of place g = kind-by place (rust-style g)
+-- and no named node has one body. An export list's kind is its own, and any other script is Regular
+unfoldable pub kind-of : ℕ → ℕ → Bool → Bool → ℕ
+kind-of place nodes starred mixed = cond (eqb place at-list) export (cond (eqb nodes 1 && (starred && not mixed)) rust regular)
 
 abbrev pub finished : ℕ → Building → Book
-finished place g = record { kind = kind-of place g; nodes = g .nodes; lines = g .lines; edits = [] }
+finished place g = record {
+  kind = kind-of place (length (g .nodes)) (g .starred) (g .mixed);
+  nodes = g .nodes;
+  lines = g .lines;
+  edits = [];
+}
 
 -- ---- "then reading order": each event is taken as it comes, and the reading's own refusal comes behind its last event
 abbrev pub on-taken : Taken → (Building → Opening) → Opening

@@ -1,14 +1,12 @@
 // The events of a reading, one by one, and what is answered behind the last.
 ghost use mathlib.Core.Path.{_≡_};
-ghost use mathlib.Core.List.{[]};
 ghost use Prim.Native.Nat.{_*_, _≤_};
 ghost use lib.ListN.{length};
 ghost use Rattle.numbers.specs.Limits.{line-limit, node-limit, pool-limit, script-limit};
-ghost use Rattle.reading.specs.Events.{reading};
-ghost use Rattle.book.specs.Layout.{five, node-width};
-ghost use Rattle.book_building.specs.State.{Clear};
-ghost use Rattle.book_opening.specs.Opening.{build-reading, declined, nothing-yet, opening, told};
-ghost use Rattle.book_opening.specs.State.{Ended, Filled, Finished, kind-told};
+ghost use Rattle.book.specs.Layout.{node-width};
+ghost use Rattle.book_building.specs.State.{All-clear, four};
+ghost use Rattle.book_opening.specs.Opening.{declined, kind-of, told};
+ghost use Rattle.book_opening.specs.State.{Builds, Finished, Opens};
 use crate::Built;
 use crate::How;
 use crate::Opened;
@@ -41,7 +39,7 @@ fn refused(refusal: u32, place: usize) -> Opened
 }
 
 fn kind_of(place: u32, g: Progress) -> u32
-    ensures { λ r. ⌜ r ≡ kind-told place g ⌝ }
+    ensures { λ r. ⌜ r ≡ kind-of place (g .nodes) (g .starred) (g .mixed) ⌝ }
 {
     if place == AT_LIST {
         return EXPORT;
@@ -82,10 +80,9 @@ fn build(
     lines: &mut [u32],
     pool: &mut [u8],
 ) -> Built
-    requires { ⌜ (length (now s) ≤ script-limit) × (node-width ≤ length (now nodes)) × Clear (now nodes) × Clear (now names) × Clear (now lines) × Clear (now pool) ⌝ }
-    ensures { λ r. ⌜ Ended (build-reading place (five (now (nodes .entry)) (now (names .entry)) (now (lines .entry)) (now (pool .entry)) []) (now (s .entry)) nothing-yet (reading place (now (s .entry))))
-        r (five (now (nodes .entry)) (now (names .entry)) (now (lines .entry)) (now (pool .entry)) [])
-        (five (now (nodes .exit)) (now (names .exit)) (now (lines .exit)) (now (pool .exit)) []) ⌝ }
+    requires { ⌜ (length (now s) ≤ script-limit) × (node-width ≤ length (now nodes)) × All-clear (four (now nodes) (now names) (now lines) (now pool)) ⌝ }
+    ensures { λ r. ⌜ Builds place (four (now (nodes .entry)) (now (names .entry)) (now (lines .entry)) (now (pool .entry))) (now (s .entry))
+        r (four (now (nodes .exit)) (now (names .exit)) (now (lines .exit)) (now (pool .exit))) ⌝ }
 {
     let mut c = start_at(place, s);
     let mut g = Progress {
@@ -127,10 +124,9 @@ pub(crate) fn fill(
     lines: &mut [u32],
     pool: &mut [u8],
 ) -> Opened
-    requires { ⌜ Clear (now nodes) × Clear (now names) × Clear (now lines) × Clear (now pool) ⌝ }
-    ensures { λ r. ⌜ Filled (opening how (five (now (nodes .entry)) (now (names .entry)) (now (lines .entry)) (now (pool .entry)) []) (now (s .entry)))
-        r (five (now (nodes .entry)) (now (names .entry)) (now (lines .entry)) (now (pool .entry)) [])
-        (five (now (nodes .exit)) (now (names .exit)) (now (lines .exit)) (now (pool .exit)) []) ⌝ }
+    requires { ⌜ All-clear (four (now nodes) (now names) (now lines) (now pool)) ⌝ }
+    ensures { λ r. ⌜ Opens how (four (now (nodes .entry)) (now (names .entry)) (now (lines .entry)) (now (pool .entry))) (now (s .entry))
+        r (four (now (nodes .exit)) (now (names .exit)) (now (lines .exit)) (now (pool .exit))) ⌝ }
 {
     if SCRIPT_LIMIT < s.len() {
         return refused(TOO_LONG, 0);

@@ -1,8 +1,7 @@
 // Opening a text into lent buffers: the events of its reading, taken one by one (the crate `book_building`). Definitions: specs/Opening.antt, from document 01,
 // 'Reading', 'Ranking' (the Rust kind), 'The book' and 'Numbers that say no'.
 ghost use Rattle.book.specs.Layout.{five};
-ghost use Rattle.book_opening.specs.Opening.{opening};
-ghost use Rattle.book_opening.specs.State.{Filled};
+ghost use Rattle.book_opening.specs.State.{Opens};
 use crate::events::fill;
 use book::Counts;
 use book_building::clear_book;
@@ -46,9 +45,8 @@ pub fn open(
     pool: &mut [u8],
     journal: &mut [u32],
 ) -> Opened
-    ensures { λ r. ⌜ Filled (opening how (five (now (nodes .entry)) (now (names .entry)) (now (lines .entry)) (now (pool .entry)) (now (journal .entry))) (now (text .entry))) r
-        (five (now (nodes .entry)) (now (names .entry)) (now (lines .entry)) (now (pool .entry)) (now (journal .entry)))
-        (five (now (nodes .exit)) (now (names .exit)) (now (lines .exit)) (now (pool .exit)) (now (journal .exit))) ⌝ }
+    ensures { λ r. ⌜ Opens how (five (now (nodes .entry)) (now (names .entry)) (now (lines .entry)) (now (pool .entry)) (now (journal .entry))) (now (text .entry))
+        r (five (now (nodes .exit)) (now (names .exit)) (now (lines .exit)) (now (pool .exit)) (now (journal .exit))) ⌝ }
 {
     clear_book(nodes, names, lines, pool);
     clear_numbers(journal);

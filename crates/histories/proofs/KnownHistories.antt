@@ -28,7 +28,7 @@ use Rattle.book.specs.View.{book-of, laid, view, within-limits}
 use Rattle.book.specs.View as view
 use Rattle.book_rooms.specs.Rooms.{edit-room, line-room, node-room}
 use Rattle.book_building.specs.Building.{take-event, take-kept, take-node, take-parent}
-use Rattle.book_opening.specs.Opening.{build, build-reading, kind-of, left, nothing-yet, opening, rust-style, told}
+use Rattle.book_opening.specs.Opening.{build, build-reading, kind-of, left, nothing-yet, opening, told}
 use Rattle.ranking.specs.Matching.{class-matches, line-matches, seen}
 use Rattle.ranking.specs.Names.{bad-name, long-name, name-refusal}
 use Rattle.ranking.specs.Walk.{deciding, exact-of, exact-stages, first-line, glob-of, glob-stages, stages, walk}
@@ -60,7 +60,7 @@ unfolding pieces pieces-past sound sound-past same
     bare-star content-good edit-ok glob-stands in-range kind-allows kind-good line-ok name-good named-good nodes-good parent-good sane some-star
     book-of laid view within-limits view.holds
     edit-room line-room node-room take-event take-kept take-node take-parent
-    build build-reading kind-of left nothing-yet opening rust-style told
+    build build-reading kind-of left nothing-yet opening told
     class-matches line-matches seen bad-name long-name name-refusal
     deciding exact-of exact-stages first-line glob-of glob-stages stages walk
     index-of listed locality-asked locality-of node-version version-asked version-of

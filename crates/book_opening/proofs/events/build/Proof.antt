@@ -21,7 +21,7 @@ loop-holds : tie.Need-loop-holds Inv-loop μ-loop
 loop-holds c =
     let a = c .before .before .before .before .before .before .args in
     let p = c .before .before .before .before .before .before .pre in
-    going-starts (a .place) (a .s .now) (a .nodes .now) (a .names .now) (a .lines .now) (a .pool .now) _ (c .start-at .ensures) (p .1) (p .2) (p .3) (p .4) (p .5)
+    going-starts (a .place) (a .s .now) (a .nodes .now) (a .names .now) (a .lines .now) (a .pool .now) _ (c .start-at .ensures) (p .1) (p .2)
 
 next-event-requires : tie.Need-next-event-requires Inv-loop μ-loop
 next-event-requires c κs = search needs

@@ -11,7 +11,7 @@ returns : tie.Need-returns
 returns c =
     let s = c .before .before .before .before .before .before .before in
     let a = s .args in
-    fill-long (a .how) (a .s .now) (a .nodes .now) (a .names .now) (a .lines .now) (a .pool .now) (c .refused .result) (s .pre .0) (s .pre .1) (s .pre .2) (s .pre .3) (c .before .if1 .taken) (c .refused .ensures)
+    fill-long (a .how) (a .s .now) (a .nodes .now) (a .names .now) (a .lines .now) (a .pool .now) (c .refused .result) (s .pre) (c .before .if1 .taken) (c .refused .ensures)
 
 refused-requires-2 : tie.Need-refused-requires-2
 refused-requires-2 c κs = search needs
@@ -20,7 +20,7 @@ returns-2 : tie.Need-returns-2
 returns-2 c =
     let s = c .before .before .before .before .before .before .before .before in
     let a = s .args in
-    fill-roomless (a .how) (a .s .now) (a .nodes .now) (a .names .now) (a .lines .now) (a .pool .now) (c .refused2 .result) (s .pre .0) (s .pre .1) (s .pre .2) (s .pre .3) (c .before .before .if1 .left) (c .before .if2 .taken) (c .refused2 .ensures)
+    fill-roomless (a .how) (a .s .now) (a .nodes .now) (a .names .now) (a .lines .now) (a .pool .now) (c .refused2 .result) (s .pre) (c .before .before .if1 .left) (c .before .if2 .taken) (c .refused2 .ensures)
 
 build-requires : tie.Need-build-requires
 build-requires c κs = search needs
