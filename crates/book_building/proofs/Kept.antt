@@ -19,8 +19,8 @@ use Rattle.pattern.specs.Patterns.{refusal}
 use Rattle.pattern.specs.Storing.{stored, stored-byte, negated-from}
 use Rattle.classes.specs.declared.Class.{Class}
 use Rattle.classes.specs.declared.Class.the-variants.{Exact, Escaped, NonStar, Star, All}
-use Rattle.classes.specs.Classes.{class-number, lone-star, quoted, scan, unquoted}
-use Rattle.storing.specs.Keeping.{Keep, kept, refused, keep, keep-as, keep-class, keep-glob, keep-scanned, keep-when}
+use Rattle.classes.specs.Classes.{class-number, class-of}
+use Rattle.storing.specs.Keeping.{Keep, kept, refused, inside-kept, keep, keep-as, keep-glob, keep-when}
 use Rattle.storing.proofs.Keeping.{bytes, keep-few}
 use Rattle.book.specs.Books.{edition-of, new-line, regular}
 use Rattle.book.specs.Sanity.{content-good, glob-stands, in-range, kind-allows, line-ok}
@@ -86,15 +86,12 @@ as-fine e Star t = when-fine e Star t (glob-fine e t)
 as-fine e All t = refl
 
 keep-fine : (e : Edition) (t : List ℕ) → Kept-fine e (keep e t)
-unfolding keep keep-class keep-scanned
-keep-fine e t = go (over token-limit t) (quoted t) (lone-star t)
+unfolding keep
+keep-fine e t = go (over token-limit t)
   where
-    go : (x y z : Bool)
-        → Kept-fine e (cond x (refused too-long) (cond y (kept Exact (unquoted t)) (cond z (kept All []) (keep-as e (scan Exact false t) t))))
-    go true y z = tt
-    go false true z = tt
-    go false false true = refl
-    go false false false = as-fine e (scan Exact false t) t
+    go : (x : Bool) → Kept-fine e (cond x (refused too-long) (keep-as e (class-of t) (inside-kept t)))
+    go true = tt
+    go false = as-fine e (class-of t) (inside-kept t)
 
 pub class-few : (k : Class) → class-number k ≤ all-class
 class-few Exact = omega arith

@@ -16,8 +16,8 @@ use Rattle.pattern.specs.Patterns.{refusal, shaped-from}
 use Rattle.pattern.specs.Storing.{stored}
 use Rattle.classes.specs.declared.Class.{Class}
 use Rattle.classes.specs.declared.Class.the-variants.{Exact, Escaped, NonStar, Star, All}
-use Rattle.classes.specs.Classes.{lone-star, quoted, scan, unquoted}
-use Rattle.storing.specs.Keeping.{Keep, kept, refused, keep, keep-as, keep-class, keep-glob, keep-scanned, keep-when}
+use Rattle.classes.specs.Classes.{class-of}
+use Rattle.storing.specs.Keeping.{Keep, kept, refused, inside-kept, keep, keep-as, keep-glob, keep-when}
 use Rattle.reading_cursors.specs.declared.Event.{Event}
 use Rattle.reading_cursors.specs.declared.Event.the-variants.{Node, Body, Section, Extern, Closed, Line, Parent}
 use Rattle.reading.specs.Events.{Outcome, accepted, reading}
@@ -66,15 +66,12 @@ as-says e Star t = glob-says e Star t
 as-says e All t = tt
 
 keep-says : (e : Edition) (t : List ℕ) → Kept-says (keep e t)
-unfolding keep keep-class keep-scanned
-keep-says e t = go (over token-limit t) (quoted t) (lone-star t)
+unfolding keep
+keep-says e t = go (over token-limit t)
   where
-    go : (x y z : Bool)
-        → Kept-says (cond x (refused too-long) (cond y (kept Exact (unquoted t)) (cond z (kept All []) (keep-as e (scan Exact false t) t))))
-    go true y z = (omega arith, omega arith)
-    go false true z = tt
-    go false false true = tt
-    go false false false = as-says e (scan Exact false t) t
+    go : (x : Bool) → Kept-says (cond x (refused too-long) (keep-as e (class-of t) (inside-kept t)))
+    go true = (omega arith, omega arith)
+    go false = as-says e (class-of t) (inside-kept t)
 
 when-says : (t : Bool) (g : Building) (n p : ℕ) → Says n → Taken-says (cond t (on g) (no n p))
 when-says true g n p h = tt

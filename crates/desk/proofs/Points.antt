@@ -10,7 +10,7 @@ use Rattle.utf8.specs.Utf8.{scalar, character, none, when, tail, two, three, fo
 use Rattle.pattern.specs.Patterns.{holds, some-holds, member, inside, between, takes, bracketed, opened, element, elements, ended, first, somewhere, matches, adjacent-from, shaped-from, refusal}
 use Rattle.pattern.specs.Storing.{stored-byte, negated-from, stored}
 use Rattle.classes.specs.Classes.{quoted, unquoted, lone-star, nonstar, scanned, scan, class-of}
-use Rattle.storing.specs.Keeping.{unescaped, unescape, keep-when, keep-glob, keep-as, keep-scanned, keep-class, keep}
+use Rattle.storing.specs.Keeping.{unescaped, unescape, keep-when, keep-glob, keep-as, inside-kept, keep}
 use Rattle.linker_script.specs.Finding.{first-in, first-from, last-in, last-close}
 use Rattle.linker_script.specs.Skip.{blank, move, skip-past, skip}
 use Rattle.linker_script.specs.Trim.{white, trim-end}
@@ -130,7 +130,7 @@ unfolding pieces pieces-past sound sound-past same
     holds some-holds member inside between takes bracketed opened element elements ended first somewhere matches adjacent-from shaped-from refusal
     stored-byte negated-from stored
     quoted unquoted lone-star nonstar scanned scan class-of
-    unescaped unescape keep-when keep-glob keep-as keep-scanned keep-class keep
+    unescaped unescape keep-when keep-glob keep-as inside-kept keep
     first-in first-from last-in last-close
     blank move skip-past skip white trim-end
     start
