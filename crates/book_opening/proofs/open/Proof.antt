@@ -37,7 +37,8 @@ returns c =
     open-filled (a .how) (a .nodes .now) (a .names .now) (a .lines .now) (a .pool .now) (a .journal .now) (a .text .now)
     (y .clear-book .last .0) (y .clear-book .last .1 .0) (y .clear-book .last .1 .1 .0) (y .clear-book .last .1 .1 .1 .0)
     (z .clear-numbers .last .0)
-    (y .clear-book .ensures) (z .clear-numbers .ensures) (x .fill .result) (x .fill .last .1 .1 .0) (x .fill .last .1 .1 .1 .0) (x .fill .last .1 .1 .1 .1 .0) (x .fill .last .1 .1 .1 .1 .1 .0)
+    (y .clear-book .ensures) (z .clear-numbers .ensures) (x .fill .result) (x .fill .last .1 .1 .0) (x .fill .last .1 .1 .1 .0)
+    (x .fill .last .1 .1 .1 .1 .0) (x .fill .last .1 .1 .1 .1 .1 .0)
     (x .fill .ensures)
 
 pub open-spec : {M : Type 1} → statement M

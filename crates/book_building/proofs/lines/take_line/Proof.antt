@@ -37,7 +37,8 @@ returns c =
     let x = c .before .before .before .before .before .before .before .before in
     let a = x .before .before .before .before .before .before .args in
     line-rowless (a .g) (a .p) (a .section) (a .language) (a .token .now) (a .lines .now) (a .pool .now)
-    (x .before .before .edition-of .result) (x .before .before .edition-of .ensures) (x .put-token .result) _ (x .before .before .before .before .before .before .pre .0) (x .put-token .ensures)
+    (x .before .before .edition-of .result) (x .before .before .edition-of .ensures) (x .put-token .result) _
+    (x .before .before .before .before .before .before .pre .0) (x .put-token .ensures)
     _ _ [] [] (c .before .before .before .before .class .given .1) (sym (c .before .has-row .ensures) ∙ not-true _ (c .if1 .taken))
 
 class-number-requires : tie.Need-class-number-requires
@@ -67,7 +68,8 @@ cast-put-line-2 c =
     omega (
       arith,
       line-ends (a .g) (a .p) (a .section) (a .language) (a .token .now) (a .lines .now) (a .pool .now)
-          (x .before .before .edition-of .result) (x .before .before .edition-of .ensures) (x .put-token .result) _ (x .before .before .before .before .before .before .pre .0) (x .put-token .ensures)
+          (x .before .before .edition-of .result) (x .before .before .edition-of .ensures) (x .put-token .result) _
+          (x .before .before .before .before .before .before .pre .0) (x .put-token .ensures)
           _ _ (c .before .before .before .before .before .before .before .before .class .given .1),
     )
 
@@ -100,7 +102,8 @@ add-t33 c =
     omega (
       arith,
       line-ends (a .g) (a .p) (a .section) (a .language) (a .token .now) (a .lines .now) (a .pool .now)
-          (x .before .before .edition-of .result) (x .before .before .edition-of .ensures) (x .put-token .result) _ (x .before .before .before .before .before .before .pre .0) (x .put-token .ensures)
+          (x .before .before .edition-of .result) (x .before .before .edition-of .ensures) (x .put-token .result) _
+          (x .before .before .before .before .before .before .pre .0) (x .put-token .ensures)
           _ _ (c .before .before .before .before .before .before .before .before .before .before .before .before .before .class .given .1),
     )
 
@@ -112,7 +115,8 @@ returns-2 c =
     let x = c .before .before .before .before .before in
     let a = x .before .before .before .before .before .before .args in
     line-refused (a .g) (a .p) (a .section) (a .language) (a .token .now) (a .lines .now) (a .pool .now)
-    (x .before .before .edition-of .result) (x .before .before .edition-of .ensures) (x .put-token .result) _ (x .before .before .before .before .before .before .pre .0) (x .put-token .ensures) _ [] [] (c .before .no .given .1)
+    (x .before .before .edition-of .result) (x .before .before .edition-of .ensures) (x .put-token .result) _
+    (x .before .before .before .before .before .before .pre .0) (x .put-token .ensures) _ [] [] (c .before .no .given .1)
 
 same-length-4 : tie.Need-same-length-4
 same-length-4 c = search needs
@@ -126,9 +130,13 @@ returns-3 c =
     let a = x .before .before .before .before .before .before .args in
     let i = c .before .before .before .before .before .before .before .before .before in
     line-added (a .g) (a .p) (a .section) (a .language) (a .token .now) (a .lines .now) (a .pool .now)
-    (x .before .before .edition-of .result) (x .before .before .edition-of .ensures) (x .put-token .result) _ (x .before .before .before .before .before .before .pre .0) (x .put-token .ensures)
-    _ _ _ _ _ _ _ (i .before .before .before .before .class .given .1) (sym (i .before .has-row .ensures) ∙ not-false _ (i .if1 .left)) (omega arith) (omega arith)
-    (c .before .before .before .before .before .before .before .before .class-number .ensures) (c .before .before .before .before .before .before .code-of .ensures) (c .before .mixed-behind .ensures) (c .starred-behind .ensures) (c .before .before .before .before .put-line .ensures)
+    (x .before .before .edition-of .result) (x .before .before .edition-of .ensures) (x .put-token .result) _
+    (x .before .before .before .before .before .before .pre .0) (x .put-token .ensures)
+    _ _ _ _ _ _ _ (i .before .before .before .before .class .given .1) (sym (i .before .has-row .ensures) ∙ not-false _ (i .if1 .left)) (omega arith)
+    (omega arith)
+    (c .before .before .before .before .before .before .before .before .class-number .ensures)
+    (c .before .before .before .before .before .before .code-of .ensures) (c .before .mixed-behind .ensures) (c .starred-behind .ensures)
+    (c .before .before .before .before .put-line .ensures)
 
 pub take-line-spec : {M : Type 1} → statement M
 take-line-spec =
