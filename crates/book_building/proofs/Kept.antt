@@ -9,15 +9,18 @@ use native.Mathlib.Omega.{arith}
 use borrow.Author.Tests.{eq-eqb, ne-eqb, eqb-true, le-leb, lt-ltb}
 use lib.Dec.{eqb}
 use lib.ListN.{length}
+use Rattle.numbers.specs.Classes.{all-class, nonstar-class, star-class}
 use Rattle.numbers.specs.Limits.{over, token-limit}
+use Rattle.numbers.specs.Marks.{cxx, local}
+use Rattle.numbers.specs.Refusals.{too-long}
 use Rattle.lists.proofs.SameLaws.{same-refl}
 use Rattle.numbers.specs.declared.Edition.{Edition}
 use Rattle.pattern.specs.Patterns.{refusal}
 use Rattle.pattern.specs.Storing.{stored, stored-byte, negated-from}
 use Rattle.classes.specs.declared.Class.{Class}
 use Rattle.classes.specs.declared.Class.the-variants.{Exact, Escaped, NonStar, Star, All}
-use Rattle.classes.specs.Classes.{class-number, lone-star, quoted, scan, unquoted}
-use Rattle.storing.specs.Keeping.{Keep, kept, refused, keep, keep-as, keep-class, keep-glob, keep-scanned, keep-when}
+use Rattle.classes.specs.Classes.{class-number, class-of}
+use Rattle.storing.specs.Keeping.{Keep, kept, refused, inside-kept, keep, keep-as, keep-glob, keep-when}
 use Rattle.storing.proofs.Keeping.{bytes, keep-few}
 use Rattle.book.specs.Books.{edition-of, new-line, regular}
 use Rattle.book.specs.Sanity.{content-good, glob-stands, in-range, kind-allows, line-ok}
@@ -83,17 +86,14 @@ as-fine e Star t = when-fine e Star t (glob-fine e t)
 as-fine e All t = refl
 
 keep-fine : (e : Edition) (t : List ℕ) → Kept-fine e (keep e t)
-unfolding keep keep-class keep-scanned
-keep-fine e t = go (over token-limit t) (quoted t) (lone-star t)
+unfolding keep
+keep-fine e t = go (over token-limit t)
   where
-    go : (x y z : Bool)
-        → Kept-fine e (cond x (refused 1) (cond y (kept Exact (unquoted t)) (cond z (kept All []) (keep-as e (scan Exact false t) t))))
-    go true y z = tt
-    go false true z = tt
-    go false false true = refl
-    go false false false = as-fine e (scan Exact false t) t
+    go : (x : Bool) → Kept-fine e (cond x (refused too-long) (keep-as e (class-of t) (inside-kept t)))
+    go true = tt
+    go false = as-fine e (class-of t) (inside-kept t)
 
-pub class-few : (k : Class) → class-number k ≤ 4
+pub class-few : (k : Class) → class-number k ≤ all-class
 class-few Exact = omega arith
 class-few Escaped = omega arith
 class-few NonStar = omega arith
@@ -108,29 +108,29 @@ module _ (t : List ℕ) (k : Class) (bs : List ℕ) (h : keep (edition-of regula
   kept-fine : Fine (edition-of regular) k bs
   kept-fine = rw h at (keep-fine (edition-of regular) t)
 
-  all-empty : (j : Class) → Fine (edition-of regular) j bs → (not (eqb (class-number j) 4) || eqb (length bs) 0) ≡ true
+  all-empty : (j : Class) → Fine (edition-of regular) j bs → (not (eqb (class-number j) all-class) || eqb (length bs) 0) ≡ true
   all-empty Exact f = refl
   all-empty Escaped f = refl
   all-empty NonStar f = refl
   all-empty Star f = refl
   all-empty All f = eq-eqb (length bs) 0 f
 
-  globs-stand : (j : Class) → Fine (edition-of regular) j bs → (not (eqb (class-number j) 2 || eqb (class-number j) 3) || glob-stands (edition-of regular) bs) ≡ true
+  globs-stand : (j : Class) → Fine (edition-of regular) j bs → (not (eqb (class-number j) nonstar-class || eqb (class-number j) star-class) || glob-stands (edition-of regular) bs) ≡ true
   globs-stand Exact f = refl
   globs-stand Escaped f = refl
   globs-stand NonStar f = f
   globs-stand Star f = f
   globs-stand All f = refl
 
-  pub kept-line : (nodes node section language : ℕ) → node < nodes → section ≤ 1 → language ≤ 1
+  pub kept-line : (nodes node section language : ℕ) → node < nodes → section ≤ local → language ≤ cxx
       → line-ok regular nodes (new-line node section language (class-number k) bs) ≡ true
   unfolding line-ok in-range kind-allows content-good
   kept-line nodes node section language a b c =
       rw (
         lt-ltb node nodes a,
-        le-leb (class-number k) 4 (class-few k),
-        le-leb section 1 b,
-        le-leb language 1 c,
+        le-leb (class-number k) all-class (class-few k),
+        le-leb section local b,
+        le-leb language cxx c,
         le-leb (length bs) token-limit kept-few,
         all-empty k kept-fine,
       )

@@ -8,6 +8,7 @@ use native.Mathlib.Omega.{arith}
 use lib.ListN.{length}
 use lib.Seq.{paste}
 use Rattle.numbers.specs.Limits.{pool-limit}
+use Rattle.numbers.specs.Marks.{cxx, local}
 use Rattle.numbers.specs.Refusals.{no-room}
 use Rattle.packing.proofs.Packings.{Packs, put-thing}
 use Rattle.numbers.specs.declared.Edition.{Edition}
@@ -18,10 +19,10 @@ use Rattle.storing.specs.declared.Stored.the-variants as stored
 use Rattle.classes.specs.Classes.{class-number}
 use Rattle.storing.specs.Keeping.{Keep, kept, refused, keep}
 use Rattle.book.specs.Books.{Line, edition-of, new-line, regular}
-use Rattle.book.specs.Layout.{code-of, five, line-form, line-width}
+use Rattle.book.specs.Layout.{code-of, five, line-form, line-width, row-of-line, standing-code}
 use Rattle.book.specs.Sanity.{line-ok}
 use Rattle.book.proofs.Forms.{line-laws}
-use Rattle.book_rooms.specs.Rooms.{Put, fits-row, line-room}
+use Rattle.book_rooms.specs.Rooms.{Put, fits-row, line-room, pool-room}
 use Rattle.book_rooms.proofs.LineRooms.{Line-room, is-room, no-pool, no-row}
 use Rattle.book_rooms.proofs.Putting.{Kept, Refused-as, room-length, room-limit, was-kept, was-refused}
 use Rattle.book_rooms.proofs.Rows.{row-number, row-within}
@@ -60,18 +61,19 @@ module _ (g : Progress) (p section language : ℕ) (t l q : List ℕ) where
       ∙ ap (λ (k : ℕ). says-no k p) (sym (v .1))
 
   -- ---- r is what `put_token` answers, with the edition x that `edition_of` answered, and q′ the pool behind it
-  module _ (x : Edition) (y : x ≡ edition-of regular) (r : Stored) (q′ : List ℕ) (u : Put (keep x t) q (g .pool) r q′) where
+  module _ (x : Edition) (y : x ≡ edition-of regular) (r : Stored) (q′ : List ℕ) (a : g .pool ≤ pool-room q)
+      (u : Put (keep x t) q (g .pool) r q′) where
     puts : Put (keep (edition-of regular) t) q (g .pool) r q′
     puts = rw (← y) u
 
     -- the token is refused, or has no room in the pool
     pub line-refused : (i : ℕ) (l′ q″ : List ℕ) → r ≡ stored.Refused i → Took-line g p section language t l q (No i p) l′ q″
     line-refused i l′ q″ z n m e =
-        refuses (keep (edition-of regular) t) i n m e (was-refused (keep (edition-of regular) t) q (g .pool) r q′ i puts z .0)
+        refuses (keep (edition-of regular) t) i n m e (was-refused (keep (edition-of regular) t) q (g .pool) r q′ i a puts z .0)
 
     -- what is kept of the token, where it is put there
     keeps : (k : Class) (i : ℕ) → r ≡ As k i → Kept (keep (edition-of regular) t) q (g .pool) q′ k i
-    keeps k i z = was-kept (keep (edition-of regular) t) q (g .pool) r q′ k i puts z
+    keeps k i z = was-kept (keep (edition-of regular) t) q (g .pool) r q′ k i a puts z
 
     -- its bytes end within the pool's limit
     pub line-ends : (k : Class) (i : ℕ) → r ≡ As k i → g .pool + i ≤ pool-limit
@@ -88,20 +90,21 @@ module _ (g : Progress) (p section language : ℕ) (t l q : List ℕ) where
         rw (w .keeps) (no-line k (w .bytes) n m (no-row (five n m l q []) (lines-of g n m l q) (g .lines) (g .pool) (s .count) (s .total) (w .bytes) f))
 
     -- it is there
-    stands : (k : Class) (i c : ℕ) (bs l′ : List ℕ) → keep (edition-of regular) t ≡ kept k bs → i ≡ length bs → Line-room (g .lines) (g .pool) l q (length bs)
-        → q′ ≡ paste q (g .pool) bs (length bs) → section ≤ 1 → language ≤ 1 → c ≡ class-number k
-        → l′ ≡ paste l (line-width * g .lines) ((g .nodes - 1) ∷ (c * 4 + section * 2 + language) ∷ g .pool ∷ i ∷ []) 4
+    stands : (k : Class) (i c code : ℕ) (bs l′ : List ℕ) → keep (edition-of regular) t ≡ kept k bs → i ≡ length bs → Line-room (g .lines) (g .pool) l q (length bs)
+        → q′ ≡ paste q (g .pool) bs (length bs) → section ≤ local → language ≤ cxx → c ≡ class-number k
+        → code ≡ standing-code c section language
+        → l′ ≡ paste l (line-width * g .lines) (row-of-line (g .nodes - 1) code (g .pool) i) line-width
         → Took-line g p section language t l q (On (line-more g i (mixed-behind (g .mixed) section c) (starred-behind (g .starred) (g .inside) section c))) l′ q′
     unfolding take-kept line-form
-    stands k i c bs l′ keeps size room put a b y d n m e =
+    stands k i c code bs l′ keeps size room put f b y o d n m e =
         let s = is-state g n m l q e in
         let x : Line = new-line (g .nodes - 1) section language (class-number k) bs in
-        let h : code-of x ≡ c * 4 + section * 2 + language = omega arith in
+        let h : code-of x ≡ code = omega arith in
         let v : Packs line-form (line-ok regular (g .nodes)) (g .lines + 1) (g .pool + length bs) l′ q′ (lines-of g n m l q ++ (x ∷ []))
         = put-thing line-form (line-laws regular (g .nodes)) (g .lines) (g .pool) l q (lines-of g n m l q) (s .lines) x l′ q′
-        (kept-line t k bs keeps (g .nodes) (g .nodes - 1) section language (omega (arith, s .few .some)) a b)
+        (kept-line t k bs keeps (g .nodes) (g .nodes - 1) section language (omega (arith, s .few .some)) f b)
         (omega (arith, room .row)) (omega (arith, room .pool, room-length q)) (rw (h, ← size) d) put in
-        let o : State (line-more g i (mixed-behind (g .mixed) section c) (starred-behind (g .starred) (g .inside) section c)) n m l′ q′ (nodes-of g n m l q) (lines-of g n m l q ++ (x ∷ [])) = record {
+        let r : State (line-more g i (mixed-behind (g .mixed) section c) (starred-behind (g .starred) (g .inside) section c)) n m l′ q′ (nodes-of g n m l q) (lines-of g n m l q ++ (x ∷ [])) = record {
           few = record {
             some = s .few .some;
             names = s .few .names;
@@ -112,16 +115,16 @@ module _ (g : Progress) (p section language : ℕ) (t l q : List ℕ) where
           nodes = s .nodes;
           lines = rw size v;
         } in
-        let u = state-is (line-more g i (mixed-behind (g .mixed) section c) (starred-behind (g .starred) (g .inside) section c)) n m l′ q′ (nodes-of g n m l q) (lines-of g n m l q ++ (x ∷ [])) o in (
+        let u = state-is (line-more g i (mixed-behind (g .mixed) section c) (starred-behind (g .starred) (g .inside) section c)) n m l′ q′ (nodes-of g n m l q) (lines-of g n m l q ++ (x ∷ [])) r in (
           rw (keeps, building-is g n m l q, is-room (five n m l q []) (lines-of g n m l q) (g .lines) (g .pool) (s .lines .count) (s .lines .total) bs room, u .0, y, ← s .nodes .count),
           u .1,
         )
 
-    pub line-added : (k : Class) (i c : ℕ) (x y : Bool) (l′ : List ℕ) → r ≡ As k i → fits-row l (g .lines) ≡ true → section ≤ 1 → language ≤ 1
-        → c ≡ class-number k → x ≡ mixed-behind (g .mixed) section c → y ≡ starred-behind (g .starred) (g .inside) section c
-        → l′ ≡ paste l (line-width * g .lines) ((g .nodes - 1) ∷ (c * 4 + section * 2 + language) ∷ g .pool ∷ i ∷ []) 4
+    pub line-added : (k : Class) (i c code : ℕ) (x y : Bool) (l′ : List ℕ) → r ≡ As k i → fits-row l (g .lines) ≡ true → section ≤ local → language ≤ cxx
+        → c ≡ class-number k → code ≡ standing-code c section language → x ≡ mixed-behind (g .mixed) section c → y ≡ starred-behind (g .starred) (g .inside) section c
+        → l′ ≡ paste l (line-width * g .lines) (row-of-line (g .nodes - 1) code (g .pool) i) line-width
         → Took-line g p section language t l q (On (line-more g i x y)) l′ q′
-    line-added k i c x y l′ z f a b e v w d =
+    line-added k i c code x y l′ z f h b e j v w d =
         let o = keeps k i z in
         let room : Line-room (g .lines) (g .pool) l q (length (o .bytes)) = record { number = row-number l (g .lines) f; row = row-within l (g .lines) f; pool = o .room } in
-        rw (v, w) (stands k i c (o .bytes) l′ (o .keeps) (o .size) room (o .put) a b e d)
+        rw (v, w) (stands k i c code (o .bytes) l′ (o .keeps) (o .size) room (o .put) h b e j d)

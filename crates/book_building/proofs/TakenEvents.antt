@@ -7,6 +7,7 @@ use native.Mathlib.Omega.{arith}
 use lib.ListN.{length, take, drop, length-take, length-drop}
 use Rattle.linker_script.specs.Parts.{part}
 use Rattle.numbers.specs.Limits.{node-limit, script-limit}
+use Rattle.numbers.specs.Marks.{cxx, local}
 use Rattle.packing.specs.Tables.{packs}
 use Rattle.packing.proofs.Packings.{is-packs}
 use Rattle.reading_cursors.specs.declared.Event.{Event}
@@ -47,10 +48,10 @@ module _ (s : List ℕ) (g : Progress) (n m l q : List ℕ) (b : built g (five n
       (rw z at u, is-packs node-form node-laws (g .nodes) (g .names) n m (nodes-of g n m l q) (t .nodes) .0, t .few .some, t .few .nodes)
 
   pub line-asks : (section language p k : ℕ) → Lies s e → e ≡ Line section language p k
-      → (p + k ≤ length s) × (g .pool ≤ pool-room q) × (0 < g .nodes) × (g .nodes ≤ node-limit) × (section ≤ 1) × (language ≤ 1)
+      → (p + k ≤ length s) × (g .pool ≤ pool-room q) × (0 < g .nodes) × (g .nodes ≤ node-limit) × (section ≤ local) × (language ≤ cxx)
   line-asks section language p k u z =
       let t = is-state g n m l q b in
-      let h : (section ≤ 1) × (language ≤ 1) × (p + k ≤ length s) = rw z at u in
+      let h : (section ≤ local) × (language ≤ cxx) × (p + k ≤ length s) = rw z at u in
       (h .2, room-both q (g .pool) (t .lines .byteroom) (t .few .pool), t .few .some, t .few .nodes, h .0, h .1)
 
   -- what they answer

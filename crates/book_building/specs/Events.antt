@@ -2,6 +2,7 @@
 use Prim.Native.Nat.{ℕ, _+_, _≤_}
 use mathlib.Core.List.{List}
 use lib.ListN.{length}
+use Rattle.numbers.specs.Marks.{cxx, local}
 use Rattle.reading_cursors.specs.declared.Event.{Event}
 use Rattle.reading_cursors.specs.declared.Event.the-variants.{Node, Body, Section, Extern, Closed, Line, Parent}
 
@@ -12,5 +13,5 @@ Lies s Body = Unit {0}
 Lies s (Section section) = Unit {0}
 Lies s (Extern section language) = Unit {0}
 Lies s Closed = Unit {0}
-Lies s (Line section language p n) = (section ≤ 1) × (language ≤ 1) × (p + n ≤ length s)
+Lies s (Line section language p n) = (section ≤ local) × (language ≤ cxx) × (p + n ≤ length s)
 Lies s (Parent p n) = p + n ≤ length s

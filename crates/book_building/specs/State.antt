@@ -7,6 +7,7 @@ use lib.Dec.{leb, ltb}
 use Rattle.numbers.specs.Limits.{script-limit}
 use Rattle.packing.specs.Padding.{zeroed}
 use Rattle.storing.specs.Keeping.{keep}
+use Rattle.reading_cursors.specs.declared.Event.{Event}
 use Rattle.book.specs.declared.Counts.{Counts}
 use Rattle.book.specs.Books.{edition-of, regular}
 use Rattle.book.specs.Layout.{Buffers, five}
@@ -14,7 +15,11 @@ use Rattle.book.specs.View.{book-of, laid}
 use Rattle.book_building.specs.declared.Progress.{Progress}
 use Rattle.book_building.specs.declared.Taking.{Taking}
 use Rattle.book_building.specs.declared.Taking.the-variants.{On, No}
-use Rattle.book_building.specs.Building.{Building, Taken, on, no, mixed-in-block, take-node, take-kept, take-parent}
+use Rattle.book_building.specs.Building.{Building, Taken, on, no, mixed-in-block, take-event, take-node, take-kept, take-parent}
+
+-- the buffers that an opening fills. A journal is none of them
+abbrev pub four : List ℕ → List ℕ → List ℕ → List ℕ → Buffers
+four n m l q = five n m l q []
 
 -- the counts of what is there so far
 abbrev pub counts-so-far : Progress → Counts
@@ -37,6 +42,10 @@ building g b = record {
 abbrev pub Took : Taken → Taking → Buffers → Type 0
 Took t (On g) b = (t ≡ on (building g b)) × (built g b ≡ true)
 Took t (No n p) b = t ≡ no n p
+
+-- whichever event it is, of the text s, in the buffers b
+abbrev pub Took-event : Progress → List ℕ → Event → Buffers → Taking → Buffers → Type 0
+Took-event g s e b r b′ = Took (take-event b s (building g b) e) r b′
 
 -- the lines and the pool are as they were, whatever they are
 abbrev pub Took-node : Progress → ℕ → List ℕ → List ℕ → List ℕ → Taking → List ℕ → List ℕ → Type 0
@@ -84,9 +93,12 @@ outside-block g = record {
 abbrev pub Clear : List ℕ → Type 0
 Clear l = l ≡ zeroed l
 
--- and those that an opening fills, from n m l q
-pub record Cleared (n m l q n′ m′ l′ q′ : List ℕ) : Type 0 where
-  pub nodes : n′ ≡ zeroed n
-  pub names : m′ ≡ zeroed m
-  pub lines : l′ ≡ zeroed l
-  pub pool : q′ ≡ zeroed q
+abbrev pub All-clear : Buffers → Type 0
+All-clear b = Clear (b .nodes) × Clear (b .names) × Clear (b .lines) × Clear (b .pool)
+
+-- those that an opening fills, cleared
+pub record Cleared (b b′ : Buffers) : Type 0 where
+  pub nodes : b′ .nodes ≡ zeroed (b .nodes)
+  pub names : b′ .names ≡ zeroed (b .names)
+  pub lines : b′ .lines ≡ zeroed (b .lines)
+  pub pool : b′ .pool ≡ zeroed (b .pool)

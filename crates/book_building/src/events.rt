@@ -2,17 +2,16 @@
 // 01, 'Reading', 'The book' and 'Numbers that say no'. It is for a caller who knows how far the book is.
 ghost use mathlib.Core.Path.{_≡_};
 ghost use mathlib.Core.Bool.{true};
-ghost use mathlib.Core.List.{[]};
 ghost use Prim.Native.Nat.{_+_, _*_, _≤_, _<_};
 ghost use lib.ListN.{length};
 ghost use Rattle.linker_script.specs.Parts.{part};
 ghost use Rattle.numbers.specs.Limits.{node-limit, script-limit};
+ghost use Rattle.numbers.specs.Marks.{cxx, local};
 ghost use Rattle.packing.specs.Tables.{packs};
-ghost use Rattle.book.specs.Layout.{five, node-form};
+ghost use Rattle.book.specs.Layout.{node-form};
 ghost use Rattle.book.specs.View.{any-node};
 ghost use Rattle.book_rooms.specs.Rooms.{pool-room};
-ghost use Rattle.book_building.specs.Building.{take-event};
-ghost use Rattle.book_building.specs.State.{Took, Took-line, Took-node, Took-parent, built, building};
+ghost use Rattle.book_building.specs.State.{Took-event, Took-line, Took-node, Took-parent, built, four};
 ghost use Rattle.book_building.specs.Events.{Lies};
 use crate::Progress;
 use crate::Taking;
@@ -50,8 +49,10 @@ fn line_stands(
     lines: &mut [u32],
     pool: &mut [u8],
 ) -> Taking
-    requires { ⌜ (p + n ≤ length (now s)) × (g .pool ≤ pool-room (now pool)) × (0 < g .nodes) × (g .nodes ≤ node-limit) × (section ≤ 1) × (language ≤ 1) ⌝ }
-    ensures { λ r. ⌜ Took-line g p section language (part (now (s .entry)) p n) (now (lines .entry)) (now (pool .entry)) r (now (lines .exit)) (now (pool .exit)) ⌝ }
+    requires { ⌜ (p + n ≤ length (now s)) × (g .pool ≤ pool-room (now pool)) × (0 < g .nodes) × (g .nodes ≤ node-limit)
+        × (section ≤ local) × (language ≤ cxx) ⌝ }
+    ensures { λ r. ⌜ Took-line g p section language (part (now (s .entry)) p n) (now (lines .entry)) (now (pool .entry))
+        r (now (lines .exit)) (now (pool .exit)) ⌝ }
 {
     let end = p + n;
     take_line(g, p, section, language, &s[p..end], lines, pool)
@@ -59,7 +60,8 @@ fn line_stands(
 
 // A named node ends, with the part that names its parent.
 fn node_ends(s: &[u8], p: usize, n: usize, g: Progress, nodes: &mut [u32], names: &[u8]) -> Taking
-    requires { ⌜ (p + n ≤ length (now s)) × (packs node-form any-node (g .nodes) (g .names) (now nodes) (now names) ≡ true) × (0 < g .nodes) × (g .nodes ≤ node-limit) ⌝ }
+    requires { ⌜ (p + n ≤ length (now s)) × (packs node-form any-node (g .nodes) (g .names) (now nodes) (now names) ≡ true)
+        × (0 < g .nodes) × (g .nodes ≤ node-limit) ⌝ }
     ensures { λ r. ⌜ Took-parent g p (part (now (s .entry)) p n) (now (nodes .entry)) (now (names .entry)) r (now (nodes .exit)) ⌝ }
 {
     let end = p + n;
@@ -76,10 +78,9 @@ pub fn take_event(
     lines: &mut [u32],
     pool: &mut [u8],
 ) -> Taking
-    requires { ⌜ (built g (five (now nodes) (now names) (now lines) (now pool) []) ≡ true) × (length (now s) ≤ script-limit) × Lies (now s) e ⌝ }
-    ensures { λ r. ⌜ Took (take-event (five (now (nodes .entry)) (now (names .entry)) (now (lines .entry)) (now (pool .entry)) []) (now (s .entry))
-        (building g (five (now (nodes .entry)) (now (names .entry)) (now (lines .entry)) (now (pool .entry)) [])) e)
-        r (five (now (nodes .exit)) (now (names .exit)) (now (lines .exit)) (now (pool .exit)) []) ⌝ }
+    requires { ⌜ (built g (four (now nodes) (now names) (now lines) (now pool)) ≡ true) × (length (now s) ≤ script-limit) × Lies (now s) e ⌝ }
+    ensures { λ r. ⌜ Took-event g (now (s .entry)) e (four (now (nodes .entry)) (now (names .entry)) (now (lines .entry)) (now (pool .entry)))
+        r (four (now (nodes .exit)) (now (names .exit)) (now (lines .exit)) (now (pool .exit))) ⌝ }
 {
     match e {
         Event::Node { start, len } => node_begins(s, start, len, g, nodes, names),

@@ -1,5 +1,6 @@
-// What each event of a reading makes of a book in lent buffers. Definitions: specs/Building.antt and specs/State.antt, from document 01, 'Reading', 'The book' and
-// 'Numbers that say no'. `take_node` and `take_parent` are for a caller who knows how far the book is. A line is taken in `lines`, and whichever event it is in `events`.
+// What each event of a reading makes of a book in lent buffers. Definitions: specs/Building.antt and specs/State.antt, from document 01, 'Reading', 'The book'
+// and 'Numbers that say no'. `take_node` and `take_parent` are for a caller who knows how far the book is. A line is taken in `lines`, and whichever event it
+// is in `events`.
 ghost use mathlib.Core.Path.{_≡_};
 ghost use mathlib.Core.Bool.{true};
 ghost use Prim.Native.Nat.{_*_, _≤_, _<_};
@@ -9,11 +10,12 @@ ghost use Rattle.packing.specs.Tables.{packs};
 ghost use Rattle.book.specs.Layout.{node-form};
 ghost use Rattle.book.specs.View.{any-node};
 ghost use Rattle.book_building.specs.Building.{mixed-in-block};
-ghost use Rattle.book_building.specs.State.{Cleared, Took-node, Took-parent, inside-block, outside-block};
+ghost use Rattle.book_building.specs.State.{Cleared, Took-node, Took-parent, four, inside-block, outside-block};
 use book::NODE_WIDTH;
 use book::nodes::first_named;
 use copying::put_bytes;
 use copying::put_three;
+use numbers::GLOBAL;
 use numbers::NO_ROOM;
 use numbers::NODE_LIMIT;
 use numbers::UNKNOWN_PARENT;
@@ -43,7 +45,8 @@ pub enum Taking {
 
 // Zeros in the buffers that an opening fills.
 pub fn clear_book(nodes: &mut [u32], names: &mut [u8], lines: &mut [u32], pool: &mut [u8])
-    ensures { λ _. ⌜ Cleared (now (nodes .entry)) (now (names .entry)) (now (lines .entry)) (now (pool .entry)) (now (nodes .exit)) (now (names .exit)) (now (lines .exit)) (now (pool .exit)) ⌝ }
+    ensures { λ _. ⌜ Cleared (four (now (nodes .entry)) (now (names .entry)) (now (lines .entry)) (now (pool .entry)))
+        (four (now (nodes .exit)) (now (names .exit)) (now (lines .exit)) (now (pool .exit))) ⌝ }
 {
     clear_numbers(nodes);
     clear_bytes(names);
@@ -87,7 +90,7 @@ fn mixed_in_block(g: Progress, section: u32) -> bool
     if g.mixed {
         return true;
     }
-    section == 0
+    section == GLOBAL
 }
 
 // An extern block opens.

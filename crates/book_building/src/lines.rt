@@ -3,18 +3,23 @@
 ghost use mathlib.Core.Path.{_≡_};
 ghost use Prim.Native.Nat.{_≤_, _<_};
 ghost use Rattle.numbers.specs.Limits.{node-limit};
+ghost use Rattle.numbers.specs.Marks.{cxx, local};
 ghost use Rattle.book_rooms.specs.Rooms.{pool-room};
 ghost use Rattle.book_building.specs.Building.{mixed-behind, starred-behind};
 ghost use Rattle.book_building.specs.State.{Took-line};
 use crate::Progress;
 use crate::Taking;
-use book::LINE_WIDTH;
 use book::REGULAR;
+use book::codes::code_of;
 use book::editions::edition_of;
+use book::rows::put_line;
 use book_rooms::has_row;
 use book_rooms::put_token;
 use classes::class_number;
-use copying::put_four;
+use numbers::ALL_CLASS;
+use numbers::EXACT_CLASS;
+use numbers::GLOBAL;
+use numbers::LOCAL;
 use numbers::NO_ROOM;
 use storing::Stored;
 
@@ -25,10 +30,10 @@ fn mixed_behind(g: Progress, section: u32, class: u32) -> bool
     if g.mixed {
         return true;
     }
-    if section != 0 {
+    if section != GLOBAL {
         return false;
     }
-    class != 0
+    class != EXACT_CLASS
 }
 
 // Whether a bare `*;` stands among the locals, behind a line of that section and class.
@@ -38,10 +43,10 @@ fn starred_behind(g: Progress, section: u32, class: u32) -> bool
     if g.starred {
         return true;
     }
-    if section != 1 {
+    if section != LOCAL {
         return false;
     }
-    if class != 4 {
+    if class != ALL_CLASS {
         return false;
     }
     !g.inside
@@ -57,7 +62,7 @@ pub fn take_line(
     lines: &mut [u32],
     pool: &mut [u8],
 ) -> Taking
-    requires { ⌜ (g .pool ≤ pool-room (now pool)) × (0 < g .nodes) × (g .nodes ≤ node-limit) × (section ≤ 1) × (language ≤ 1) ⌝ }
+    requires { ⌜ (g .pool ≤ pool-room (now pool)) × (0 < g .nodes) × (g .nodes ≤ node-limit) × (section ≤ local) × (language ≤ cxx) ⌝ }
     ensures { λ r. ⌜ Took-line g p section language (now (token .entry)) (now (lines .entry)) (now (pool .entry)) r (now (lines .exit)) (now (pool .exit)) ⌝ }
 {
     let n = g.lines;
@@ -70,14 +75,8 @@ pub fn take_line(
             }
             let k = class_number(class);
             let node = (g.nodes - 1) as u32;
-            put_four(
-                lines,
-                LINE_WIDTH * n,
-                node,
-                k * 4 + section * 2 + language,
-                at as u32,
-                size as u32,
-            );
+            let code = code_of(k, section, language);
+            put_line(lines, n, node, code, at as u32, size as u32);
             let mixed = mixed_behind(g, section, k);
             let starred = starred_behind(g, section, k);
             Taking::On(Progress {

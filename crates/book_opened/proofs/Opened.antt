@@ -3,7 +3,7 @@
 use Prim.Native.Nat.{ℕ, zero, suc, _+_, _-_, _≤_, _<_}
 use mathlib.Core.Path.{_≡_, refl, _∙_}
 use mathlib.Core.List.{List, []}
-use mathlib.Core.Bool.{Bool, true, false, cond, _||_, true≢false}
+use mathlib.Core.Bool.{Bool, true, false, cond, not, _&&_, _||_, true≢false}
 use native.Mathlib.Omega.{arith}
 use borrow.Author.Tests.{eqb-true, leb-true, ltb-false, not-true}
 use lib.Dec.{eqb, leb, ltb}
@@ -27,7 +27,8 @@ use Rattle.book.specs.Sanity.{kind-allows, kind-good, sane}
 use Rattle.book.specs.View.{Fits}
 use Rattle.book.proofs.Views.{view-of-layout}
 use Rattle.book_building.specs.Building.{Building, Taken, on, no, take-event}
-use Rattle.book_opening.specs.Opening.{Opening, opens, declined, build, build-reading, finished, kind-of, nothing-yet, on-taken, opening, rust-style}
+use Rattle.book_opening.specs.declared.How.{How}
+use Rattle.book_opening.specs.Opening.{Opening, opens, declined, build, build-reading, finished, kind-of, nothing-yet, on-taken, opening}
 use Rattle.book_opened.specs.Opened.{Opened-holds, opens-at}
 use Rattle.book_opened.proofs.KindLines.{kind-fits, kind-sane, regular-allows}
 use Rattle.book_opened.proofs.Soundness.{Holds, Sound, refuses, sound-event, sound-start, takes}
@@ -52,8 +53,11 @@ module _ (place : ℕ) (b : Buffers) (c : Cursor) (g : Building) (t : Sound plac
       let o = t .list h in
       record { allows = o .globals; good = rw (o .one) }
 
-  script-kind : (v : Bool) → rust-style g ≡ v → Kind-good (as-kind (cond v rust regular))
-  unfolding kind-good rust-style
+  abbrev rusty : Bool
+  rusty = eqb (length (g .nodes)) 1 && (g .starred && not (g .mixed))
+
+  script-kind : (v : Bool) → rusty ≡ v → Kind-good (as-kind (cond v rust regular))
+  unfolding kind-good
   script-kind true e =
       let a = both (eqb (length (g .nodes)) 1) _ e in
       let d = both (g .starred) _ (a .1) in
@@ -64,19 +68,19 @@ module _ (place : ℕ) (b : Buffers) (c : Cursor) (g : Building) (t : Sound plac
   unfolding kind-of
   ends-kind = go (eqb place at-list) refl
     where
-      go : (v : Bool) → eqb place at-list ≡ v → Kind-good (as-kind (cond v export (cond (rust-style g) rust regular)))
+      go : (v : Bool) → eqb place at-list ≡ v → Kind-good (as-kind (cond v export (cond rusty rust regular)))
       go true e =
           let z : place ≡ at-list = eqb-true place at-list e in
           list-kind (ltb-false (c .place) at-list (t .side ∙ rw z))
-      go false e = script-kind (rust-style g) refl
+      go false e = script-kind rusty refl
 
   ends-viewable : Viewable b (finished place g)
   ends-viewable =
       let k = ends-kind in
       let o = t .good in
       record {
-        fits = kind-fits b (kind-of place g) (g .nodes) (g .lines) (o .rooms) (o .nodes) (o .lines) (o .stand) (k .allows);
-        sane = kind-sane b (kind-of place g) (g .nodes) (g .lines) (o .rooms) (o .nodes) (o .lines) (o .stand) (k .allows) (k .good);
+        fits = kind-fits b (finished place g .kind) (g .nodes) (g .lines) (o .rooms) (o .nodes) (o .lines) (o .stand) (k .allows);
+        sane = kind-sane b (finished place g .kind) (g .nodes) (g .lines) (o .rooms) (o .nodes) (o .lines) (o .stand) (k .allows) (k .good);
       }
 
 -- ---- the reading
@@ -108,31 +112,33 @@ module _ (place : ℕ) (b : Buffers) (s : List ℕ) (w : Book) where
       go (Refused a p) k f more = absurd (true≢false (cc))
 
 -- ---- the whole
-viewable : (place : ℕ) (b : Buffers) (s : List ℕ) (w : Book) → place < at-symbol → block-place place ≡ false → opening place b s ≡ opens w → Viewable b w
+viewable : (how : How) (b : Buffers) (s : List ℕ) (w : Book) → how .place < at-symbol → block-place (how .place) ≡ false → opening how b s ≡ opens w
+    → Viewable b w
 unfolding opening reading reading-from
-viewable place b s w h k e = go (ltb script-limit (length s)) (leb node-width (length (b .nodes))) refl e
+viewable how b s w h k e = go (ltb script-limit (length s)) (leb node-width (length (b .nodes))) refl e
   where
     go : (x y : Bool) → leb node-width (length (b .nodes)) ≡ y
-        → cond x (declined too-long 0) (cond y (build-reading place b s nothing-yet (reading place s)) (declined no-room 0)) ≡ opens w
+        → cond x (declined too-long 0) (cond y (build-reading (how .place) b s nothing-yet (reading (how .place) s)) (declined no-room 0)) ≡ opens w
         → Viewable b w
     go true y z f = absurd (true≢false (cc))
     go false false z f = absurd (true≢false (cc))
     go false true z f =
-        along place b s w (length s + 2 - start place s .at) (start place s) nothing-yet (sound-start b s place (leb-true _ _ z) h k) f
+        let p = how .place in
+        along p b s w (length s + 2 - start p s .at) (start p s) nothing-yet (sound-start b s p (leb-true _ _ z) h k) f
 
-starts-free : (place : ℕ) → opens-at place ≡ true → (place < at-symbol) × (block-place place ≡ false)
-starts-free place e = go (eqb place at-script) refl e
+starts-free : (how : How) → opens-at how ≡ true → (how .place < at-symbol) × (block-place (how .place) ≡ false)
+starts-free how e = go (how .place) (eqb (how .place) at-script) refl e
   where
-    go : (v : Bool) → eqb place at-script ≡ v → (v || eqb place at-list) ≡ true → (place < at-symbol) × (block-place place ≡ false)
-    go true z f = let q : place ≡ at-script = eqb-true place at-script z in (omega arith, rw q)
-    go false z f = let q : place ≡ at-list = eqb-true place at-list f in (omega arith, rw q)
+    go : (place : ℕ) (v : Bool) → eqb place at-script ≡ v → (v || eqb place at-list) ≡ true → (place < at-symbol) × (block-place place ≡ false)
+    go place true z f = let q : place ≡ at-script = eqb-true place at-script z in (omega arith, rw q)
+    go place false z f = let q : place ≡ at-list = eqb-true place at-list f in (omega arith, rw q)
 
-pub opened-viewable : (place : ℕ) (b : Buffers) (s : List ℕ) (w : Book) → opens-at place ≡ true → opening place b s ≡ opens w → Viewable b w
-opened-viewable place b s w h e =
-    let f = starts-free place h in
-    viewable place b s w (f .0) (f .1) e
+pub opened-viewable : (how : How) (b : Buffers) (s : List ℕ) (w : Book) → opens-at how ≡ true → opening how b s ≡ opens w → Viewable b w
+opened-viewable how b s w h e =
+    let f = starts-free how h in
+    viewable how b s w (f .0) (f .1) e
 
 pub opened-holds : Opened-holds
-opened-holds place b s w h e =
-    let v = opened-viewable place b s w h e in
+opened-holds how b s w h e =
+    let v = opened-viewable how b s w h e in
     view-of-layout b w (v .fits) (v .sane)

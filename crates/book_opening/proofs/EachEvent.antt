@@ -14,6 +14,7 @@ use Rattle.book.specs.Layout.{Buffers}
 use Rattle.book_rooms.specs.Rooms.{line-room, node-room}
 use Rattle.book_building.specs.Building.{Building, Taken, on, no, take-event, take-kept, take-node}
 use Rattle.book_building.specs.Events.{Lies}
+use Rattle.book_opening.specs.declared.How.{How}
 use Rattle.book_opening.specs.Opening.{Opening, build, build-reading, nothing-yet, on-taken, opening}
 
 -- an event of a reading lies in its text
@@ -60,6 +61,8 @@ module _ (b b′ : Buffers) (a : Alike b b′) where
       ap (λ (t : Taken). on-taken t (λ h. build place b s h es o)) (event-alike s g e)
       ∙ same-on (take-event b′ s g e) (λ h. build place b s h es o) (λ h. build place b′ s h es o) (λ h. build-alike place s h es o)
 
-  pub opening-alike : (place : ℕ) (s : List ℕ) → opening place b s ≡ opening place b′ s
+  pub opening-alike : (how : How) (s : List ℕ) → opening how b s ≡ opening how b′ s
   unfolding opening build-reading
-  opening-alike place s = rw (a .nodes, build-alike place s nothing-yet (reading place s .events) (reading place s .outcome))
+  opening-alike how s =
+      let r = reading (how .place) s in
+      rw (a .nodes, build-alike (how .place) s nothing-yet (r .events) (r .outcome))

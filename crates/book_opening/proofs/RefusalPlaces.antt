@@ -26,6 +26,7 @@ use Rattle.book.specs.Layout.{Buffers, node-width}
 use Rattle.book_rooms.specs.Rooms.{line-room, node-room}
 use Rattle.book_building.specs.Building.{Building, Taken, no, on, take-event, take-kept, take-node, take-parent}
 use Rattle.book_building.specs.Events.{Lies}
+use Rattle.book_opening.specs.declared.How.{How}
 use Rattle.book_opening.specs.Opening.{Opening, build, build-reading, declined, nothing-yet, on-taken, opening, opens}
 use Rattle.book_opening.proofs.EachEvent.{parts-lie}
 
@@ -84,14 +85,17 @@ module _ (s : List ℕ) where
         go End z more = tt
         go (Refused n p) z more = standing-refuses s c k n p z .1
 
-    opening-within : Within (opening place b s)
+  module _ (how : How) (b : Buffers) where
+    opening-within : Within (opening how b s)
     unfolding opening reading reading-from
     opening-within = go (ltb script-limit (length s)) (leb node-width (length (b .nodes)))
       where
-        go : (x y : Bool) → Within (cond x (declined too-long 0) (cond y (build-reading place b s nothing-yet (reading place s)) (declined no-room 0)))
+        go : (x y : Bool)
+            → Within (cond x (declined too-long 0) (cond y (build-reading (how .place) b s nothing-yet (reading (how .place) s)) (declined no-room 0)))
         go true y = omega arith
-        go false true = build-within _ (start place s) nothing-yet (start-stands place s) (start-marked place s)
+        go false true =
+            build-within (how .place) b _ (start (how .place) s) nothing-yet (start-stands (how .place) s) (start-marked (how .place) s)
         go false false = omega arith
 
-    pub opening-refuses-within : (n p : ℕ) → opening place b s ≡ declined n p → p ≤ length s
+    pub opening-refuses-within : (n p : ℕ) → opening how b s ≡ declined n p → p ≤ length s
     opening-refuses-within n p e = rw e at opening-within

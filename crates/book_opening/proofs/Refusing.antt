@@ -16,8 +16,8 @@ use Rattle.pattern.specs.Patterns.{refusal, shaped-from}
 use Rattle.pattern.specs.Storing.{stored}
 use Rattle.classes.specs.declared.Class.{Class}
 use Rattle.classes.specs.declared.Class.the-variants.{Exact, Escaped, NonStar, Star, All}
-use Rattle.classes.specs.Classes.{lone-star, quoted, scan, unquoted}
-use Rattle.storing.specs.Keeping.{Keep, kept, refused, keep, keep-as, keep-class, keep-glob, keep-scanned, keep-when}
+use Rattle.classes.specs.Classes.{class-of}
+use Rattle.storing.specs.Keeping.{Keep, kept, refused, inside-kept, keep, keep-as, keep-glob, keep-when}
 use Rattle.reading_cursors.specs.declared.Event.{Event}
 use Rattle.reading_cursors.specs.declared.Event.the-variants.{Node, Body, Section, Extern, Closed, Line, Parent}
 use Rattle.reading.specs.Events.{Outcome, accepted, reading}
@@ -27,6 +27,7 @@ use Rattle.book.specs.Books.{edition-of, first-named, regular}
 use Rattle.book.specs.Layout.{Buffers, node-width}
 use Rattle.book_rooms.specs.Rooms.{line-room, node-room}
 use Rattle.book_building.specs.Building.{Building, Taken, no, on, take-event, take-kept, take-node, take-parent}
+use Rattle.book_opening.specs.declared.How.{How}
 use Rattle.book_opening.specs.Opening.{Opening, build, build-reading, declined, ended, nothing-yet, on-taken, opening, opens}
 
 -- a number of a refused opening
@@ -65,15 +66,12 @@ as-says e Star t = glob-says e Star t
 as-says e All t = tt
 
 keep-says : (e : Edition) (t : List ℕ) → Kept-says (keep e t)
-unfolding keep keep-class keep-scanned
-keep-says e t = go (over token-limit t) (quoted t) (lone-star t)
+unfolding keep
+keep-says e t = go (over token-limit t)
   where
-    go : (x y z : Bool)
-        → Kept-says (cond x (refused too-long) (cond y (kept Exact (unquoted t)) (cond z (kept All []) (keep-as e (scan Exact false t) t))))
-    go true y z = (omega arith, omega arith)
-    go false true z = tt
-    go false false true = tt
-    go false false false = as-says e (scan Exact false t) t
+    go : (x : Bool) → Kept-says (cond x (refused too-long) (keep-as e (class-of t) (inside-kept t)))
+    go true = (omega arith, omega arith)
+    go false = as-says e (class-of t) (inside-kept t)
 
 when-says : (t : Bool) (g : Building) (n p : ℕ) → Says n → Taken-says (cond t (on g) (no n p))
 when-says true g n p h = tt
@@ -139,15 +137,17 @@ build-says place b s g [] o h = ended-says place g o h
 build-says place b s g (e ∷ es) o h =
     on-says (take-event b s g e) (λ x. build place b s x es o) (event-says b s g e) (λ x. build-says place b s x es o h)
 
-opening-says : (place : ℕ) (b : Buffers) (s : List ℕ) → Says-declined (opening place b s)
+opening-says : (how : How) (b : Buffers) (s : List ℕ) → Says-declined (opening how b s)
 unfolding opening build-reading
-opening-says place b s = go (ltb script-limit (length s)) (leb node-width (length (b .nodes)))
+opening-says how b s = go (ltb script-limit (length s)) (leb node-width (length (b .nodes)))
   where
     go : (x y : Bool)
-        → Says-declined (cond x (declined too-long 0) (cond y (build place b s nothing-yet (reading place s .events) (reading place s .outcome)) (declined no-room 0)))
+        → Says-declined (cond x (declined too-long 0) (cond y (build-reading (how .place) b s nothing-yet (reading (how .place) s)) (declined no-room 0)))
     go true y = (omega arith, omega arith)
-    go false true = build-says place b s nothing-yet (reading place s .events) (reading place s .outcome) (outcome-says place s)
+    go false true =
+        let r = reading (how .place) s in
+        build-says (how .place) b s nothing-yet (r .events) (r .outcome) (outcome-says (how .place) s)
     go false false = (omega arith, omega arith)
 
-pub opening-refuses : (place : ℕ) (b : Buffers) (s : List ℕ) (n p : ℕ) → opening place b s ≡ declined n p → (1 ≤ n) × (n ≤ 8)
-opening-refuses place b s n p e = rw e at (opening-says place b s)
+pub opening-refuses : (how : How) (b : Buffers) (s : List ℕ) (n p : ℕ) → opening how b s ≡ declined n p → (1 ≤ n) × (n ≤ 8)
+opening-refuses how b s n p e = rw e at (opening-says how b s)

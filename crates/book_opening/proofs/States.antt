@@ -12,14 +12,13 @@ use Rattle.packing.proofs.PaddingLaws.{pad-nil}
 use Rattle.packing.proofs.Packings.{packs-from}
 use Rattle.book.specs.declared.Counts.{Counts}
 use Rattle.book.specs.Books.{no-node, regular}
-use Rattle.book.specs.Layout.{counts-of, five, laid-out, line-form, node-form, node-width}
+use Rattle.book.specs.Layout.{counts-of, laid-out, line-form, node-form, node-width}
 use Rattle.book.specs.View.{book-of}
 use Rattle.book.proofs.Forms.{line-laws, node-laws}
 use Rattle.book_building.specs.declared.Progress.{Progress}
-use Rattle.book_building.specs.State.{building, built}
+use Rattle.book_building.specs.State.{Clear, building, built, four}
 use Rattle.book_building.proofs.States.{State, is-state, state-is}
-use Rattle.book_opening.specs.Opening.{finished, kind-of, nothing-yet, rust-style}
-use Rattle.book_opening.specs.State.{kind-told}
+use Rattle.book_opening.specs.Opening.{finished, kind-of, nothing-yet}
 
 -- ---- nothing is there but node 0, in cleared buffers
 abbrev pub none-yet : Progress
@@ -32,7 +31,7 @@ zero-row n e h = e ∙ go (length n) h
     go : (k : ℕ) → 3 ≤ k → zeros k ≡ pad k (0 ∷ 0 ∷ 0 ∷ [])
     go k j = let z : k ≡ suc (suc (suc (k - 3))) = omega arith in ap zeros z
 
-module _ (n m l q : List ℕ) (a : n ≡ zeros (length n)) (b : m ≡ zeros (length m)) (c : l ≡ zeros (length l)) (d : q ≡ zeros (length q)) (h : node-width ≤ length n) where
+module _ (n m l q : List ℕ) (a : Clear n) (b : Clear m) (c : Clear l) (d : Clear q) (h : node-width ≤ length n) where
   pub starts : State none-yet n m l q (no-node ∷ []) []
   unfolding node-form line-form rows packed every
   starts = record {
@@ -41,24 +40,27 @@ module _ (n m l q : List ℕ) (a : n ≡ zeros (length n)) (b : m ≡ zeros (len
     lines = packs-from line-form (line-laws regular 1) 0 0 (length l) (length q) l q [] refl refl refl (c ∙ pad-nil (length l)) (d ∙ pad-nil (length q)) (omega arith) (omega arith);
   }
 
-  pub starts-built : (building none-yet (five n m l q []) ≡ nothing-yet) × (built none-yet (five n m l q []) ≡ true)
+  pub starts-built : (building none-yet (four n m l q) ≡ nothing-yet) × (built none-yet (four n m l q) ≡ true)
   unfolding nothing-yet
   starts-built = state-is none-yet n m l q (no-node ∷ []) [] starts
 
 -- ---- the end
-module _ (place : ℕ) (g : Progress) (n m l q : List ℕ) (e : built g (five n m l q []) ≡ true) where
-  -- the kind is that of the book so far
-  pub kind-is : kind-told place g ≡ kind-of place (building g (five n m l q []))
-  unfolding kind-of rust-style building book-of
-  kind-is = let t = is-state g n m l q e in rw (← t .nodes .count)
-
-  pub finished-counts : (r : Counts) → r ≡ record { kind = kind-told place g; nodes = g .nodes; names = g .names; lines = g .lines; pool = g .pool; edits = 0 }
-      → r ≡ counts-of (finished place (building g (five n m l q [])))
+module _ (place : ℕ) (g : Progress) (n m l q : List ℕ) (e : built g (four n m l q) ≡ true) where
+  pub finished-counts : (r : Counts)
+      → r ≡ record {
+        kind = kind-of place (g .nodes) (g .starred) (g .mixed);
+        nodes = g .nodes;
+        names = g .names;
+        lines = g .lines;
+        pool = g .pool;
+        edits = 0;
+      }
+      → r ≡ counts-of (finished place (building g (four n m l q)))
   unfolding counts-of building book-of
   finished-counts r k =
       let t = is-state g n m l q e in
       k ∙ (λ i. record {
-        kind = kind-is i;
+        kind = kind-of place (t .nodes .count i) (g .starred) (g .mixed);
         nodes = t .nodes .count i;
         names = t .nodes .total i;
         lines = t .lines .count i;
@@ -66,7 +68,7 @@ module _ (place : ℕ) (g : Progress) (n m l q : List ℕ) (e : built g (five n 
         edits = 0;
       })
 
-  pub finished-layout : five n m l q [] ≡ laid-out (five n m l q []) (finished place (building g (five n m l q [])))
+  pub finished-layout : four n m l q ≡ laid-out (four n m l q) (finished place (building g (four n m l q)))
   unfolding laid-out building book-of pad rows
   finished-layout =
       let t = is-state g n m l q e in

@@ -1,21 +1,21 @@
 // The events of a reading, one by one, and what is answered behind the last.
 ghost use mathlib.Core.Path.{_≡_};
-ghost use mathlib.Core.List.{[]};
 ghost use Prim.Native.Nat.{_*_, _≤_};
 ghost use lib.ListN.{length};
 ghost use Rattle.numbers.specs.Limits.{line-limit, node-limit, pool-limit, script-limit};
-ghost use Rattle.reading.specs.Events.{reading};
-ghost use Rattle.book.specs.Layout.{five, node-width};
-ghost use Rattle.book_building.specs.State.{Clear};
-ghost use Rattle.book_opening.specs.Opening.{build-reading, declined, nothing-yet, opening, told};
-ghost use Rattle.book_opening.specs.State.{Ended, Filled, Finished, kind-told};
+ghost use Rattle.book.specs.Layout.{node-width};
+ghost use Rattle.book_building.specs.State.{All-clear, four};
+ghost use Rattle.book_opening.specs.Opening.{declined, kind-of, told};
+ghost use Rattle.book_opening.specs.State.{Builds, Finished, Opens};
 use crate::Built;
+use crate::How;
 use crate::Opened;
 use book::Counts;
 use book::EXPORT;
 use book::NODE_WIDTH;
 use book::REGULAR;
 use book::RUST;
+use book::no_counts;
 use book_building::Progress;
 use book_building::Taking;
 use book_building::clear_book;
@@ -34,19 +34,12 @@ fn refused(refusal: u32, place: usize) -> Opened
     Opened {
         refusal,
         place,
-        counts: Counts {
-            kind: 0,
-            nodes: 0,
-            names: 0,
-            lines: 0,
-            pool: 0,
-            edits: 0,
-        },
+        counts: no_counts(),
     }
 }
 
 fn kind_of(place: u32, g: Progress) -> u32
-    ensures { λ r. ⌜ r ≡ kind-told place g ⌝ }
+    ensures { λ r. ⌜ r ≡ kind-of place (g .nodes) (g .starred) (g .mixed) ⌝ }
 {
     if place == AT_LIST {
         return EXPORT;
@@ -87,10 +80,9 @@ fn build(
     lines: &mut [u32],
     pool: &mut [u8],
 ) -> Built
-    requires { ⌜ (length (now s) ≤ script-limit) × (node-width ≤ length (now nodes)) × Clear (now nodes) × Clear (now names) × Clear (now lines) × Clear (now pool) ⌝ }
-    ensures { λ r. ⌜ Ended (build-reading place (five (now (nodes .entry)) (now (names .entry)) (now (lines .entry)) (now (pool .entry)) []) (now (s .entry)) nothing-yet (reading place (now (s .entry))))
-        r (five (now (nodes .entry)) (now (names .entry)) (now (lines .entry)) (now (pool .entry)) [])
-        (five (now (nodes .exit)) (now (names .exit)) (now (lines .exit)) (now (pool .exit)) []) ⌝ }
+    requires { ⌜ (length (now s) ≤ script-limit) × (node-width ≤ length (now nodes)) × All-clear (four (now nodes) (now names) (now lines) (now pool)) ⌝ }
+    ensures { λ r. ⌜ Builds place (four (now (nodes .entry)) (now (names .entry)) (now (lines .entry)) (now (pool .entry))) (now (s .entry))
+        r (four (now (nodes .exit)) (now (names .exit)) (now (lines .exit)) (now (pool .exit))) ⌝ }
 {
     let mut c = start_at(place, s);
     let mut g = Progress {
@@ -125,17 +117,16 @@ fn build(
 
 // What is answered: "opening starts with 1 and row 0's room", and what is refused leaves nothing.
 pub(crate) fn fill(
-    place: u32,
+    how: How,
     s: &[u8],
     nodes: &mut [u32],
     names: &mut [u8],
     lines: &mut [u32],
     pool: &mut [u8],
 ) -> Opened
-    requires { ⌜ Clear (now nodes) × Clear (now names) × Clear (now lines) × Clear (now pool) ⌝ }
-    ensures { λ r. ⌜ Filled (opening place (five (now (nodes .entry)) (now (names .entry)) (now (lines .entry)) (now (pool .entry)) []) (now (s .entry)))
-        r (five (now (nodes .entry)) (now (names .entry)) (now (lines .entry)) (now (pool .entry)) [])
-        (five (now (nodes .exit)) (now (names .exit)) (now (lines .exit)) (now (pool .exit)) []) ⌝ }
+    requires { ⌜ All-clear (four (now nodes) (now names) (now lines) (now pool)) ⌝ }
+    ensures { λ r. ⌜ Opens how (four (now (nodes .entry)) (now (names .entry)) (now (lines .entry)) (now (pool .entry))) (now (s .entry))
+        r (four (now (nodes .exit)) (now (names .exit)) (now (lines .exit)) (now (pool .exit))) ⌝ }
 {
     if SCRIPT_LIMIT < s.len() {
         return refused(TOO_LONG, 0);
@@ -143,7 +134,7 @@ pub(crate) fn fill(
     if nodes.len() < NODE_WIDTH {
         return refused(NO_ROOM, 0);
     }
-    match build(place, s, nodes, names, lines, pool) {
+    match build(how.place, s, nodes, names, lines, pool) {
         Built::Done(counts) => Opened {
             refusal: 0,
             place: 0,

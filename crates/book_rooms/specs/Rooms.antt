@@ -1,18 +1,16 @@
 -- Whether a row or bytes more have room in lent buffers and are within their limits: "a row, byte or journal limit or room would be passed" is 8. Assumes
 -- nothing.
-use Prim.Native.Nat.{ℕ, _+_, _*_, _≤_, _<_}
+use Prim.Native.Nat.{ℕ, _+_, _-_, _*_}
 use mathlib.Core.Path.{_≡_}
-use mathlib.Core.List.{List}
+use mathlib.Core.List.{List, _++_}
 use mathlib.Core.Bool.{Bool, cond, _&&_}
 use lib.Dec.{leb, ltb}
-use lib.ListN.{length}
-use lib.Seq.{paste}
+use lib.ListN.{length, take, drop}
 use Rattle.numbers.specs.Limits.{edit-limit, line-limit, node-limit, over, pool-limit}
-use Rattle.numbers.specs.Refusals.{no-room}
 use Rattle.packing.specs.Tables.{packed}
 use Rattle.storing.specs.declared.Stored.{Stored}
-use Rattle.storing.specs.declared.Stored.the-variants as stored
-use Rattle.storing.specs.Keeping.{Keep, kept, refused}
+use Rattle.storing.specs.Keeping.{Keep}
+use Rattle.storing.specs.Answers.{keep-answer, keep-buffer}
 use Rattle.book.specs.Books.{Edit, Line, Node}
 use Rattle.book.specs.Layout.{Buffers, edit-width, line-form, line-width, node-form, node-width}
 
@@ -37,12 +35,13 @@ pool-room q = cond (over pool-limit q) pool-limit (length q)
 unfoldable pub line-room : Buffers → List Line → List ℕ → Bool
 line-room b xs bs = fits-row (b .lines) (length xs) && leb (length (packed line-form xs) + length bs) (pool-room (b .pool))
 
--- what is kept of a token, put into the pool q from `at` on where it can be. A refusal leaves the pool as it was
+-- what is kept of a token, put into the pool q from `at` on: as storing answers it and leaves it in the part that can be filled
+abbrev pub open-part : List ℕ → ℕ → List ℕ
+open-part q at = take (pool-room q - at) (drop at q)
+
 abbrev pub Put : Keep → List ℕ → ℕ → Stored → List ℕ → Type 0
-Put (kept k bs) q at r q′ =
-    (at + length bs ≤ pool-room q → (r ≡ stored.As k (length bs)) × (q′ ≡ paste q at bs (length bs)))
-    × (pool-room q < at + length bs → (r ≡ stored.Refused no-room) × (q′ ≡ q))
-Put (refused n) q at r q′ = (r ≡ stored.Refused n) × (q′ ≡ q)
+Put x q at r q′ =
+    (r ≡ keep-answer x (length (open-part q at))) × (q′ ≡ take at q ++ (keep-buffer x (open-part q at) ++ drop (pool-room q) q))
 
 -- ---- an edit more: a row for edit i of the journal j
 abbrev pub edit-row : List ℕ → ℕ → Bool

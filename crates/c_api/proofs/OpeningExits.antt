@@ -12,6 +12,7 @@ use Rattle.numbers.specs.Limits.{script-limit}
 use Rattle.numbers.specs.Refusals.{no-room, too-long}
 use Rattle.packing.specs.Padding.{zeros}
 use Rattle.book.specs.Layout.{Buffers, five}
+use Rattle.book_opening.specs.declared.How.{How}
 use Rattle.book_opening.specs.declared.Opened.{Opened}
 use Rattle.book_opening.specs.Opening.{Opening, cleared, declined, left, opening, opens, told}
 use Rattle.book_opening.proofs.RefusalPlaces.{opening-refuses-within}
@@ -21,10 +22,10 @@ use Rattle.c_lending.specs.Calls.{Opens, counts-left, counts-put, counts-row, o
 abbrev Tells : List ℕ → Buffers → Opening → ℕ → List ℕ → Buffers → Type 0
 Tells l b o r l′ b′ = (r ≡ opening-told o) × (l′ ≡ counts-left l o) × (b′ ≡ left b o)
 
-module _ (place : ℕ) (l : List ℕ) (b : Buffers) (s : List ℕ) where
+module _ (how : How) (l : List ℕ) (b : Buffers) (s : List ℕ) where
   -- ---- counts that are not six numbers: all is cleared
   pub uncounted : (length l ≡ 6 → ⊥) → (r : ℕ) (l′ : List ℕ) (b′ : Buffers) → r ≡ cond (ltb script-limit (length s)) too-long no-room
-      → l′ ≡ zeros (length l) → b′ ≡ cleared b → Opens place l b s r l′ b′
+      → l′ ≡ zeros (length l) → b′ ≡ cleared b → Opens how l b s r l′ b′
   unfolding Opens opening-with opening-told told counts-left left
   uncounted h r l′ b′ x y z = rw (ne-eqb (length l) 6 h) (go (ltb script-limit (length s)) x)
     where
@@ -33,7 +34,7 @@ module _ (place : ℕ) (l : List ℕ) (b : Buffers) (s : List ℕ) where
       go false x = (x, y, z)
 
   -- ---- six numbers: the text is opened, and a is what the opening answers
-  six-opens : length l ≡ 6 → opening-with place l b s ≡ opening place b s
+  six-opens : length l ≡ 6 → opening-with how l b s ≡ opening how b s
   unfolding opening-with opening
   six-opens k = rw (eq-eqb (length l) 6 k) (go (ltb script-limit (length s)) _ _)
     where
@@ -41,24 +42,24 @@ module _ (place : ℕ) (l : List ℕ) (b : Buffers) (s : List ℕ) where
       go true x y = refl
       go false x y = refl
 
-  module _ (a : Opened) (e : a ≡ told (opening place b s)) where
+  module _ (a : Opened) (e : a ≡ told (opening how b s)) where
     -- its place is one of a text that is not too long
     pub place-few : a .place ≤ script-limit
     unfolding told opening
     place-few = rw e (go (ltb script-limit (length s)) refl)
       where
-        few : (o : Opening) → length s ≤ script-limit → opening place b s ≡ o → told o .place ≤ script-limit
+        few : (o : Opening) → length s ≤ script-limit → opening how b s ≡ o → told o .place ≤ script-limit
         few (opens w) h z = omega arith
-        few (declined n p) h z = omega (arith, opening-refuses-within s place b n p z)
+        few (declined n p) h z = omega (arith, opening-refuses-within s how b n p z)
 
-        go : (t : Bool) → ltb script-limit (length s) ≡ t → told (opening place b s) .place ≤ script-limit
+        go : (t : Bool) → ltb script-limit (length s) ≡ t → told (opening how b s) .place ≤ script-limit
         go true z = rw z (omega arith)
-        go false z = few (opening place b s) (ltb-false script-limit (length s) z) refl
+        go false z = few (opening how b s) (ltb-false script-limit (length s) z) refl
 
     pub opening-done : length l ≡ 6 → (r : ℕ) (l′ : List ℕ) (b′ : Buffers) → r ≡ a .refusal + 256 * a .place → l′ ≡ counts-put l (a .counts)
-        → b′ ≡ left b (opening place b s) → Opens place l b s r l′ b′
+        → b′ ≡ left b (opening how b s) → Opens how l b s r l′ b′
     unfolding Opens told opening-told counts-left
-    opening-done k r l′ b′ x y z = rw (six-opens k) (go (opening place b s) (rw e at x) (rw (e, eq-eqb (length l) 6 k) at y) z)
+    opening-done k r l′ b′ x y z = rw (six-opens k) (go (opening how b s) (rw e at x) (rw (e, eq-eqb (length l) 6 k) at y) z)
       where
         go : (o : Opening) → r ≡ told o .refusal + 256 * told o .place → l′ ≡ counts-row (told o .counts) → b′ ≡ left b o → Tells l b o r l′ b′
         go (opens w) x y z = (x, y, z)

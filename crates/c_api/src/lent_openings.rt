@@ -9,6 +9,7 @@ ghost use Rattle.packing.specs.Padding.{zeroed};
 ghost use Rattle.book.specs.Layout.{five};
 ghost use Rattle.book_opening.specs.Opening.{cleared};
 ghost use Rattle.c_lending.specs.Calls.{Opens, counts-put};
+use book_opening::How;
 use book_opening::Opened;
 use c_lending::COUNTS;
 use c_lending::put_counts;
@@ -58,9 +59,9 @@ fn told(r: Opened, counts: &mut [u32]) -> u64
     (r.refusal as u64) + 256 * (r.place as u64)
 }
 
-// A text opened from a place of the reader: that of a version script, or of an export list.
+// A text opened: a version script, or an export list.
 pub fn open_lent(
-    place: u32,
+    how: How,
     text: &[u8],
     counts: &mut [u32],
     nodes: &mut [u32],
@@ -69,7 +70,7 @@ pub fn open_lent(
     pool: &mut [u8],
     journal: &mut [u32],
 ) -> u64
-    ensures { λ r. ⌜ Opens place (now (counts .entry)) (five (now (nodes .entry)) (now (names .entry)) (now (lines .entry)) (now (pool .entry)) (now (journal .entry))) (now (text .entry))
+    ensures { λ r. ⌜ Opens how (now (counts .entry)) (five (now (nodes .entry)) (now (names .entry)) (now (lines .entry)) (now (pool .entry)) (now (journal .entry))) (now (text .entry))
         r (now (counts .exit)) (five (now (nodes .exit)) (now (names .exit)) (now (lines .exit)) (now (pool .exit)) (now (journal .exit))) ⌝ }
 {
     if counts.len() != COUNTS {
@@ -77,7 +78,7 @@ pub fn open_lent(
         return without_counts(text);
     }
     told(
-        book_opening::open(place, text, nodes, names, lines, pool, journal),
+        book_opening::open(how, text, nodes, names, lines, pool, journal),
         counts,
     )
 }

@@ -1,9 +1,8 @@
 // Opening a text into lent buffers.
-ghost use Rattle.reading_cursors.specs.Places.{at-list, at-script};
 ghost use Rattle.book.specs.Layout.{five};
+ghost use Rattle.book_opening.specs.Opening.{as-list, as-script};
 ghost use Rattle.c_lending.specs.Calls.{Opens};
-use reading_cursors::places::AT_LIST;
-use reading_cursors::places::AT_SCRIPT;
+use book_opening::How;
 
 #[no_mangle]
 pub extern "C" fn tuno_open_version_script(
@@ -15,10 +14,19 @@ pub extern "C" fn tuno_open_version_script(
     pool: &mut [u8],
     journal: &mut [u32],
 ) -> u64
-    ensures { λ r. ⌜ Opens at-script (now (counts .entry)) (five (now (nodes .entry)) (now (names .entry)) (now (lines .entry)) (now (pool .entry)) (now (journal .entry))) (now (text .entry))
+    ensures { λ r. ⌜ Opens as-script (now (counts .entry)) (five (now (nodes .entry)) (now (names .entry)) (now (lines .entry)) (now (pool .entry)) (now (journal .entry))) (now (text .entry))
         r (now (counts .exit)) (five (now (nodes .exit)) (now (names .exit)) (now (lines .exit)) (now (pool .exit)) (now (journal .exit))) ⌝ }
 {
-    crate::lent_openings::open_lent(AT_SCRIPT, text, counts, nodes, names, lines, pool, journal)
+    crate::lent_openings::open_lent(
+        How::SCRIPT,
+        text,
+        counts,
+        nodes,
+        names,
+        lines,
+        pool,
+        journal,
+    )
 }
 
 #[no_mangle]
@@ -31,8 +39,8 @@ pub extern "C" fn tuno_open_export_list(
     pool: &mut [u8],
     journal: &mut [u32],
 ) -> u64
-    ensures { λ r. ⌜ Opens at-list (now (counts .entry)) (five (now (nodes .entry)) (now (names .entry)) (now (lines .entry)) (now (pool .entry)) (now (journal .entry))) (now (text .entry))
+    ensures { λ r. ⌜ Opens as-list (now (counts .entry)) (five (now (nodes .entry)) (now (names .entry)) (now (lines .entry)) (now (pool .entry)) (now (journal .entry))) (now (text .entry))
         r (now (counts .exit)) (five (now (nodes .exit)) (now (names .exit)) (now (lines .exit)) (now (pool .exit)) (now (journal .exit))) ⌝ }
 {
-    crate::lent_openings::open_lent(AT_LIST, text, counts, nodes, names, lines, pool, journal)
+    crate::lent_openings::open_lent(How::LIST, text, counts, nodes, names, lines, pool, journal)
 }

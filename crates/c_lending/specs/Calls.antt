@@ -14,6 +14,7 @@ use Rattle.book.specs.declared.Counts.{Counts}
 use Rattle.book.specs.Books.{Book}
 use Rattle.book.specs.Layout.{Buffers, counts-of}
 use Rattle.book.specs.View.{view}
+use Rattle.book_opening.specs.declared.How.{How}
 use Rattle.book_opening.specs.Opening.{Opening, opens, declined, left, opening, told}
 use Rattle.trial.specs.declared.Edited.{Edited}
 use Rattle.trial.specs.declared.Edited.the-variants as answer
@@ -49,8 +50,8 @@ abbrev pub flag : ℕ → Bool
 flag n = not (eqb n 0)
 
 -- ---- opening: behind the text's own 1, counts that are not six numbers, fewer or more, are no room for the counts (8)
-unfoldable pub opening-with : ℕ → List ℕ → Buffers → List ℕ → Opening
-opening-with place l b s = cond (over script-limit s) (declined too-long 0) (cond (six l) (opening place b s) (declined no-room 0))
+unfoldable pub opening-with : How → List ℕ → Buffers → List ℕ → Opening
+opening-with how l b s = cond (over script-limit s) (declined too-long 0) (cond (six l) (opening how b s) (declined no-room 0))
 
 -- 0, or the number with 256 times its place
 unfoldable pub opening-told : Opening → ℕ
@@ -62,9 +63,9 @@ counts-left l (opens w) = counts-row (counts-of w)
 counts-left l (declined n p) = zeroed l
 
 -- what an opening of the text s leaves: r answered, the counts l′ and the buffers b′
-unfoldable pub Opens : ℕ → List ℕ → Buffers → List ℕ → ℕ → List ℕ → Buffers → Type 0
-Opens place l b s r l′ b′ =
-    (r ≡ opening-told (opening-with place l b s)) × (l′ ≡ counts-left l (opening-with place l b s)) × (b′ ≡ left b (opening-with place l b s))
+unfoldable pub Opens : How → List ℕ → Buffers → List ℕ → ℕ → List ℕ → Buffers → Type 0
+Opens how l b s r l′ b′ =
+    (r ≡ opening-told (opening-with how l b s)) × (l′ ≡ counts-left l (opening-with how l b s)) × (b′ ≡ left b (opening-with how l b s))
 
 -- ---- a question that is refused with n, or answered where n is 0 with the value v into `out`, which is refused last where it has no room
 unfoldable pub number-told : ℕ → List ℕ → ℕ

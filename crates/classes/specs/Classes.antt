@@ -58,6 +58,10 @@ scan k false (c ∷ s) = cond (eqb c asterisk) Star (scan (scanned k c) (eqb c b
 unfoldable pub sign : ℕ → Bool
 sign c = eqb c asterisk || (eqb c backslash || nonstar c)
 
+-- without a look at quotes
+abbrev pub class-unquoted : List ℕ → Class
+class-unquoted t = cond (lone-star t) All (scan Exact false t)
+
 -- "In order"
 unfoldable pub class-of : List ℕ → Class
-class-of t = cond (quoted t) Exact (cond (lone-star t) All (scan Exact false t))
+class-of t = cond (quoted t) Exact (class-unquoted t)

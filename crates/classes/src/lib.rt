@@ -4,6 +4,11 @@ ghost use mathlib.Core.Bool.{cond, false};
 ghost use Prim.Native.Nat.{_+_, _≤_};
 ghost use lib.ListN.{drop, length};
 ghost use Rattle.classes.specs.Classes.{class-number, class-of, escaped, lone-star, nonstar, quoted, scan, scanned, sign};
+use numbers::ALL_CLASS;
+use numbers::ESCAPED_CLASS;
+use numbers::EXACT_CLASS;
+use numbers::NONSTAR_CLASS;
+use numbers::STAR_CLASS;
 
 // The classes of 01. Their numbers are `class-number` of specs/Classes.antt.
 pub enum Class {
@@ -19,11 +24,11 @@ pub fn class_number(class: Class) -> u32
     ensures { λ r. ⌜ r ≡ class-number class ⌝ }
 {
     match class {
-        Class::Exact => 0,
-        Class::Escaped => 1,
-        Class::NonStar => 2,
-        Class::Star => 3,
-        Class::All => 4,
+        Class::Exact => EXACT_CLASS,
+        Class::Escaped => ESCAPED_CLASS,
+        Class::NonStar => NONSTAR_CLASS,
+        Class::Star => STAR_CLASS,
+        Class::All => ALL_CLASS,
     }
 }
 

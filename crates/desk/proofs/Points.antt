@@ -10,11 +10,10 @@ use Rattle.utf8.specs.Utf8.{scalar, character, none, when, tail, two, three, fo
 use Rattle.pattern.specs.Patterns.{holds, some-holds, member, inside, between, takes, bracketed, opened, element, elements, ended, first, somewhere, matches, adjacent-from, shaped-from, refusal}
 use Rattle.pattern.specs.Storing.{stored-byte, negated-from, stored}
 use Rattle.classes.specs.Classes.{quoted, unquoted, lone-star, nonstar, scanned, scan, class-of}
-use Rattle.storing.specs.Keeping.{unescaped, unescape, keep-when, keep-glob, keep-as, keep-scanned, keep-class, keep}
+use Rattle.storing.specs.Keeping.{unescaped, unescape, keep-when, keep-glob, keep-as, inside-kept, keep}
 use Rattle.linker_script.specs.Finding.{first-in, first-from, last-in, last-close}
 use Rattle.linker_script.specs.Skip.{blank, move, skip-past, skip}
 use Rattle.linker_script.specs.Trim.{white, trim-end}
-use Rattle.reading_cursors.specs.Places.{at-list, at-script}
 use Rattle.reading_cursors.specs.Moves.{start}
 use Rattle.reading_tokens.specs.Tokens.{begins, named, name-in, to-semicolon, to-brace, extern-end, bare-extern-end, bare-end, bare-skip}
 use Rattle.reading_matchers.specs.Matchers.{line-to, extern-open, extern-at, extern-inside, in-extern, in-bare, matcher, bare-line, bare-matcher}
@@ -32,7 +31,7 @@ use Rattle.book.specs.View.{book-of, laid, view, within-limits}
 use Rattle.book.specs.View as view
 use Rattle.book_rooms.specs.Rooms.{edit-room, line-room, node-room}
 use Rattle.book_building.specs.Building.{take-event, take-kept, take-node, take-parent}
-use Rattle.book_opening.specs.Opening.{Opening, build, build-reading, cleared, kind-of, left, nothing-yet, opening, rust-style, told}
+use Rattle.book_opening.specs.Opening.{Opening, as-list, as-script, build, build-reading, cleared, kind-of, left, nothing-yet, opening, told}
 use Rattle.ranking.specs.Matching.{class-matches, line-matches, seen}
 use Rattle.ranking.specs.Names.{bad-name, long-name, name-refusal}
 use Rattle.ranking.specs.Walk.{deciding, exact-of, exact-stages, first-line, glob-of, glob-stages, stages, walk}
@@ -67,13 +66,13 @@ abbrev rooms : ℕ → ℕ → ℕ → ℕ → ℕ → Buffers
 rooms nodes names lines pool edits = five (zeros (node-width * nodes)) (zeros names) (zeros (line-width * lines)) (zeros pool) (zeros (edit-width * edits))
 
 abbrev script : Step
-script = behind (rooms 2 1 3 2 3) (opening at-script (rooms 2 1 3 2 3) (codes "V { global: a; local: *; };\n"))
+script = behind (rooms 2 1 3 2 3) (opening as-script (rooms 2 1 3 2 3) (codes "V { global: a; local: *; };\n"))
 
 abbrev export-list : Step
-export-list = behind (rooms 1 0 4 4 3) (opening at-list (rooms 1 0 4 4 3) (codes "{ f; };"))
+export-list = behind (rooms 1 0 4 4 3) (opening as-list (rooms 1 0 4 4 3) (codes "{ f; };"))
 
 abbrev no-book : Step
-no-book = behind (rooms 0 0 0 0 0) (opening at-script (rooms 0 0 0 0 0) (codes ""))
+no-book = behind (rooms 0 0 0 0 0) (opening as-script (rooms 0 0 0 0 0) (codes ""))
 
 abbrev on-script : List (String × String)
 on-script =
@@ -131,7 +130,7 @@ unfolding pieces pieces-past sound sound-past same
     holds some-holds member inside between takes bracketed opened element elements ended first somewhere matches adjacent-from shaped-from refusal
     stored-byte negated-from stored
     quoted unquoted lone-star nonstar scanned scan class-of
-    unescaped unescape keep-when keep-glob keep-as keep-scanned keep-class keep
+    unescaped unescape keep-when keep-glob keep-as inside-kept keep
     first-in first-from last-in last-close
     blank move skip-past skip white trim-end
     start
@@ -145,7 +144,7 @@ unfolding pieces pieces-past sound sound-past same
     bare-star content-good edit-ok glob-stands in-range kind-allows kind-good line-ok name-good named-good nodes-good parent-good sane some-star
     book-of laid view within-limits view.holds
     edit-room line-room node-room take-event take-kept take-node take-parent
-    build build-reading cleared kind-of left nothing-yet opening rust-style told
+    build build-reading cleared kind-of left nothing-yet opening told
     class-matches line-matches seen bad-name long-name name-refusal
     deciding exact-of exact-stages first-line glob-of glob-stages stages walk
     index-of last-named listed locality-asked locality-of node-version version-asked version-of wanted-version

@@ -9,6 +9,7 @@ use mir.Syntax.{w64}
 use mir.Val.{Fits}
 use lib.Dec.{leb}
 use lib.ListN.{length}
+use Rattle.numbers.specs.Classes.{all-class}
 use Rattle.numbers.specs.Limits.{name-limit, over, token-limit}
 use Rattle.utf8.specs.Utf8.{utf8}
 use Rattle.numbers.specs.declared.Edition.{Edition}
@@ -35,7 +36,7 @@ told-long (kept j b) m k n e = by (leb (length b) m) e
     by false e = let z : _≡_ {A = ℕ} 0 1 = cc in absurd (omega arith)
 told-long (refused j) m k n e = let z : _≡_ {A = ℕ} 0 1 = cc in absurd (omega arith)
 
-class-few : (k : Class) → class-number k ≤ 4
+class-few : (k : Class) → class-number k ≤ all-class
 class-few Exact = omega arith
 class-few Escaped = omega arith
 class-few NonStar = omega arith
@@ -95,7 +96,7 @@ module _ (e : Edition) (t : List ℕ) (m : ℕ) (r : Stored) (a : r ≡ keep-ans
     unfolding store-told
     store-done = rw (← a, q, c)
 
-    small : (j ≤ 4) × (n ≤ token-limit)
+    small : (j ≤ all-class) × (n ≤ token-limit)
     small = (omega (arith, class-few k), omega (arith, told-long (keep e t) m k n (sym q ∙ a), keep-few e t))
 
     pub store-fits-length : Fits w64 (8 * n)

@@ -1,8 +1,10 @@
 -- What a host is told: a refusal's number, or 256 times a value. Assumes nothing.
 use Prim.Native.Nat.{ℕ, _+_, _*_}
+use mathlib.Core.Path.{_≡_}
 use mathlib.Core.List.{List}
 use mathlib.Core.Bool.{Bool, true, false, cond, _||_}
 use lib.Dec.{eqb}
+use lib.ListN.{length}
 use Rattle.numbers.specs.Limits.{name-limit, over, token-limit}
 use Rattle.numbers.specs.Refusals.{name-not-utf8, too-long}
 use Rattle.utf8.specs.Utf8.{chars, utf8}
@@ -12,7 +14,7 @@ use Rattle.classes.specs.declared.Class.the-variants as class
 use Rattle.storing.specs.declared.Stored.{Stored}
 use Rattle.storing.specs.declared.Stored.the-variants.{As, Refused}
 use Rattle.classes.specs.Classes.{class-number, class-of}
-use Rattle.storing.specs.Keeping.{unescape, kept}
+use Rattle.storing.specs.Keeping.{Keep, unescape, kept}
 use Rattle.storing.specs.Answers.{keep-answer, keep-buffer}
 
 abbrev pub done : ℕ → ℕ
@@ -34,10 +36,16 @@ unescape-told t room = cond (over token-limit t) too-long (length-told (keep-ans
 unfoldable pub unescape-leaves : List ℕ → List ℕ → List ℕ
 unescape-leaves t d = cond (over token-limit t) d (keep-buffer (kept class.Escaped (unescape t)) d)
 
+abbrev pub Unescapes : List ℕ → List ℕ → ℕ → List ℕ → Type 0
+Unescapes t d r d′ = (r ≡ unescape-told t (length d)) × (d′ ≡ unescape-leaves t d)
+
 -- a token as it is stored: the class, and eight times how many bytes are written
 unfoldable pub store-told : Stored → ℕ
 store-told (As k n) = done (class-number k + 8 * n)
 store-told (Refused n) = n
+
+abbrev pub Tells-stored : Keep → List ℕ → ℕ → List ℕ → Type 0
+Tells-stored x d r d′ = (r ≡ store-told (keep-answer x (length d))) × (d′ ≡ keep-buffer x d)
 
 -- yes or no
 abbrev pub answer-told : Bool → ℕ

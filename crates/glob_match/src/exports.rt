@@ -1,11 +1,9 @@
 // For a host in another language: numbers and slices only. An answer is a refusal's number, or 256 times a value (specs/Answers.antt). Patterns are read
 // as reld reads them. The host owes what Rust's slices owe: each pointer is valid for its length, and a buffer that is written overlaps no other.
 ghost use mathlib.Core.Path.{_≡_};
-ghost use lib.ListN.{length};
 ghost use Rattle.numbers.specs.declared.Edition.the-variants.{Reld};
 ghost use Rattle.storing.specs.Keeping.{keep};
-ghost use Rattle.storing.specs.Answers.{keep-answer, keep-buffer};
-ghost use Rattle.glob_match.specs.Answers.{class-told, match-told, store-told, unasked-told, unescape-leaves, unescape-told, answer-told};
+ghost use Rattle.glob_match.specs.Answers.{Tells-stored, Unescapes, answer-told, class-told, match-told, unasked-told};
 use classes::class_number;
 use classes::classify;
 use numbers::Edition;
@@ -31,8 +29,7 @@ pub extern "C" fn glob_match_class(token: &[u8]) -> u64
 // A pattern without its escapes: 1, 8, or 256 times how many bytes were written.
 #[no_mangle]
 pub extern "C" fn glob_match_unescape(pattern: &[u8], out: &mut [u8]) -> u64
-    ensures { λ r. ⌜ (r ≡ unescape-told (now (pattern .entry)) (length (now (out .entry))))
-        × (now (out .exit) ≡ unescape-leaves (now (pattern .entry)) (now (out .entry))) ⌝ }
+    ensures { λ r. ⌜ Unescapes (now (pattern .entry)) (now (out .entry)) r (now (out .exit)) ⌝ }
 {
     if TOKEN_LIMIT < pattern.len() {
         return TOO_LONG as u64;
@@ -46,8 +43,7 @@ pub extern "C" fn glob_match_unescape(pattern: &[u8], out: &mut [u8]) -> u64
 // A token as it is stored: 1, 5, 6, 8, or 256 times its class and eight times how many bytes were written.
 #[no_mangle]
 pub extern "C" fn glob_match_store(token: &[u8], out: &mut [u8]) -> u64
-    ensures { λ r. ⌜ (r ≡ store-told (keep-answer (keep Reld (now (token .entry))) (length (now (out .entry)))))
-        × (now (out .exit) ≡ keep-buffer (keep Reld (now (token .entry))) (now (out .entry))) ⌝ }
+    ensures { λ r. ⌜ Tells-stored (keep Reld (now (token .entry))) (now (out .entry)) r (now (out .exit)) ⌝ }
 {
     match store_token(Edition::Reld, token, out) {
         Stored::As(class, n) => 256 * ((class_number(class) as u64) + 8 * (n as u64)),

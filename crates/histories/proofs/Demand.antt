@@ -22,6 +22,7 @@ use Rattle.book.specs.Layout.{Buffers, node-width}
 use Rattle.book.proofs.Views.{laid-out-same}
 use Rattle.book_rooms.specs.Rooms.{edit-room, line-room}
 use Rattle.book_building.specs.Building.{Building, Taken, on, no, take-event}
+use Rattle.book_opening.specs.declared.How.{How}
 use Rattle.book_opening.specs.Opening.{Opening, opens, declined, build, build-reading, finished, left, nothing-yet, on-taken, opening, told}
 use Rattle.book_opened.specs.Opened.{opens-at}
 use Rattle.book_opened.proofs.Opened.{Viewable, opened-viewable}
@@ -49,15 +50,19 @@ module _ (place : ℕ) (b : Buffers) (s : List ℕ) (w : Book) where
       go (on h) more f = more h f
       go (no n p) more f = absurd (true≢false (cc))
 
-  pub opened-edits : opening place b s ≡ opens w → w .edits ≡ []
+module _ (how : How) (b : Buffers) (s : List ℕ) (w : Book) where
+  pub opened-edits : opening how b s ≡ opens w → w .edits ≡ []
   unfolding opening build-reading
   opened-edits e = go (ltb script-limit (length s)) (leb node-width (length (b .nodes))) e
     where
       go : (x y : Bool)
-          → cond x (declined too-long 0) (cond y (build-reading place b s nothing-yet (reading place s)) (declined no-room 0)) ≡ opens w → w .edits ≡ []
+          → cond x (declined too-long 0) (cond y (build-reading (how .place) b s nothing-yet (reading (how .place) s)) (declined no-room 0)) ≡ opens w
+          → w .edits ≡ []
       go true y f = absurd (true≢false (cc))
       go false false f = absurd (true≢false (cc))
-      go false true f = build-edits (reading place s .events) (reading place s .outcome) nothing-yet f
+      go false true f =
+          let r = reading (how .place) s in
+          build-edits (how .place) b s w (r .events) (r .outcome) nothing-yet f
 
   pub held-opened : Viewable b w → w .edits ≡ [] → Held b w (desk-at (w .lines)) (lent-book b w)
   held-opened v e =
@@ -174,21 +179,21 @@ lent-opened : (b : Buffers) (o : Opening) (w : Book) → o ≡ opens w → lent-
 unfolding told left
 lent-opened b o w e = rw e
 
-module _ (place : ℕ) (b : Buffers) (s : List ℕ) (w : Book) (ks : List Call) (o : opens-at place ≡ true) (e : opening place b s ≡ opens w)
+module _ (how : How) (b : Buffers) (s : List ℕ) (w : Book) (ks : List Call) (o : opens-at how ≡ true) (e : opening how b s ≡ opens w)
     (k : eqb (w .kind) rust ≡ false) where
-  behind : Holds b w (lent-behind place b s ks) (desk-behind place b s w ks)
+  behind : Holds b w (lent-behind how b s ks) (desk-behind how b s w ks)
   behind =
-      let h = held-opened place b s w (opened-viewable place b s w o e) (opened-edits place b s w e) in
-      let z = sym (lent-opened b (opening place b s) w e) in
-      holds b w k (desk-behind place b s w ks) (lent-behind place b s ks)
-      (held-run b w k ks (desk-at (w .lines)) (lent-opening b (opening place b s)) (subst (Held b w (desk-at (w .lines))) z h))
+      let h = held-opened how b s w (opened-viewable how b s w o e) (opened-edits how b s w e) in
+      let z = sym (lent-opened b (opening how b s) w e) in
+      holds b w k (desk-behind how b s w ks) (lent-behind how b s ks)
+      (held-run b w k ks (desk-at (w .lines)) (lent-opening b (opening how b s)) (subst (Held b w (desk-at (w .lines))) z h))
 
 pub demand-3 : Demand-3
-demand-3 place b s w ks o e k = behind place b s w ks o e k
+demand-3 how b s w ks o e k = behind how b s w ks o e k
 
 pub brought-back : Brought-back
 unfolding run undos
-brought-back place b s w ks ls o e k none same =
-    let then : run (lent-behind place b s ks) [] ≡ lent-book b (with-lines w (desk-behind place b s w ks .moment))
-    = rw none at (behind place b s w ks o e k .undone) in
-    behind place b s w (ks ++ ls) o e k .undone ∙ rw same (sym then)
+brought-back how b s w ks ls o e k none same =
+    let then : run (lent-behind how b s ks) [] ≡ lent-book b (with-lines w (desk-behind how b s w ks .moment))
+    = rw none at (behind how b s w ks o e k .undone) in
+    behind how b s w (ks ++ ls) o e k .undone ∙ rw same (sym then)

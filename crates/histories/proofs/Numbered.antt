@@ -13,8 +13,8 @@ use Rattle.pattern.specs.Patterns.{refusal}
 use Rattle.pattern.specs.Storing.{stored}
 use Rattle.classes.specs.declared.Class.{Class}
 use Rattle.classes.specs.declared.Class.the-variants.{Exact, Escaped, NonStar, Star, All}
-use Rattle.classes.specs.Classes.{lone-star, quoted, scan, unquoted}
-use Rattle.storing.specs.Keeping.{Keep, kept, refused, keep, keep-as, keep-class, keep-glob, keep-scanned, keep-when}
+use Rattle.classes.specs.Classes.{class-of}
+use Rattle.storing.specs.Keeping.{Keep, kept, refused, inside-kept, keep, keep-as, keep-glob, keep-when}
 use Rattle.reading.proofs.Refusals.{of-reader}
 
 -- ---- no token is refused with 0
@@ -39,15 +39,12 @@ as-numbered e Star t = glob-numbered e Star t
 as-numbered e All t = tt
 
 pub keep-numbered : (e : Edition) (t : List ℕ) → Numbered (keep e t)
-unfolding keep keep-class keep-scanned
-keep-numbered e t = go (over token-limit t) (quoted t) (lone-star t)
+unfolding keep
+keep-numbered e t = go (over token-limit t)
   where
-    go : (x y z : Bool)
-        → Numbered (cond x (refused too-long) (cond y (kept Exact (unquoted t)) (cond z (kept All []) (keep-as e (scan Exact false t) t))))
-    go true y z = λ h. omega arith
-    go false true z = tt
-    go false false true = tt
-    go false false false = as-numbered e (scan Exact false t) t
+    go : (x : Bool) → Numbered (cond x (refused too-long) (keep-as e (class-of t) (inside-kept t)))
+    go true = λ h. omega arith
+    go false = as-numbered e (class-of t) (inside-kept t)
 
 -- ---- nor is a reading
 pub reader-numbered : (n : ℕ) → of-reader n ≡ true → n ≡ 0 → ⊥

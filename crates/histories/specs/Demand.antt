@@ -16,6 +16,7 @@ use Rattle.book.specs.Edits.{line-at, stands}
 use Rattle.book.specs.Layout.{Buffers, counts-of, laid-out}
 use Rattle.book.specs.View.{view}
 use Rattle.book_rooms.specs.Rooms.{edit-room, line-room}
+use Rattle.book_opening.specs.declared.How.{How}
 use Rattle.book_opening.specs.Opening.{Opening, opens, left, opening, told}
 use Rattle.book_opened.specs.Opened.{opens-at}
 use Rattle.ranking.specs.Matching.{Name}
@@ -65,23 +66,23 @@ pub record Holds (b : Buffers) (w : Book) (y : Lent) (d : Desk) : Type 0 where
 
 -- ---- the theorem: for every opening of a Regular script or an export list, and every sequence of calls
 -- what they leave, and their desk
-abbrev pub lent-behind : ℕ → Buffers → List ℕ → List Call → Lent
-lent-behind place b s ks = run (lent-opening b (opening place b s)) ks
+abbrev pub lent-behind : How → Buffers → List ℕ → List Call → Lent
+lent-behind how b s ks = run (lent-opening b (opening how b s)) ks
 
-abbrev pub desk-behind : ℕ → Buffers → List ℕ → Book → List Call → Desk
-desk-behind place b s w ks = leads (edition-of (w .kind)) (desk-at (w .lines)) (history (lent-opening b (opening place b s)) ks)
+abbrev pub desk-behind : How → Buffers → List ℕ → Book → List Call → Desk
+desk-behind how b s w ks = leads (edition-of (w .kind)) (desk-at (w .lines)) (history (lent-opening b (opening how b s)) ks)
 
 abbrev pub Demand-3 : Type 0
 Demand-3 =
-    (place : ℕ) (b : Buffers) (s : List ℕ) (w : Book) (ks : List Call)
-    → opens-at place ≡ true → opening place b s ≡ opens w → eqb (w .kind) rust ≡ false
-    → Holds b w (lent-behind place b s ks) (desk-behind place b s w ks)
+    (how : How) (b : Buffers) (s : List ℕ) (w : Book) (ks : List Call)
+    → opens-at how ≡ true → opening how b s ≡ opens w → eqb (w .kind) rust ≡ false
+    → Holds b w (lent-behind how b s ks) (desk-behind how b s w ks)
 
 -- the calls ks lead to a moment with nothing to undo, as an opening or a settle that drops a line is, and behind the calls ls it still is the desk's moment:
 -- undoing then brings back the lent counts and buffers that ks left
 abbrev pub Brought-back : Type 0
 Brought-back =
-    (place : ℕ) (b : Buffers) (s : List ℕ) (w : Book) (ks ls : List Call)
-    → opens-at place ≡ true → opening place b s ≡ opens w → eqb (w .kind) rust ≡ false
-    → desk-behind place b s w ks .earlier ≡ [] → desk-behind place b s w (ks ++ ls) .moment ≡ desk-behind place b s w ks .moment
-    → run (lent-behind place b s (ks ++ ls)) (undos (length (desk-behind place b s w (ks ++ ls) .earlier))) ≡ lent-behind place b s ks
+    (how : How) (b : Buffers) (s : List ℕ) (w : Book) (ks ls : List Call)
+    → opens-at how ≡ true → opening how b s ≡ opens w → eqb (w .kind) rust ≡ false
+    → desk-behind how b s w ks .earlier ≡ [] → desk-behind how b s w (ks ++ ls) .moment ≡ desk-behind how b s w ks .moment
+    → run (lent-behind how b s (ks ++ ls)) (undos (length (desk-behind how b s w (ks ++ ls) .earlier))) ≡ lent-behind how b s ks

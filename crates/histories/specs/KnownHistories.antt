@@ -12,10 +12,9 @@ use mathlib.Core.Option.{none}
 use Rattle.numbers.specs.Marks.{cxx, general, global, local}
 use Rattle.lists.specs.Texts.{codes}
 use Rattle.packing.specs.Padding.{zeros}
-use Rattle.reading_cursors.specs.Places.{at-list, at-script}
 use Rattle.book.specs.Layout.{Buffers, edit-width, five, line-width, node-width}
 use Rattle.book.specs.View.{view}
-use Rattle.book_opening.specs.Opening.{opening}
+use Rattle.book_opening.specs.Opening.{as-list, as-script, opening}
 use Rattle.ranking.specs.Matching.{Name, name-of, plain}
 use Rattle.lookups.specs.declared.answers.Version.{Version}
 use Rattle.lookups.specs.declared.answers.Version.the-variants.{Unversioned}
@@ -35,10 +34,10 @@ rooms nodes names lines pool edits = five (zeros (node-width * nodes)) (zeros na
 
 -- what the opening of a version script leaves, and that of an export list
 abbrev pub script : Buffers → String → Lent
-script b t = lent-opening b (opening at-script b (codes t))
+script b t = lent-opening b (opening as-script b (codes t))
 
 abbrev pub export-list : Buffers → String → Lent
-export-list b t = lent-opening b (opening at-list b (codes t))
+export-list b t = lent-opening b (opening as-list b (codes t))
 
 -- the numbers that calls answer, in turn
 unfoldable pub numbers : List Told → List ℕ

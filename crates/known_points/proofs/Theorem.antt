@@ -6,7 +6,7 @@ use Rattle.utf8.specs.Utf8.{scalar, encode, encoding, character, none, when, ta
 use Rattle.pattern.specs.Patterns.{holds, some-holds, member, inside, between, takes, bracketed, opened, element, elements, ended, first, somewhere, matches, adjacent-from, shaped-from, refusal}
 use Rattle.pattern.specs.Storing.{stored-byte, negated-from, stored}
 use Rattle.classes.specs.Classes.{quoted, unquoted, lone-star, nonstar, scanned, scan, class-of}
-use Rattle.storing.specs.Keeping.{unescaped, unescape, keep-when, keep-glob, keep-as, keep-scanned, keep-class, keep}
+use Rattle.storing.specs.Keeping.{unescaped, unescape, keep-when, keep-glob, keep-as, inside-kept, keep}
 use Rattle.linker_script.specs.Finding.{first-in, first-from, last-in, last-close}
 use Rattle.linker_script.specs.Skip.{blank, move, skip-past, skip}
 use Rattle.linker_script.specs.Trim.{white, trim-end}
@@ -28,7 +28,7 @@ use Rattle.book.specs.View.{book-of, laid, view, within-limits}
 use Rattle.book.specs.View as view
 use Rattle.book_rooms.specs.Rooms.{line-room, node-room}
 use Rattle.book_building.specs.Building.{take-event, take-kept, take-node, take-parent}
-use Rattle.book_opening.specs.Opening.{build, build-reading, kind-of, left, nothing-yet, opening, rust-style, told}
+use Rattle.book_opening.specs.Opening.{build, build-reading, kind-of, left, nothing-yet, opening, told}
 use Rattle.ranking.specs.Matching.{class-matches, line-matches, seen}
 use Rattle.ranking.specs.Names.{bad-name, long-name, name-refusal}
 use Rattle.ranking.specs.Walk.{deciding, exact-of, exact-stages, first-line, glob-of, glob-stages, stages, walk}
@@ -43,7 +43,7 @@ unfolding pieces pieces-past sound sound-past
     holds some-holds member inside between takes bracketed opened element elements ended first somewhere matches adjacent-from shaped-from refusal
     stored-byte negated-from stored
     quoted unquoted lone-star nonstar scanned scan class-of
-    unescaped unescape keep-when keep-glob keep-as keep-scanned keep-class keep
+    unescaped unescape keep-when keep-glob keep-as inside-kept keep
     first-in first-from last-in last-close
     blank move skip-past skip white trim-end
     start
@@ -57,7 +57,7 @@ unfolding pieces pieces-past sound sound-past
     content-good glob-stands in-range kind-allows kind-good line-ok name-good named-good nodes-good parent-good sane
     book-of laid view within-limits view.holds
     line-room node-room take-event take-kept take-node take-parent
-    build build-reading kind-of left nothing-yet opening rust-style told
+    build build-reading kind-of left nothing-yet opening told
     class-matches line-matches seen bad-name long-name name-refusal
     deciding exact-of exact-stages first-line glob-of glob-stages stages walk
     counted node-of node-told version-count

@@ -12,12 +12,11 @@ use Rattle.numbers.specs.declared.Edition.the-variants.{Reld}
 use Rattle.pattern.specs.Patterns.{elements, matches}
 use Rattle.classes.specs.declared.Class.the-variants.{Exact, Escaped, NonStar, Star, All}
 use Rattle.storing.specs.Keeping.{Keep, kept, refused, keep}
-use Rattle.reading_cursors.specs.Places.{at-script}
 use Rattle.packing.specs.Padding.{zeros}
 use Rattle.book.specs.Books.{Book}
 use Rattle.book.specs.Layout.{Buffers, five}
 use Rattle.book.specs.View.{view}
-use Rattle.book_opening.specs.Opening.{Opening, left, opening, told}
+use Rattle.book_opening.specs.Opening.{Opening, as-script, left, opening, told}
 use Rattle.ranking.specs.Matching.{plain}
 use Rattle.lookups.specs.declared.answers.Version.{Version}
 use Rattle.lookups.specs.declared.answers.Locality.{Locality}
@@ -92,7 +91,7 @@ abbrev pub rooms : Buffers
 rooms = five (zeros 30) (zeros 40) (zeros 40) (zeros 40) []
 
 unfoldable pub opened : String → Opening
-opened t = opening at-script rooms (bytes t)
+opened t = opening as-script rooms (bytes t)
 
 unfoldable pub held : String → Option Book
 held t = view (told (opened t) .counts) (left rooms (opened t))

@@ -13,9 +13,8 @@ use Rattle.numbers.specs.Refusals.{too-long}
 use Rattle.lists.specs.Front.{front}
 use Rattle.linker_script.specs.declared.Found.{Found}
 use Rattle.linker_script.specs.declared.Found.the-variants.{Here, Nowhere}
-use Rattle.reading_cursors.specs.Places.{at-script}
 use Rattle.book.specs.Layout.{Buffers}
-use Rattle.book_opening.specs.Opening.{cleared, declined, left, opening}
+use Rattle.book_opening.specs.Opening.{as-script, cleared, declined, left, opening}
 use Rattle.input.specs.Splitting.{mark, part-before, symbols-by}
 use Rattle.input.proofs.Marks.{mark-within}
 use Rattle.printing.specs.Printing.{refused-line}
@@ -121,9 +120,9 @@ module _ (b : Buffers) (s d : List ℕ) (x : Bool) (e : x ≡ leb (48 + 15 * len
           omega (arith, leb-true (48 + 15 * length s) (length d) fits, ap length (symbols-left s end f from i), length-drop (end + 3) s)
 
       pub whole-listed : length s ≤ 65536 → (r : Listed) (l : List ℕ) (b′ : Buffers)
-          → Prints b (opening at-script b (take end s)) (take (length s - from) (drop from s)) d b′ l r → Lists b s d r l b′
+          → Prints b (opening as-script b (take end s)) (take (length s - from) (drop from s)) d b′ l r → Lists b s d r l b′
       unfolding listed out-left book-left has-room input-opening listing
       whole-listed g r l b′ p =
           let v : ltb 65536 (length s) ≡ false = le-ltb 65536 (length s) g in
-          let q : Prints b (opening at-script b (part-before s (mark s))) (symbols-by s (mark s)) d b′ l r = rw (script-part s end f, symbols-part s end f from i) at p in
+          let q : Prints b (opening as-script b (part-before s (mark s))) (symbols-by s (mark s)) d b′ l r = rw (script-part s end f, symbols-part s end f from i) at p in
           (rw (fits, v) (q .0), rw (fits, v) (q .1), rw (fits, v) (q .2))

@@ -16,13 +16,12 @@ use Rattle.lists.specs.Front.{front}
 use Rattle.lists.specs.Texts.{codes}
 use Rattle.lists.proofs.FrontLaws.{length-front}
 use Rattle.packing.specs.Padding.{zeros}
-use Rattle.reading_cursors.specs.Places.{at-script}
 use Rattle.book.specs.Books.{Book}
 use Rattle.book.specs.Layout.{Buffers, five}
 use Rattle.book.specs.View.{holds, view}
 use Rattle.book.proofs.Views.{holds-of-view}
 use Rattle.book_opening.specs.declared.Opened.{Opened}
-use Rattle.book_opening.specs.Opening.{Opening, cleared, declined, left, opening, opens, told}
+use Rattle.book_opening.specs.Opening.{Opening, as-script, cleared, declined, left, opening, opens, told}
 use Rattle.book_opening.proofs.Refusing.{opening-refuses}
 use Rattle.book_opened.proofs.Opened.{opened-holds}
 use Rattle.counting.specs.declared.Count.{Count}
@@ -121,46 +120,46 @@ module _ (w : Option Book) (symbols d : List ℕ) (room : 48 ≤ length d) where
         rw h (a .0 ∙ zero-add (length (t ++ answers w (lines-in [] symbols))), a .1)
 
 -- ---- a script's opening: a refusal other than 0, or a book that the buffers hold
-module _ (b : Buffers) (s : List ℕ) (x : Opened) (e : x ≡ told (opening at-script b s)) where
-  script-opens : x .refusal ≡ 0 → (b′ : Buffers) → b′ ≡ left b (opening at-script b s)
-      → (w : Book) × ((opening at-script b s ≡ opens w) × (view (x .counts) b′ ≡ some w))
+module _ (b : Buffers) (s : List ℕ) (x : Opened) (e : x ≡ told (opening as-script b s)) where
+  script-opens : x .refusal ≡ 0 → (b′ : Buffers) → b′ ≡ left b (opening as-script b s)
+      → (w : Book) × ((opening as-script b s ≡ opens w) × (view (x .counts) b′ ≡ some w))
   unfolding told left
-  script-opens h b′ k = go (opening at-script b s) refl e k
+  script-opens h b′ k = go (opening as-script b s) refl e k
     where
-      go : (o : Opening) → opening at-script b s ≡ o → x ≡ told o → b′ ≡ left b o
-          → (w : Book) × ((opening at-script b s ≡ opens w) × (view (x .counts) b′ ≡ some w))
-      go (opens w) f g j = (w, (f, rw (j, ap (λ (y : Opened). y .counts) g) (opened-holds at-script b s w refl f)))
+      go : (o : Opening) → opening as-script b s ≡ o → x ≡ told o → b′ ≡ left b o
+          → (w : Book) × ((opening as-script b s ≡ opens w) × (view (x .counts) b′ ≡ some w))
+      go (opens w) f g j = (w, (f, rw (j, ap (λ (y : Opened). y .counts) g) (opened-holds as-script b s w refl f)))
       go (declined n p) f g j =
           let z : x .refusal ≡ n = ap (λ (y : Opened). y .refusal) g in
-          absurd (omega (arith, z, h, opening-refuses at-script b s n p f .0))
+          absurd (omega (arith, z, h, opening-refuses as-script b s n p f .0))
 
   -- what is opened holds a book
-  pub script-held : x .refusal ≡ 0 → (b′ : Buffers) → b′ ≡ left b (opening at-script b s) → holds (x .counts) b′ ≡ true
+  pub script-held : x .refusal ≡ 0 → (b′ : Buffers) → b′ ≡ left b (opening as-script b s) → holds (x .counts) b′ ≡ true
   script-held h b′ k = let z = script-opens h b′ k in holds-of-view (x .counts) b′ (z .0) (z .1 .1) .0
 
   -- ---- the exit of `render_script`
-  module _ (symbols d : List ℕ) (b′ : Buffers) (j : b′ ≡ left b (opening at-script b s)) where
-    script-printed : opened-printed (x .refusal) (view (x .counts) b′) symbols ≡ printed (opening at-script b s) symbols
+  module _ (symbols d : List ℕ) (b′ : Buffers) (j : b′ ≡ left b (opening as-script b s)) where
+    script-printed : opened-printed (x .refusal) (view (x .counts) b′) symbols ≡ printed (opening as-script b s) symbols
     unfolding opened-printed printed told
-    script-printed = go (opening at-script b s) refl e
+    script-printed = go (opening as-script b s) refl e
       where
-        go : (o : Opening) → opening at-script b s ≡ o → x ≡ told o → opened-printed (x .refusal) (view (x .counts) b′) symbols ≡ printed o symbols
+        go : (o : Opening) → opening as-script b s ≡ o → x ≡ told o → opened-printed (x .refusal) (view (x .counts) b′) symbols ≡ printed o symbols
         go (opens w) f g =
             let z : x .refusal ≡ 0 = ap (λ (y : Opened). y .refusal) g in
             let v = script-opens z b′ j in
             rw z (ap (λ (y : Option Book). counts-answered y ++ answers y (lines-in [] symbols)) (v .1 .1) ∙ ap (λ (o : Opening). printed o symbols) (sym (v .1 .0) ∙ f))
         go (declined n p) f g =
             let z : x .refusal ≡ n = ap (λ (y : Opened). y .refusal) g in
-            let h = opening-refuses at-script b s n p f in
+            let h = opening-refuses as-script b s n p f in
             rw (z, ne-eqb n 0 (λ (k : n ≡ 0). omega arith))
 
-    script-told : (n : ℕ) → told-as n (x .refusal) (x .place) ≡ with-refusal n (opening at-script b s)
+    script-told : (n : ℕ) → told-as n (x .refusal) (x .place) ≡ with-refusal n (opening as-script b s)
     script-told n = ap (λ (y : Opened). told-as n (y .refusal) (y .place)) e
 
     pub script-listed : (l : List ℕ) (n : ℕ) → Begins d (opened-printed (x .refusal) (view (x .counts) b′) symbols) l n
-        → Prints b (opening at-script b s) symbols d b′ l (told-as n (x .refusal) (x .place))
+        → Prints b (opening as-script b s) symbols d b′ l (told-as n (x .refusal) (x .place))
     script-listed l n m = (
-      script-told n ∙ ap (λ (k : ℕ). with-refusal k (opening at-script b s)) (m .0 ∙ ap length script-printed),
+      script-told n ∙ ap (λ (k : ℕ). with-refusal k (opening as-script b s)) (m .0 ∙ ap length script-printed),
       begins-front d (opened-printed (x .refusal) (view (x .counts) b′) symbols) l n m ∙ ap (λ (k : List ℕ). front k d) script-printed,
       j,
     )

@@ -8,9 +8,8 @@ use Rattle.numbers.specs.Limits.{over}
 use Rattle.numbers.specs.Refusals.{no-room, too-long}
 use Rattle.lists.specs.Front.{front}
 use Rattle.packing.specs.Padding.{zeros}
-use Rattle.reading_cursors.specs.Places.{at-script}
 use Rattle.book.specs.Layout.{Buffers, edit-width, five, line-width, node-width}
-use Rattle.book_opening.specs.Opening.{Opening, declined, left, opening}
+use Rattle.book_opening.specs.Opening.{Opening, as-script, declined, left, opening}
 use Rattle.input.specs.Splitting.{input-limit, mark, part-before, symbols-by}
 use Rattle.printing_symbols.specs.Lines.{byte-room, tail-room}
 use Rattle.printing_listing.specs.declared.script.Listed.{Listed}
@@ -18,7 +17,7 @@ use Rattle.printing_listing.specs.Script.{printed, with-refusal}
 
 -- the opening of the script, in buffers with the rooms of b; "longer input prints `refused 1`"
 unfoldable pub input-opening : Buffers → List ℕ → Opening
-input-opening b s = cond (over input-limit s) (declined too-long 0) (opening at-script b (part-before s (mark s)))
+input-opening b s = cond (over input-limit s) (declined too-long 0) (opening as-script b (part-before s (mark s)))
 
 -- what is printed
 unfoldable pub listing : Buffers → List ℕ → List ℕ

@@ -6,10 +6,9 @@ ghost use Prim.Native.Nat.{_+_, _*_, _<_, _≤_};
 ghost use lib.ListN.{length};
 ghost use Rattle.numbers.specs.Refusals.{too-long};
 ghost use Rattle.lists.specs.Front.{front};
-ghost use Rattle.reading_cursors.specs.Places.{at-script};
 ghost use Rattle.book.specs.Layout.{five};
 ghost use Rattle.book.specs.View.{holds, view};
-ghost use Rattle.book_opening.specs.Opening.{cleared, declined, opening};
+ghost use Rattle.book_opening.specs.Opening.{as-script, cleared, declined, opening};
 ghost use Rattle.printing.specs.Printing.{Begins, refused-line};
 ghost use Rattle.printing_listing.specs.Script.{Prints, opened-printed, with-refusal};
 ghost use Rattle.printing_symbols.specs.Lines.{tail-room, byte-room, counts-room};
@@ -98,7 +97,7 @@ pub fn render_script(
     out: &mut [u8],
 ) -> Listed
     requires { ⌜ (tail-room ≤ length (now out)) × (0 < length (now symbols) → counts-room + tail-room + byte-room * length (now symbols) ≤ length (now out)) ⌝ }
-    ensures { λ r. ⌜ Prints (five (now (nodes .entry)) (now (names .entry)) (now (lines .entry)) (now (pool .entry)) (now (journal .entry))) (opening at-script (five (now (nodes .entry)) (now (names .entry)) (now (lines .entry)) (now (pool .entry)) (now (journal .entry))) (now (script .entry))) (now (symbols .entry)) (now (out .entry))
+    ensures { λ r. ⌜ Prints (five (now (nodes .entry)) (now (names .entry)) (now (lines .entry)) (now (pool .entry)) (now (journal .entry))) (opening as-script (five (now (nodes .entry)) (now (names .entry)) (now (lines .entry)) (now (pool .entry)) (now (journal .entry))) (now (script .entry))) (now (symbols .entry)) (now (out .entry))
         (five (now (nodes .exit)) (now (names .exit)) (now (lines .exit)) (now (pool .exit)) (now (journal .exit))) (now (out .exit)) r ⌝ }
 {
     let opened = open(script, nodes, names, lines, pool, journal);

@@ -18,6 +18,7 @@ use Rattle.book.specs.Layout.{Buffers, counts-of, laid-out}
 use Rattle.book.specs.Sanity.{kind-good, nodes-good, sane}
 use Rattle.book.specs.View.{Fits, view}
 use Rattle.book.proofs.Views.{Rooms, laid-out-rooms, laid-out-same, layout-of-view, view-of-layout}
+use Rattle.book_opening.specs.declared.How.{How}
 use Rattle.book_opening.specs.Opening.{left, opening, told}
 use Rattle.book_opened.proofs.Opened.{Viewable, opened-viewable}
 use Rattle.trial.specs.Changes.{after, counts-after}
@@ -109,8 +110,8 @@ record Holding (b : Buffers) (x : Lent) : Type 0 where
   viewed : view (x .counts) (x .buffers) ≡ some book
   rooms : Rooms (x .buffers) b
 
-holding-lines : (place : ℕ) (b : Buffers) (s : List ℕ) (w : Book) → Viewable b w → w .edits ≡ [] → (ls : List (List ℕ)) → Holding b (lines-lent (lent-book b w) ls)
-holding-lines place b s w v e ls = go (eqb (w .kind) rust) refl
+holding-lines : (how : How) (b : Buffers) (s : List ℕ) (w : Book) → Viewable b w → w .edits ≡ [] → (ls : List (List ℕ)) → Holding b (lines-lent (lent-book b w) ls)
+holding-lines how b s w v e ls = go (eqb (w .kind) rust) refl
   where
     go : (y : Bool) → eqb (w .kind) rust ≡ y → Holding b (lines-lent (lent-book b w) ls)
     go true k =
@@ -120,17 +121,17 @@ holding-lines place b s w v e ls = go (eqb (w .kind) rust) refl
           rooms = laid-out-rooms b w (v .fits);
         })
     go false k =
-        let s = seated-lines b w k ls (lent-book b w) (record { desk = desk-at (w .lines); held = held-opened place b s w v e }) in
+        let s = seated-lines b w k ls (lent-book b w) (record { desk = desk-at (w .lines); held = held-opened how b s w v e }) in
         let y : Lent = lines-lent (lent-book b w) ls in
         record { book = _; viewed = seen b w (s .desk) y (s .held); rooms = calls.rooms b w (s .desk) y (s .held) }
 
 holding : (x : Lent) (r : Reached x) → Holding (r .lent) x
 unfolding told left
 holding x r =
-    let v = opened-viewable (r .place) (r .lent) (r .text) (r .book) (r .known) (r .opened) in
-    let e = opened-edits (r .place) (r .lent) (r .text) (r .book) (r .opened) in
+    let v = opened-viewable (r .how) (r .lent) (r .text) (r .book) (r .known) (r .opened) in
+    let e = opened-edits (r .how) (r .lent) (r .text) (r .book) (r .opened) in
     let z : x ≡ lines-lent (lent-book (r .lent) (r .book)) (r .lines) = r .behind ∙ rw (r .opened) in
-    subst (Holding (r .lent)) (sym z) (holding-lines (r .place) (r .lent) (r .text) (r .book) v e (r .lines))
+    subst (Holding (r .lent)) (sym z) (holding-lines (r .how) (r .lent) (r .text) (r .book) v e (r .lines))
 
 -- ---- the room for what is printed of a book in the desk's rooms
 shown-fits : (b : Buffers) (w : Book) → Fits b w → Desk-rooms b → shown-room (counts-of w) + input-limit ≤ printing-room
@@ -163,7 +164,7 @@ lines-last (m ∷ ls) x l = lines-last ls (line-lent x m) l
 
 pub reached-on : (x : Lent) (l : List ℕ) → Reached x → Reached (line-lent x l)
 reached-on x l r = record {
-  place = r .place;
+  how = r .how;
   lent = r .lent;
   text = r .text;
   book = r .book;
@@ -171,5 +172,5 @@ reached-on x l r = record {
   known = r .known;
   roomy = r .roomy;
   opened = r .opened;
-  behind = ap (λ (y : Lent). line-lent y l) (r .behind) ∙ sym (lines-last (r .lines) (lent-opening (r .lent) (opening (r .place) (r .lent) (r .text))) l);
+  behind = ap (λ (y : Lent). line-lent y l) (r .behind) ∙ sym (lines-last (r .lines) (lent-opening (r .lent) (opening (r .how) (r .lent) (r .text))) l);
 }

@@ -7,6 +7,7 @@ use lib.ListN.{length}
 use Rattle.input.specs.Splitting.{input-limit, lines-in}
 use Rattle.book.specs.Books.{Book}
 use Rattle.book.specs.Layout.{Buffers, edit-width, line-width, node-width}
+use Rattle.book_opening.specs.declared.How.{How}
 use Rattle.book_opening.specs.Opening.{Opening, opens, declined, left, opening}
 use Rattle.book_opened.specs.Opened.{opens-at}
 use Rattle.histories.specs.Histories.{Lent}
@@ -35,15 +36,15 @@ printing-room = 1048576
 
 -- x is what some lines leave behind the opening of a text in these rooms
 pub record Reached (x : Lent) : Type 0 where
-  pub place : ℕ
+  pub how : How
   pub lent : Buffers
   pub text : List ℕ
   pub book : Book
   pub lines : List (List ℕ)
-  pub known : opens-at place ≡ true
+  pub known : opens-at how ≡ true
   pub roomy : Desk-rooms lent
-  pub opened : opening place lent text ≡ opens book
-  pub behind : x ≡ lines-lent (lent-opening lent (opening place lent text)) lines
+  pub opened : opening how lent text ≡ opens book
+  pub behind : x ≡ lines-lent (lent-opening lent (opening how lent text)) lines
 
 -- ---- the theorem: wherever the desk's lines lead, no line of its input lacks room
 abbrev pub No-line-lacks-room : Type 0
@@ -55,5 +56,5 @@ abbrev pub behind-opening : Buffers → Opening → List (List ℕ) → Buffers
 behind-opening b (opens w) ls = lines-lent (lent-opening b (opens w)) ls .buffers
 behind-opening b (declined n p) ls = left b (declined n p)
 
-unfoldable pub desk-left : ℕ → Buffers → List ℕ → List ℕ → Buffers
-desk-left place b s commands = behind-opening b (opening place b s) (lines-in [] commands)
+unfoldable pub desk-left : How → Buffers → List ℕ → List ℕ → Buffers
+desk-left how b s commands = behind-opening b (opening how b s) (lines-in [] commands)

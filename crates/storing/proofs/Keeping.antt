@@ -12,6 +12,7 @@ use lib.Dec.{eqb, ltb}
 use lib.ListN.{length, getD, take, drop, length-take, length-drop, drop-of-length-le}
 use lib.Seq.{drop-cons, drop-drop}
 use Rattle.numbers.specs.Limits.{over, token-limit}
+use Rattle.numbers.specs.Refusals.{too-long}
 use Rattle.lists.specs.Pieces.{piece}
 use Rattle.lists.proofs.PiecesLaws.{pieces-cons, pieces-end, pieces-few}
 use Rattle.pattern.specs.Storing.{stored, stored-byte, negated-from}
@@ -20,7 +21,7 @@ use Rattle.pattern.specs.Patterns.{refusal}
 use Rattle.classes.specs.declared.Class.{Class}
 use Rattle.classes.specs.declared.Class.the-variants.{Exact, Escaped, NonStar, Star, All}
 use Rattle.classes.specs.Classes.{class-of, lone-star, quoted, scan, unquoted}
-use Rattle.storing.specs.Keeping.{unescaped, unescape, Keep, kept, refused, keep, keep-as, keep-class, keep-glob, keep-scanned, keep-when}
+use Rattle.storing.specs.Keeping.{unescaped, unescape, Keep, kept, refused, inside-kept, keep, keep-as, keep-glob, keep-scanned, keep-when}
 
 pub byte-here : (s : List ℕ) (i : ℕ) → i < length s → drop i s ≡ getD s i 0 ∷ drop (i + 1) s
 byte-here s i h = rw (add-one i) (drop-cons s i 0 h)
@@ -124,7 +125,7 @@ module _ (e : Edition) (k : Class) (t : List ℕ) (n : ℕ) (q : n ≡ refusal e
 -- ---- without a look at quotes; b is what `is_lone_star` answers, and k what `analyze_glob_pattern` does
 module _ (e : Edition) (t : List ℕ) (b : Bool) (l : b ≡ lone-star t) where
   pub keep-lone : b ≡ true → keep-scanned e t ≡ kept All []
-  unfolding keep-scanned
+  unfolding keep-scanned keep-as
   keep-lone h = rw (← l, h)
 
   module _ (h : b ≡ false) (k : Class) (q : k ≡ scan Exact false t) where
@@ -154,24 +155,24 @@ module _ (e : Edition) (t : List ℕ) (b : Bool) (l : b ≡ lone-star t) where
 
 -- ---- the whole token; b is what `is_quoted` answers
 module _ (e : Edition) (t : List ℕ) where
-  pub keep-over : token-limit < length t → keep e t ≡ refused 1
+  pub keep-over : token-limit < length t → keep e t ≡ refused too-long
   unfolding keep
   keep-over h = rw (lt-ltb token-limit (length t) h)
 
   module _ (h : length t ≤ token-limit) where
-    within : keep e t ≡ keep-class e t
+    within : keep e t ≡ keep-as e (class-of t) (inside-kept t)
     unfolding keep
     within = rw (le-ltb token-limit (length t) h)
 
     module _ (b : Bool) (q : b ≡ quoted t) where
       pub keep-quoted : b ≡ true → (s : List ℕ) → s ≡ take (length t - 1 - 1) (drop 1 t) → keep e t ≡ kept Exact s
-      unfolding keep-class unquoted
+      unfolding keep-as class-of inside-kept unquoted
       keep-quoted c s d =
           let n : length t - 1 - 1 ≡ length t - 2 = omega arith in
           within ∙ rw (← q, c, d, n)
 
       pub keep-unquoted : b ≡ false → keep e t ≡ keep-scanned e t
-      unfolding keep-class
+      unfolding keep-scanned class-of inside-kept
       keep-unquoted c = within ∙ rw (← q, c)
 
 -- ---- no longer than the token
@@ -199,21 +200,13 @@ as-few e NonStar t = glob-few e NonStar t
 as-few e Star t = glob-few e Star t
 as-few e All t = omega arith
 
-scanned-few : (e : Edition) (t : List ℕ) → length (bytes (keep-scanned e t)) ≤ length t
-unfolding keep-scanned
-scanned-few e t = few (lone-star t)
+inside-few : (t : List ℕ) → length (inside-kept t) ≤ length t
+unfolding inside-kept
+inside-few t = few (quoted t)
   where
-    few : (x : Bool) → length (bytes (cond x (kept All []) (keep-as e (scan Exact false t) t))) ≤ length t
-    few true = omega arith
-    few false = as-few e (scan Exact false t) t
-
-class-few : (e : Edition) (t : List ℕ) → length (bytes (keep-class e t)) ≤ length t
-unfolding keep-class
-class-few e t = few (quoted t)
-  where
-    few : (x : Bool) → length (bytes (cond x (kept Exact (unquoted t)) (keep-scanned e t))) ≤ length t
+    few : (x : Bool) → length (cond x (unquoted t) t) ≤ length t
     few true = unquoted-few t
-    few false = scanned-few e t
+    few false = omega arith
 
 pub keep-few : (e : Edition) (t : List ℕ) → length (bytes (keep e t)) ≤ token-limit
 keep-few e t = few (ltb token-limit (length t)) refl
@@ -222,7 +215,7 @@ keep-few e t = few (ltb token-limit (length t)) refl
     few true h = rw (keep-over e t (ltb-true token-limit (length t) h)) (omega arith)
     few false h =
         let l : length t ≤ token-limit = ltb-false token-limit (length t) h in
-        rw (within e t l) (omega (arith, class-few e t))
+        rw (within e t l) (omega (arith, as-few e (class-of t) (inside-kept t), inside-few t))
 
 -- ---- what is kept has the token's class
 when-class : (x : Bool) (n : ℕ) (j k : Class) (s b : List ℕ) → cond x (kept j s) (refused n) ≡ kept k b → k ≡ j
@@ -238,12 +231,9 @@ as-class e Star k t b h = when-class (eqb (refusal e (stored e t)) 0) (refusal e
 as-class e All k t b h = cc
 
 pub kept-class : (e : Edition) (k : Class) (t b : List ℕ) → keep e t ≡ kept k b → k ≡ class-of t
-unfolding keep keep-class keep-scanned class-of
-kept-class e k t b = go (over token-limit t) (quoted t) (lone-star t)
+unfolding keep
+kept-class e k t b = go (over token-limit t)
   where
-    go : (x y z : Bool) → cond x (refused 1) (cond y (kept Exact (unquoted t)) (cond z (kept All []) (keep-as e (scan Exact false t) t))) ≡ kept k b
-        → k ≡ cond y Exact (cond z All (scan Exact false t))
-    go true y z h = let w : _≡_ {A = ℕ} 0 1 = cc in absurd (omega arith)
-    go false true z h = cc
-    go false false true h = cc
-    go false false false h = as-class e (scan Exact false t) k t b h
+    go : (x : Bool) → cond x (refused too-long) (keep-as e (class-of t) (inside-kept t)) ≡ kept k b → k ≡ class-of t
+    go true h = let w : _≡_ {A = ℕ} 0 1 = cc in absurd (omega arith)
+    go false h = as-class e (class-of t) k (inside-kept t) b h

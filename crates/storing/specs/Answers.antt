@@ -1,5 +1,6 @@
 -- What a function answers, and what it leaves in a lent buffer. Assumes nothing.
 use Prim.Native.Nat.{ℕ}
+use mathlib.Core.Path.{_≡_}
 use mathlib.Core.List.{List}
 use lib.Dec.{leb}
 use lib.ListN.{length}
@@ -15,3 +16,7 @@ keep-answer x room = kept-where (λ b. leb (length b) room) (λ k b. As k (lengt
 -- what stands behind them stays, and a refusal leaves all as it was
 unfoldable pub keep-buffer : Keep → List ℕ → List ℕ
 keep-buffer x d = kept-where (λ b. leb (length b) (length d)) (λ k b. front b d) (λ n. d) x
+
+-- both: r is answered, and d′ is what is left of the buffer d
+abbrev pub Stores : Keep → List ℕ → Stored → List ℕ → Type 0
+Stores x d r d′ = (r ≡ keep-answer x (length d)) × (d′ ≡ keep-buffer x d)

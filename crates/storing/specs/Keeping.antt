@@ -1,7 +1,7 @@
 -- What is kept of a token, or the number that refuses it. Assumes nothing.
 use Prim.Native.Nat.{ℕ}
 use mathlib.Core.List.{List, [], _∷_}
-use mathlib.Core.Bool.{Bool, false, cond}
+use mathlib.Core.Bool.{Bool, cond}
 use lib.Dec.{eqb}
 use Rattle.numbers.specs.Limits.{over, token-limit}
 use Rattle.numbers.specs.Refusals.{no-room, too-long}
@@ -12,7 +12,7 @@ use Rattle.pattern.specs.Patterns.{refusal}
 use Rattle.pattern.specs.Storing.{stored}
 use Rattle.classes.specs.declared.Class.{Class}
 use Rattle.classes.specs.declared.Class.the-variants.{Exact, Escaped, NonStar, Star, All}
-use Rattle.classes.specs.Classes.{lone-star, quoted, scan, unquoted}
+use Rattle.classes.specs.Classes.{class-of, class-unquoted, quoted, unquoted}
 
 -- "Escaped is stored unescaped; a final `\` stays"
 unfoldable pub unescaped : Reader ℕ ℕ
@@ -49,12 +49,12 @@ keep-as e All t = kept All []
 
 -- without a look at quotes
 unfoldable pub keep-scanned : Edition → List ℕ → Keep
-keep-scanned e t = cond (lone-star t) (kept All []) (keep-as e (scan Exact false t) t)
+keep-scanned e t = keep-as e (class-unquoted t) t
 
--- "In order: starts and ends with `"` …: Exact, inside kept"
-unfoldable pub keep-class : Edition → List ℕ → Keep
-keep-class e t = cond (quoted t) (kept Exact (unquoted t)) (keep-scanned e t)
+-- "starts and ends with `"` …: Exact, inside kept"
+unfoldable pub inside-kept : List ℕ → List ℕ
+inside-kept t = cond (quoted t) (unquoted t) t
 
 -- "trimmed token … over its limit", quotes counted, then by its class
 unfoldable pub keep : Edition → List ℕ → Keep
-keep e t = cond (over token-limit t) (refused too-long) (keep-class e t)
+keep e t = cond (over token-limit t) (refused too-long) (keep-as e (class-of t) (inside-kept t))

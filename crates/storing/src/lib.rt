@@ -7,7 +7,7 @@ ghost use lib.ListN.{length};
 ghost use Rattle.lists.specs.Front.{front};
 ghost use Rattle.pattern.specs.Storing.{stored, stored-byte};
 ghost use Rattle.storing.specs.Keeping.{unescape, kept, keep, keep-glob, keep-scanned};
-ghost use Rattle.storing.specs.Answers.{keep-answer, keep-buffer};
+ghost use Rattle.storing.specs.Answers.{Stores};
 use classes::Class;
 use classes::analyze_glob_pattern;
 use classes::is_lone_star;
@@ -26,8 +26,7 @@ pub enum Stored {
 
 // Bytes that are stored as they are.
 fn store_exact(exact: &[u8], out: &mut [u8]) -> Stored
-    ensures { λ r. ⌜ (r ≡ keep-answer (kept Class.Exact (now (exact .entry))) (length (now (out .entry))))
-        × (now (out .exit) ≡ keep-buffer (kept Class.Exact (now (exact .entry))) (now (out .entry))) ⌝ }
+    ensures { λ r. ⌜ Stores (kept Class.Exact (now (exact .entry))) (now (out .entry)) r (now (out .exit)) ⌝ }
 {
     let n = exact.len();
     if out.len() < n {
@@ -78,8 +77,7 @@ fn copy_unescaped(src: &[u8], out: &mut [u8])
 
 // An Escaped token, without its escapes; a final `\` stays.
 pub fn unescape_pattern(pattern: &[u8], out: &mut [u8]) -> Stored
-    ensures { λ r. ⌜ (r ≡ keep-answer (kept Class.Escaped (unescape (now (pattern .entry)))) (length (now (out .entry))))
-        × (now (out .exit) ≡ keep-buffer (kept Class.Escaped (unescape (now (pattern .entry)))) (now (out .entry))) ⌝ }
+    ensures { λ r. ⌜ Stores (kept Class.Escaped (unescape (now (pattern .entry)))) (now (out .entry)) r (now (out .exit)) ⌝ }
 {
     let n = unescaped_length(pattern);
     if out.len() < n {
@@ -117,8 +115,7 @@ fn copy_stored(edition: Edition, src: &[u8], out: &mut [u8])
 
 // A glob of the given class: its refusal, 5 or 6, or its bytes with each `[^` as `[!`.
 fn compile_glob_pattern(edition: Edition, class: Class, token: &[u8], out: &mut [u8]) -> Stored
-    ensures { λ r. ⌜ (r ≡ keep-answer (keep-glob edition class (now (token .entry))) (length (now (out .entry))))
-        × (now (out .exit) ≡ keep-buffer (keep-glob edition class (now (token .entry))) (now (out .entry))) ⌝ }
+    ensures { λ r. ⌜ Stores (keep-glob edition class (now (token .entry))) (now (out .entry)) r (now (out .exit)) ⌝ }
 {
     let no = pattern_check::pattern_refusal(edition, token, true);
     if no != 0 {
@@ -134,8 +131,7 @@ fn compile_glob_pattern(edition: Edition, class: Class, token: &[u8], out: &mut 
 
 // A token by its class, without a look at quotes.
 fn store_scanned(edition: Edition, token: &[u8], out: &mut [u8]) -> Stored
-    ensures { λ r. ⌜ (r ≡ keep-answer (keep-scanned edition (now (token .entry))) (length (now (out .entry))))
-        × (now (out .exit) ≡ keep-buffer (keep-scanned edition (now (token .entry))) (now (out .entry))) ⌝ }
+    ensures { λ r. ⌜ Stores (keep-scanned edition (now (token .entry))) (now (out .entry)) r (now (out .exit)) ⌝ }
 {
     if is_lone_star(token) {
         return Stored::As(Class::All, 0);
@@ -151,8 +147,7 @@ fn store_scanned(edition: Edition, token: &[u8], out: &mut [u8]) -> Stored
 
 // A token, whole: its class and what is stored of it, or 1, 5, 6, 8, in this order.
 pub fn store_token(edition: Edition, token: &[u8], out: &mut [u8]) -> Stored
-    ensures { λ r. ⌜ (r ≡ keep-answer (keep edition (now (token .entry))) (length (now (out .entry))))
-        × (now (out .exit) ≡ keep-buffer (keep edition (now (token .entry))) (now (out .entry))) ⌝ }
+    ensures { λ r. ⌜ Stores (keep edition (now (token .entry))) (now (out .entry)) r (now (out .exit)) ⌝ }
 {
     if TOKEN_LIMIT < token.len() {
         return Stored::Refused(TOO_LONG);

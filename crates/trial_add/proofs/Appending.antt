@@ -113,13 +113,13 @@ module _ (c : Counts) (n m l q j : List ℕ) (node section language : ℕ) (t : 
     pub append-refused : (i : ℕ) → s ≡ stored.Refused i → (r : Edited) → r ≡ answer.Refused i
         → Answers r lent (five n m l q′ j) (append lent book node section language t)
     append-refused i z r a =
-        let w = was-refused (keep x t) q (c .pool) s q′ i u z in
+        let w = was-refused (keep x t) q (c .pool) s q′ i pool-asked u z in
         rw (w .1) (made-no (keep x t) i (ap (λ (e : Edition). keep e t) y) (poolless (keep x t) i (w .0)) r a)
 
     -- its bytes end within the pool's limit
     pub append-ends : (k : Class) (i : ℕ) → s ≡ As k i → c .pool + i ≤ pool-limit
     append-ends k i z =
-        let w = was-kept (keep x t) q (c .pool) s q′ k i u z in
+        let w = was-kept (keep x t) q (c .pool) s q′ k i pool-asked u z in
         omega (arith, w .size, w .room, room-limit q)
 
     -- ---- there is a row for it, and one for its edit
@@ -178,7 +178,7 @@ module _ (c : Counts) (n m l q j : List ℕ) (node section language : ℕ) (t : 
         → Answers r lent (five n m l′ q′ j′) (append lent book node section language t)
     unfolding edited after
     append-made f g k i class l′ j′ z w a d r e =
-        let o = was-kept (keep x t) q (c .pool) s q′ k i u z in
+        let o = was-kept (keep x t) q (c .pool) s q′ k i pool-asked u z in
         let v : append lent book node section language t ≡ to (with-line book (line f g k (o .bytes)))
         = append-is ∙ ap (λ (p : Edition). change (keep p t)) (sym y) ∙ ap change (o .keeps) ∙ stands f g k (o .bytes) (o .room) in
         rw v (

@@ -8,10 +8,11 @@ ghost use mathlib.Core.Bool.{cond};
 ghost use Prim.Native.Nat.{_≤_};
 ghost use lib.ListN.{length};
 ghost use Rattle.input.specs.Splitting.{input-limit, lines-in};
-ghost use Rattle.reading_cursors.specs.Places.{at-list, at-script};
 ghost use Rattle.book.specs.Layout.{five};
+ghost use Rattle.book_opening.specs.Opening.{as-list, as-script};
 ghost use Rattle.rounds.specs.Rounds.{Desk-rooms, Reached, desk-left, line-lent, lines-lent};
 use book::Counts;
+use book_opening::How;
 use desk::run_line;
 use desk_commands::parts::Numeral;
 use desk_commands::parts::line_end;
@@ -28,8 +29,6 @@ use meanings::say_refused;
 use numbers::TOO_LONG;
 use packing::same_bytes;
 use printing_symbols::render_refused;
-use reading_cursors::places::AT_LIST;
-use reading_cursors::places::AT_SCRIPT;
 
 // The longest input.
 const INPUT_LIMIT: usize = 65536;
@@ -128,14 +127,14 @@ fn run_commands(
     c
 }
 
-// Where a text begins in the grammar: as an export list, or as a version script.
-fn place_of(export: bool) -> u32
-    ensures { λ r. ⌜ r ≡ cond export at-list at-script ⌝ }
+// How a text is opened: as an export list, or as a version script.
+fn how_of(export: bool) -> How
+    ensures { λ r. ⌜ r ≡ cond export as-list as-script ⌝ }
 {
     if export {
-        return AT_LIST;
+        return How::LIST;
     }
-    AT_SCRIPT
+    How::SCRIPT
 }
 
 fn work(
@@ -151,10 +150,10 @@ fn work(
 )
     requires { ⌜ Desk-rooms (five (now nodes) (now names) (now lines) (now pool) (now journal)) × (length (now commands) ≤ input-limit) ⌝ }
     ensures { λ _. ⌜ five (now (nodes .exit)) (now (names .exit)) (now (lines .exit)) (now (pool .exit)) (now (journal .exit))
-        ≡ desk-left (cond export at-list at-script) (five (now (nodes .entry)) (now (names .entry)) (now (lines .entry)) (now (pool .entry)) (now (journal .entry))) (now (text .entry)) (now (commands .entry)) ⌝ }
+        ≡ desk-left (cond export as-list as-script) (five (now (nodes .entry)) (now (names .entry)) (now (lines .entry)) (now (pool .entry)) (now (journal .entry))) (now (text .entry)) (now (commands .entry)) ⌝ }
 {
-    let place = place_of(export);
-    let opened = book_opening::open(place, text, nodes, names, lines, pool, journal);
+    let how = how_of(export);
+    let opened = book_opening::open(how, text, nodes, names, lines, pool, journal);
     if opened.refusal != 0 {
         return refuse(text, opened.refusal, opened.place, out);
     }

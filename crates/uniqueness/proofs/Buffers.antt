@@ -1,14 +1,5 @@
 -- What writes into lent buffers leaves one answer and one end state: packing, copying, rooms, printing. Assumes nothing.
-use Prim.Native.Nat.{ℕ, _+_, _≤_, _<_}
-use mathlib.Core.Path.{_≡_, refl}
-use mathlib.Core.List.{List}
-use native.Mathlib.Decide.{decLe}
-use native.Mathlib.Omega.{arith}
-use lib.ListN.{length}
-use denote.Ref.{now}
-use Rattle.storing.specs.declared.Stored.{Stored}
-use Rattle.storing.specs.Keeping.{Keep, kept, refused, keep}
-use Rattle.book_rooms.specs.Rooms.{Put, pool-room}
+use mathlib.Core.Path.{refl}
 use Rattle.uniqueness.specs.Unique.{Unique}
 use Rattle.uniqueness.proofs.Same.{_▹_, same}
 use Rattle.packing.proofs.clear_bytes
@@ -75,21 +66,8 @@ has-edit-unique κs a x y v w p q = (same p q, refl)
 pub pool-end-unique : Unique pool_end.ended pool_end.Reads.Post
 pool-end-unique κs a x y v w p q = (same p q, refl)
 
--- what is kept is put where there is room for it and else refused, and a refusal leaves the pool as it was
-put-once : (k : Keep) (s : List ℕ) (at : ℕ) {r t : Stored} {u z : List ℕ} → Put k s at r u → Put k s at t z → (r ≡ t) × (u ≡ z)
-put-once (kept k bs) s at {r} {t} {u} {z} p q = go (decLe (at + length bs) (pool-room s))
-  where
-    go : Dec (at + length bs ≤ pool-room s) → (r ≡ t) × (u ≡ z)
-    go (yes h) = (same (p .0 h .0) (q .0 h .0), same (p .0 h .1) (q .0 h .1))
-    go (no h) =
-        let m : pool-room s < at + length bs = omega arith in
-        (same (p .1 m .0) (q .1 m .0), same (p .1 m .1) (q .1 m .1))
-put-once (refused n) s at p q = (same (p .0) (q .0), same (p .1) (q .1))
-
 pub put-token-unique : Unique put_token.ended put_token.Reads.Post
-put-token-unique κs a x y v w p q =
-    let e = put-once (keep (a .0) (now (a .1 .0))) (now (a .1 .1 .1 .0)) (a .1 .1 .0) p q in
-    (e .0, λ i. tt ▹ tt ▹ tt ▹ e .1 i ▹ tt)
+put-token-unique κs a x y v w p q = (same (p .0) (q .0), λ i. tt ▹ tt ▹ tt ▹ same (p .1) (q .1) i ▹ tt)
 
 -- ---- printing
 pub put-number-unique : Unique put_number.ended put_number.Reads.Post

@@ -1,11 +1,10 @@
-// version_script.rs, the book's side: a version script opened into lent buffers. Definitions: those of the crate `book_opening`. Its counts and its nodes are asked in
-// counting.
-ghost use Rattle.reading_cursors.specs.Places.{at-script};
+// version_script.rs, the book's side: a version script opened into lent buffers. Definitions: those of the crate `book_opening`. Its counts and its nodes are
+// asked in counting.
 ghost use Rattle.book.specs.Layout.{five};
-ghost use Rattle.book_opening.specs.Opening.{opening};
-ghost use Rattle.book_opening.specs.State.{Filled};
+ghost use Rattle.book_opening.specs.Opening.{as-script};
+ghost use Rattle.book_opening.specs.State.{Opens};
+use book_opening::How;
 use book_opening::Opened;
-use reading_cursors::places::AT_SCRIPT;
 
 // A version script, opened into lent buffers.
 pub fn open(
@@ -16,9 +15,8 @@ pub fn open(
     pool: &mut [u8],
     journal: &mut [u32],
 ) -> Opened
-    ensures { λ r. ⌜ Filled (opening at-script (five (now (nodes .entry)) (now (names .entry)) (now (lines .entry)) (now (pool .entry)) (now (journal .entry))) (now (text .entry))) r
-        (five (now (nodes .entry)) (now (names .entry)) (now (lines .entry)) (now (pool .entry)) (now (journal .entry)))
-        (five (now (nodes .exit)) (now (names .exit)) (now (lines .exit)) (now (pool .exit)) (now (journal .exit))) ⌝ }
+    ensures { λ r. ⌜ Opens as-script (five (now (nodes .entry)) (now (names .entry)) (now (lines .entry)) (now (pool .entry)) (now (journal .entry)))
+        (now (text .entry)) r (five (now (nodes .exit)) (now (names .exit)) (now (lines .exit)) (now (pool .exit)) (now (journal .exit))) ⌝ }
 {
-    book_opening::open(AT_SCRIPT, text, nodes, names, lines, pool, journal)
+    book_opening::open(How::SCRIPT, text, nodes, names, lines, pool, journal)
 }

@@ -27,7 +27,8 @@ returns-2 : tie.Need-returns-2
 returns-2 c =
     let x = c .before in
     let a = x .before .before .before .before .before .before .args in
-    parent-refused (a .g) (a .p) (a .nodes .now) (a .names .now) (x .first-named .result) (a .parent .now) [] (x .before .before .if1 .left) (x .first-named .ensures) (omega arith)
+    parent-refused (a .g) (a .p) (a .nodes .now) (a .names .now) (x .first-named .result) (a .parent .now) [] (x .before .before .if1 .left)
+    (x .first-named .ensures) (omega arith)
 
 cast-nodes : tie.Need-cast-nodes
 cast-nodes c = search needs
@@ -55,7 +56,8 @@ returns-3 : tie.Need-returns-3
 returns-3 c =
     let x = c .before in
     let a = x .before .before .before .before .before .before .args in
-    parent-set (a .g) (a .p) (a .nodes .now) (a .names .now) (x .first-named .result) (a .parent .now) _ (x .before .before .if1 .left) (x .first-named .ensures) (omega arith) refl
+    parent-set (a .g) (a .p) (a .nodes .now) (a .names .now) (x .first-named .result) (a .parent .now) _ (x .before .before .if1 .left)
+    (x .first-named .ensures) (omega arith) refl
 
 pub take-parent-spec : {M : Type 1} → statement M
 take-parent-spec =

@@ -34,10 +34,11 @@ returns c =
     let z = x .before .before .before .before .before .before .before in
     let y = z .before .before .before .before .before .before .before .before .before .before in
     let a = y .before .before .before .before .before .before .before .before .before .before .before .args in
-    open-filled (a .place) (a .nodes .now) (a .names .now) (a .lines .now) (a .pool .now) (a .journal .now) (a .text .now)
+    open-filled (a .how) (a .nodes .now) (a .names .now) (a .lines .now) (a .pool .now) (a .journal .now) (a .text .now)
     (y .clear-book .last .0) (y .clear-book .last .1 .0) (y .clear-book .last .1 .1 .0) (y .clear-book .last .1 .1 .1 .0)
     (z .clear-numbers .last .0)
-    (y .clear-book .ensures) (z .clear-numbers .ensures) (x .fill .result) (x .fill .last .1 .1 .0) (x .fill .last .1 .1 .1 .0) (x .fill .last .1 .1 .1 .1 .0) (x .fill .last .1 .1 .1 .1 .1 .0)
+    (y .clear-book .ensures) (z .clear-numbers .ensures) (x .fill .result) (x .fill .last .1 .1 .0) (x .fill .last .1 .1 .1 .0)
+    (x .fill .last .1 .1 .1 .1 .0) (x .fill .last .1 .1 .1 .1 .1 .0)
     (x .fill .ensures)
 
 pub open-spec : {M : Type 1} → statement M

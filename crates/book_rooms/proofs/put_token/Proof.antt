@@ -34,7 +34,7 @@ returns c =
     let s = p .before .before .before .before in
     let a = s .args in
     put-part (keep (a .edition) (a .token .now)) (a .pool .now) _ (a .at) (p .pool-end .result) (x .store-token .result)
-    (p .pool-end .ensures) (s .pre) (x .store-token .ensures .0) (x .store-token .ensures .1)
+    (p .pool-end .ensures) (s .pre) (x .store-token .ensures)
 
 pub put-token-spec : {M : Type 1} → statement M
 put-token-spec =

@@ -1,15 +1,15 @@
 -- `work` meets its contract: a text that is refused ends it, and behind one that is opened the commands are run. Assumes nothing.
 use mathlib.Core.Path.{_∙_}
 use mathlib.Core.Bool.{cond}
-use Rattle.reading_cursors.specs.Places.{at-list, at-script}
 use Rattle.book.specs.Layout.{five}
+use Rattle.book_opening.specs.Opening.{as-list, as-script}
 use Rattle.rounds.proofs.Beginnings.{reached-first, refused-left, run-left}
 use Rattle.trial_desk.proofs.Choices.{chosen-opens, opens-there}
 use Rattle.trial_desk.proofs.work.Statement.{statement}
 use Rattle.trial_desk.proofs.work.Tie as tie
 
-place-of-requires : tie.Need-place-of-requires
-place-of-requires c κs = tt
+how-of-requires : tie.Need-how-of-requires
+how-of-requires c κs = tt
 
 open-requires : tie.Need-open-requires
 open-requires c κs = tt
@@ -36,26 +36,26 @@ returns : tie.Need-returns
 returns c =
     let at-if1 = c .before .before in
     let at-open = at-if1 .before .before .before .before .before .before .before .before .before .before .before .before in
-    let at-place = at-open .before .before .before .before .before .before in
-    let at-args = at-place .before .before .before .before .before .before .before .before in
+    let at-how = at-open .before .before .before .before .before .before in
+    let at-args = at-how .before .before .before .before .before .before .before .before in
     let a = at-args .args in
     let w = at-open .«open» in
     let b = five (a .nodes .now) (a .names .now) (a .lines .now) (a .pool .now) (a .journal .now) in
-    let o = opens-there _ (cond (a .export) at-list at-script) (at-place .place-of .ensures) b (a .text .now) (w .result) _ (w .ensures) in
-    refused-left (cond (a .export) at-list at-script) b (a .text .now) (a .commands .now)
+    let o = opens-there _ (cond (a .export) as-list as-script) (at-how .how-of .ensures) b (a .text .now) (w .result) _ (w .ensures) in
+    refused-left (cond (a .export) as-list as-script) b (a .text .now) (a .commands .now)
     (w .result) (o .0) _ (o .1) (at-if1 .if1 .taken)
 
 run-commands-requires : tie.Need-run-commands-requires
 run-commands-requires c κs =
     let at-if1 = c .before .before .before .before .before .before in
     let at-open = at-if1 .before .before .before .before .before .before .before .before .before .before .before .before in
-    let at-place = at-open .before .before .before .before .before .before in
-    let at-args = at-place .before .before .before .before .before .before .before .before in
+    let at-how = at-open .before .before .before .before .before .before in
+    let at-args = at-how .before .before .before .before .before .before .before .before in
     let a = at-args .args in
     let w = at-open .«open» in
     let b = five (a .nodes .now) (a .names .now) (a .lines .now) (a .pool .now) (a .journal .now) in
-    let o = opens-there _ (cond (a .export) at-list at-script) (at-place .place-of .ensures) b (a .text .now) (w .result) _ (w .ensures) in (
-      reached-first (cond (a .export) at-list at-script) b (a .text .now) (a .commands .now)
+    let o = opens-there _ (cond (a .export) as-list as-script) (at-how .how-of .ensures) b (a .text .now) (w .result) _ (w .ensures) in (
+      reached-first (cond (a .export) as-list as-script) b (a .text .now) (a .commands .now)
           (w .result) (o .0) _ (o .1) (at-if1 .if1 .left) (chosen-opens (a .export)) (at-args .pre .0),
       at-args .pre .1,
     )
@@ -80,21 +80,21 @@ returns-2 c =
     let at-run-commands = c .before .before .before .before .before .before in
     let at-if1 = at-run-commands .before .before .before .before .before .before .before in
     let at-open = at-if1 .before .before .before .before .before .before .before .before .before .before .before .before in
-    let at-place = at-open .before .before .before .before .before .before in
-    let at-args = at-place .before .before .before .before .before .before .before .before in
+    let at-how = at-open .before .before .before .before .before .before in
+    let at-args = at-how .before .before .before .before .before .before .before .before in
     let a = at-args .args in
     let w = at-open .«open» in
     let b = five (a .nodes .now) (a .names .now) (a .lines .now) (a .pool .now) (a .journal .now) in
-    let o = opens-there _ (cond (a .export) at-list at-script) (at-place .place-of .ensures) b (a .text .now) (w .result) _ (w .ensures) in
+    let o = opens-there _ (cond (a .export) as-list as-script) (at-how .how-of .ensures) b (a .text .now) (w .result) _ (w .ensures) in
     let r = at-run-commands .run-commands in
-    run-left (cond (a .export) at-list at-script) b (a .text .now) (a .commands .now)
+    run-left (cond (a .export) as-list as-script) b (a .text .now) (a .commands .now)
     (w .result) (o .0) _ (o .1) (at-if1 .if1 .left) (r .result) _ (r .ensures)
 
 pub work-spec : {M : Type 1} → statement M
 work-spec =
     tie.close
     (tie.spec
-    place-of-requires
+    how-of-requires
     open-requires
     refuse-requires
     same-length

@@ -11,7 +11,8 @@ node-begins-requires : tie.Need-node-begins-requires
 node-begins-requires c κs =
     let s = c .before .before .before .before .before .before .before .before .before .before in
     let a = s .args in
-    node-asks (a .s .now) (a .g) (a .nodes .now) (a .names .now) (a .lines .now) (a .pool .now) (s .pre .0) (a .e) _ _ (s .pre .1) (s .pre .2) (c .before .before .before .e .given .1)
+    node-asks (a .s .now) (a .g) (a .nodes .now) (a .names .now) (a .lines .now) (a .pool .now) (s .pre .0) (a .e) _ _ (s .pre .1) (s .pre .2)
+    (c .before .before .before .e .given .1)
 
 enum-told : tie.Need-enum-told
 enum-told c = search needs
@@ -38,7 +39,8 @@ line-stands-requires : tie.Need-line-stands-requires
 line-stands-requires c κs =
     let s = c .before .before .before .before .before .before .before .before .before .before in
     let a = s .args in
-    line-asks (a .s .now) (a .g) (a .nodes .now) (a .names .now) (a .lines .now) (a .pool .now) (s .pre .0) (a .e) _ _ _ _ (s .pre .2) (c .before .before .before .e3 .given .1)
+    line-asks (a .s .now) (a .g) (a .nodes .now) (a .names .now) (a .lines .now) (a .pool .now) (s .pre .0) (a .e) _ _ _ _ (s .pre .2)
+    (c .before .before .before .e3 .given .1)
 
 enum-known-e-4 : tie.Need-enum-known-e-4
 enum-known-e-4 c = search needs
@@ -47,7 +49,8 @@ node-ends-requires : tie.Need-node-ends-requires
 node-ends-requires c κs =
     let s = c .before .before .before .before .before .before .before .before .before .before in
     let a = s .args in
-    parent-asks (a .s .now) (a .g) (a .nodes .now) (a .names .now) (a .lines .now) (a .pool .now) (s .pre .0) (a .e) _ _ (s .pre .2) (c .before .before .before .e4 .given .1)
+    parent-asks (a .s .now) (a .g) (a .nodes .now) (a .names .now) (a .lines .now) (a .pool .now) (s .pre .0) (a .e) _ _ (s .pre .2)
+    (c .before .before .before .e4 .given .1)
 
 same-length : tie.Need-same-length
 same-length c = search needs
@@ -61,7 +64,8 @@ returns c =
     let e = x .before .before .before .before .e in
     let s = x .before .before .before .before .before .before .before .before .before .before .before in
     let a = s .args in
-    took-node (a .s .now) (a .g) (a .nodes .now) (a .names .now) (a .lines .now) (a .pool .now) (s .pre .0) (a .e) (e .given .0 .0) (e .given .0 .1 .0) (x .node-begins .result) (x .node-begins .last .1 .1 .1 .1 .0) (x .node-begins .last .1 .1 .1 .1 .1 .0) (e .given .1)
+    took-node (a .s .now) (a .g) (a .nodes .now) (a .names .now) (a .lines .now) (a .pool .now) (s .pre .0) (a .e) (e .given .0 .0)
+    (e .given .0 .1 .0) (x .node-begins .result) (x .node-begins .last .1 .1 .1 .1 .0) (x .node-begins .last .1 .1 .1 .1 .1 .0) (e .given .1)
     (x .node-begins .ensures)
 
 returns-2 : tie.Need-returns-2
@@ -80,13 +84,15 @@ returns-4 : tie.Need-returns-4
 returns-4 c =
     let s = c .before .before .before .before .before .before .before .before .before in
     let a = s .args in
-    took-extern (a .s .now) (a .g) (a .nodes .now) (a .names .now) (a .lines .now) (a .pool .now) (s .pre .0) (a .e) _ _ _ (c .before .before .e2 .given .1) (c .take-extern .ensures)
+    took-extern (a .s .now) (a .g) (a .nodes .now) (a .names .now) (a .lines .now) (a .pool .now) (s .pre .0) (a .e) _ _ _
+    (c .before .before .e2 .given .1) (c .take-extern .ensures)
 
 returns-5 : tie.Need-returns-5
 returns-5 c =
     let s = c .before .before .before .before .before .before .before .before in
     let a = s .args in
-    took-closed (a .s .now) (a .g) (a .nodes .now) (a .names .now) (a .lines .now) (a .pool .now) (s .pre .0) (a .e) _ (c .before .enum-told3 .given .1) (c .take-closed .ensures)
+    took-closed (a .s .now) (a .g) (a .nodes .now) (a .names .now) (a .lines .now) (a .pool .now) (s .pre .0) (a .e) _
+    (c .before .enum-told3 .given .1) (c .take-closed .ensures)
 
 same-length-3 : tie.Need-same-length-3
 same-length-3 c = search needs
@@ -100,7 +106,8 @@ returns-6 c =
     let e = x .before .before .before .before .e3 in
     let s = x .before .before .before .before .before .before .before .before .before .before .before in
     let a = s .args in
-    took-line (a .s .now) (a .g) (a .nodes .now) (a .names .now) (a .lines .now) (a .pool .now) (s .pre .0) (a .e) (e .given .0 .0) (e .given .0 .1 .0) (e .given .0 .1 .1 .0) (e .given .0 .1 .1 .1 .0) (x .line-stands .result)
+    took-line (a .s .now) (a .g) (a .nodes .now) (a .names .now) (a .lines .now) (a .pool .now) (s .pre .0) (a .e) (e .given .0 .0)
+    (e .given .0 .1 .0) (e .given .0 .1 .1 .0) (e .given .0 .1 .1 .1 .0) (x .line-stands .result)
     (x .line-stands .last .1 .1 .1 .1 .1 .1 .0) (x .line-stands .last .1 .1 .1 .1 .1 .1 .1 .0) (e .given .1) (x .line-stands .ensures)
 
 same-length-5 : tie.Need-same-length-5
@@ -115,7 +122,8 @@ returns-7 c =
     let e = x .before .before .before .before .e4 in
     let s = x .before .before .before .before .before .before .before .before .before .before .before in
     let a = s .args in
-    took-parent (a .s .now) (a .g) (a .nodes .now) (a .names .now) (a .lines .now) (a .pool .now) (s .pre .0) (a .e) (e .given .0 .0) (e .given .0 .1 .0) (x .node-ends .result) (x .node-ends .last .1 .1 .1 .1 .0) (e .given .1) (x .node-ends .ensures)
+    took-parent (a .s .now) (a .g) (a .nodes .now) (a .names .now) (a .lines .now) (a .pool .now) (s .pre .0) (a .e) (e .given .0 .0)
+    (e .given .0 .1 .0) (x .node-ends .result) (x .node-ends .last .1 .1 .1 .1 .0) (e .given .1) (x .node-ends .ensures)
 
 pub take-event-spec : {M : Type 1} → statement M
 take-event-spec =

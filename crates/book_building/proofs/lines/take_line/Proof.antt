@@ -37,7 +37,8 @@ returns c =
     let x = c .before .before .before .before .before .before .before .before in
     let a = x .before .before .before .before .before .before .args in
     line-rowless (a .g) (a .p) (a .section) (a .language) (a .token .now) (a .lines .now) (a .pool .now)
-    (x .before .before .edition-of .result) (x .before .before .edition-of .ensures) (x .put-token .result) _ (x .put-token .ensures)
+    (x .before .before .edition-of .result) (x .before .before .edition-of .ensures) (x .put-token .result) _
+    (x .before .before .before .before .before .before .pre .0) (x .put-token .ensures)
     _ _ [] [] (c .before .before .before .before .class .given .1) (sym (c .before .has-row .ensures) ∙ not-true _ (c .if1 .taken))
 
 class-number-requires : tie.Need-class-number-requires
@@ -49,48 +50,34 @@ sub-node c = search needs
 cast-node : tie.Need-cast-node
 cast-node c = search needs
 
-mul-put-four : tie.Need-mul-put-four
-mul-put-four c =
-    let x = c .before .before .before .before .before .before .before .before .before .before .before in
-    let a = x .before .before .before .before .before .before .args in
-    let i = c .before .before .before in
-    let r = row-number (a .lines .now) (a .g .lines) (sym (i .before .has-row .ensures) ∙ not-false _ (i .if1 .left)) in
-    omega arith
+code-of-requires : tie.Need-code-of-requires
+code-of-requires c κs =
+    let p = c .before .before .before .before .before .before .before .before .before .before .before .before .before .before .before .before .pre in
+    (omega (arith, c .before .class-number .ensures, class-few (c .before .before .before .before .before .before .class .given .0 .0)), p .3, p .4)
 
-mul-put-four-2 : tie.Need-mul-put-four-2
-mul-put-four-2 c = omega (arith, c .before .before .class-number .ensures, class-few (c .before .before .before .before .before .before .before .class .given .0 .0))
-
-mul-put-four-3 : tie.Need-mul-put-four-3
-mul-put-four-3 c = search needs
-
-add-put-four : tie.Need-add-put-four
-add-put-four c = omega (arith, c .before .before .class-number .ensures, class-few (c .before .before .before .before .before .before .before .class .given .0 .0))
-
-add-put-four-2 : tie.Need-add-put-four-2
-add-put-four-2 c = omega (arith, c .before .before .class-number .ensures, class-few (c .before .before .before .before .before .before .before .class .given .0 .0))
-
-cast-put-four : tie.Need-cast-put-four
-cast-put-four c =
-    let x = c .before .before .before .before .before .before .before .before .before .before .before in
+cast-put-line : tie.Need-cast-put-line
+cast-put-line c =
+    let x = c .before .before .before .before .before .before .before .before .before .before .before .before in
     let a = x .before .before .before .before .before .before .args in
     omega (arith, room-limit (a .pool .now))
 
-cast-put-four-2 : tie.Need-cast-put-four-2
-cast-put-four-2 c =
-    let x = c .before .before .before .before .before .before .before .before .before .before .before in
+cast-put-line-2 : tie.Need-cast-put-line-2
+cast-put-line-2 c =
+    let x = c .before .before .before .before .before .before .before .before .before .before .before .before in
     let a = x .before .before .before .before .before .before .args in
     omega (
       arith,
       line-ends (a .g) (a .p) (a .section) (a .language) (a .token .now) (a .lines .now) (a .pool .now)
-          (x .before .before .edition-of .result) (x .before .before .edition-of .ensures) (x .put-token .result) _ (x .put-token .ensures)
-          _ _ (c .before .before .before .before .before .before .before .class .given .1),
+          (x .before .before .edition-of .result) (x .before .before .edition-of .ensures) (x .put-token .result) _
+          (x .before .before .before .before .before .before .pre .0) (x .put-token .ensures)
+          _ _ (c .before .before .before .before .before .before .before .before .class .given .1),
     )
 
-put-four-requires : tie.Need-put-four-requires
-put-four-requires c κs =
-    let x = c .before .before .before .before .before .before .before .before .before .before .before in
+put-line-requires : tie.Need-put-line-requires
+put-line-requires c κs =
+    let x = c .before .before .before .before .before .before .before .before .before .before .before .before in
     let a = x .before .before .before .before .before .before .args in
-    let i = c .before .before .before in
+    let i = c .before .before .before .before in
     let r = row-within (a .lines .now) (a .g .lines) (sym (i .before .has-row .ensures) ∙ not-false _ (i .if1 .left)) in
     omega arith
 
@@ -100,23 +87,24 @@ mixed-behind-requires c κs = search needs
 starred-behind-requires : tie.Need-starred-behind-requires
 starred-behind-requires c κs = search needs
 
-add-t26 : tie.Need-add-t26
-add-t26 c =
-    let x = c .before .before .before .before .before .before .before .before .before .before .before .before .before .before .before .before in
+add-t27 : tie.Need-add-t27
+add-t27 c =
+    let x = c .before .before .before .before .before .before .before .before .before .before .before .before .before .before .before .before .before in
     let a = x .before .before .before .before .before .before .args in
-    let i = c .before .before .before .before .before .before .before .before in
+    let i = c .before .before .before .before .before .before .before .before .before in
     let r = row-number (a .lines .now) (a .g .lines) (sym (i .before .has-row .ensures) ∙ not-false _ (i .if1 .left)) in
     omega arith
 
-add-t36 : tie.Need-add-t36
-add-t36 c =
-    let x = c .before .before .before .before .before .before .before .before .before .before .before .before .before .before .before .before in
+add-t33 : tie.Need-add-t33
+add-t33 c =
+    let x = c .before .before .before .before .before .before .before .before .before .before .before .before .before .before .before .before .before in
     let a = x .before .before .before .before .before .before .args in
     omega (
       arith,
       line-ends (a .g) (a .p) (a .section) (a .language) (a .token .now) (a .lines .now) (a .pool .now)
-          (x .before .before .edition-of .result) (x .before .before .edition-of .ensures) (x .put-token .result) _ (x .put-token .ensures)
-          _ _ (c .before .before .before .before .before .before .before .before .before .before .before .before .class .given .1),
+          (x .before .before .edition-of .result) (x .before .before .edition-of .ensures) (x .put-token .result) _
+          (x .before .before .before .before .before .before .pre .0) (x .put-token .ensures)
+          _ _ (c .before .before .before .before .before .before .before .before .before .before .before .before .before .class .given .1),
     )
 
 same-length-3 : tie.Need-same-length-3
@@ -127,7 +115,8 @@ returns-2 c =
     let x = c .before .before .before .before .before in
     let a = x .before .before .before .before .before .before .args in
     line-refused (a .g) (a .p) (a .section) (a .language) (a .token .now) (a .lines .now) (a .pool .now)
-    (x .before .before .edition-of .result) (x .before .before .edition-of .ensures) (x .put-token .result) _ (x .put-token .ensures) _ [] [] (c .before .no .given .1)
+    (x .before .before .edition-of .result) (x .before .before .edition-of .ensures) (x .put-token .result) _
+    (x .before .before .before .before .before .before .pre .0) (x .put-token .ensures) _ [] [] (c .before .no .given .1)
 
 same-length-4 : tie.Need-same-length-4
 same-length-4 c = search needs
@@ -137,13 +126,17 @@ same-length-5 c = search needs
 
 returns-3 : tie.Need-returns-3
 returns-3 c =
-    let x = c .before .before .before .before .before .before .before .before .before .before .before .before .before .before .before .before in
+    let x = c .before .before .before .before .before .before .before .before .before .before .before .before .before .before .before .before .before in
     let a = x .before .before .before .before .before .before .args in
-    let i = c .before .before .before .before .before .before .before .before in
+    let i = c .before .before .before .before .before .before .before .before .before in
     line-added (a .g) (a .p) (a .section) (a .language) (a .token .now) (a .lines .now) (a .pool .now)
-    (x .before .before .edition-of .result) (x .before .before .edition-of .ensures) (x .put-token .result) _ (x .put-token .ensures)
-    _ _ _ _ _ _ (i .before .before .before .before .class .given .1) (sym (i .before .has-row .ensures) ∙ not-false _ (i .if1 .left)) (omega arith) (omega arith)
-    (c .before .before .before .before .before .before .before .class-number .ensures) (c .before .mixed-behind .ensures) (c .starred-behind .ensures) (c .before .before .before .before .put-four .ensures)
+    (x .before .before .edition-of .result) (x .before .before .edition-of .ensures) (x .put-token .result) _
+    (x .before .before .before .before .before .before .pre .0) (x .put-token .ensures)
+    _ _ _ _ _ _ _ (i .before .before .before .before .class .given .1) (sym (i .before .has-row .ensures) ∙ not-false _ (i .if1 .left)) (omega arith)
+    (omega arith)
+    (c .before .before .before .before .before .before .before .before .class-number .ensures)
+    (c .before .before .before .before .before .before .code-of .ensures) (c .before .mixed-behind .ensures) (c .starred-behind .ensures)
+    (c .before .before .before .before .put-line .ensures)
 
 pub take-line-spec : {M : Type 1} → statement M
 take-line-spec =
@@ -160,18 +153,14 @@ take-line-spec =
     class-number-requires
     sub-node
     cast-node
-    mul-put-four
-    mul-put-four-2
-    mul-put-four-3
-    add-put-four
-    add-put-four-2
-    cast-put-four
-    cast-put-four-2
-    put-four-requires
+    code-of-requires
+    cast-put-line
+    cast-put-line-2
+    put-line-requires
     mixed-behind-requires
     starred-behind-requires
-    add-t26
-    add-t36
+    add-t27
+    add-t33
     same-length-3
     returns-2
     same-length-4

@@ -21,7 +21,7 @@ loop-holds : tie.Need-loop-holds Inv-loop μ-loop
 loop-holds c =
     let a = c .before .before .before .before .before .before .args in
     let p = c .before .before .before .before .before .before .pre in
-    going-starts (a .place) (a .s .now) (a .nodes .now) (a .names .now) (a .lines .now) (a .pool .now) _ (c .start-at .ensures) (p .1) (p .2) (p .3) (p .4) (p .5)
+    going-starts (a .place) (a .s .now) (a .nodes .now) (a .names .now) (a .lines .now) (a .pool .now) _ (c .start-at .ensures) (p .1) (p .2)
 
 next-event-requires : tie.Need-next-event-requires Inv-loop μ-loop
 next-event-requires c κs = search needs
@@ -103,8 +103,10 @@ returns-3 c =
     let t = c .before .before .before .before .before .before .before .before .before .before .before in
     let x = t .before .before .before .before .before .before .before .before in
     let o = x .before .loop in
-    going-no _ _ _ _ _ _ _ _ _ _ _ _ (o .inv) (x .next-event .result) (x .next-event .ensures) _ _ (t .before .before .before .before .before .before .e .given .1) (t .take-event .result) _ _
-    (t .take-event .last .1 .1 .1 .0) (t .take-event .last .1 .1 .1 .1 .0) (t .take-event .last .1 .1 .1 .1 .1 .0) (t .take-event .last .1 .1 .1 .1 .1 .1 .0) (c .before .n2 .given .1)
+    going-no _ _ _ _ _ _ _ _ _ _ _ _ (o .inv) (x .next-event .result) (x .next-event .ensures) _ _
+    (t .before .before .before .before .before .before .e .given .1) (t .take-event .result) _ _
+    (t .take-event .last .1 .1 .1 .0) (t .take-event .last .1 .1 .1 .1 .0) (t .take-event .last .1 .1 .1 .1 .1 .0)
+    (t .take-event .last .1 .1 .1 .1 .1 .1 .0) (c .before .n2 .given .1)
     (t .take-event .ensures)
 
 enum-known-h : tie.Need-enum-known-h Inv-loop μ-loop
@@ -115,15 +117,18 @@ loop-less c =
     let t = c .before .before .before .before .before .before .before .before .before .before .before in
     let x = t .before .before .before .before .before .before .before .before in
     let o = x .before .loop in
-    going-onward _ _ _ _ _ _ _ _ _ _ _ _ (o .inv) (x .next-event .result) (x .next-event .ensures) _ _ (t .before .before .before .before .before .before .e .given .1)
+    going-onward _ _ _ _ _ _ _ _ _ _ _ _ (o .inv) (x .next-event .result) (x .next-event .ensures) _ _
+    (t .before .before .before .before .before .before .e .given .1)
 
 loop-again : tie.Need-loop-again Inv-loop μ-loop
 loop-again c =
     let t = c .before .before .before .before .before .before .before .before .before .before .before in
     let x = t .before .before .before .before .before .before .before .before in
     let o = x .before .loop in
-    going-on _ _ _ _ _ _ _ _ _ _ _ _ (o .inv) (x .next-event .result) (x .next-event .ensures) _ _ (t .before .before .before .before .before .before .e .given .1) (t .take-event .result) _
-    (t .take-event .last .1 .1 .1 .0) (t .take-event .last .1 .1 .1 .1 .0) (t .take-event .last .1 .1 .1 .1 .1 .0) (t .take-event .last .1 .1 .1 .1 .1 .1 .0) (c .before .h .given .1)
+    going-on _ _ _ _ _ _ _ _ _ _ _ _ (o .inv) (x .next-event .result) (x .next-event .ensures) _ _
+    (t .before .before .before .before .before .before .e .given .1) (t .take-event .result) _
+    (t .take-event .last .1 .1 .1 .0) (t .take-event .last .1 .1 .1 .1 .0) (t .take-event .last .1 .1 .1 .1 .1 .0)
+    (t .take-event .last .1 .1 .1 .1 .1 .1 .0) (c .before .h .given .1)
     (t .take-event .ensures) (search needs) (search needs) (search needs) (search needs)
 
 pub build-spec : {M : Type 1} → statement M

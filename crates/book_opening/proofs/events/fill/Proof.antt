@@ -11,7 +11,8 @@ returns : tie.Need-returns
 returns c =
     let s = c .before .before .before .before .before .before .before in
     let a = s .args in
-    fill-long (a .place) (a .s .now) (a .nodes .now) (a .names .now) (a .lines .now) (a .pool .now) (c .refused .result) (s .pre .0) (s .pre .1) (s .pre .2) (s .pre .3) (c .before .if1 .taken) (c .refused .ensures)
+    fill-long (a .how) (a .s .now) (a .nodes .now) (a .names .now) (a .lines .now) (a .pool .now) (c .refused .result) (s .pre)
+    (c .before .if1 .taken) (c .refused .ensures)
 
 refused-requires-2 : tie.Need-refused-requires-2
 refused-requires-2 c κs = search needs
@@ -20,7 +21,8 @@ returns-2 : tie.Need-returns-2
 returns-2 c =
     let s = c .before .before .before .before .before .before .before .before in
     let a = s .args in
-    fill-roomless (a .place) (a .s .now) (a .nodes .now) (a .names .now) (a .lines .now) (a .pool .now) (c .refused2 .result) (s .pre .0) (s .pre .1) (s .pre .2) (s .pre .3) (c .before .before .if1 .left) (c .before .if2 .taken) (c .refused2 .ensures)
+    fill-roomless (a .how) (a .s .now) (a .nodes .now) (a .names .now) (a .lines .now) (a .pool .now) (c .refused2 .result) (s .pre)
+    (c .before .before .if1 .left) (c .before .if2 .taken) (c .refused2 .ensures)
 
 build-requires : tie.Need-build-requires
 build-requires c κs = search needs
@@ -53,9 +55,11 @@ returns-3 : tie.Need-returns-3
 returns-3 c =
     let x = c .before .before .before .before .before .before .before .before .before .before .before in
     let a = x .before .before .before .before .before .before .before .before .before .before .before .before .args in
-    filled-on (a .place) (a .s .now) (a .nodes .now) (a .names .now) (a .lines .now) (a .pool .now) _ _ (x .before .before .before .before .before .before .if1 .left) (x .before .before .before .before .before .if2 .left)
+    filled-on (a .how) (a .s .now) (a .nodes .now) (a .names .now) (a .lines .now) (a .pool .now) _ _
+    (x .before .before .before .before .before .before .if1 .left) (x .before .before .before .before .before .if2 .left)
     (fill-done _ (x .build .result) (a .nodes .now) (a .names .now) (a .lines .now) (a .pool .now)
-    (x .build .last .1 .1 .0) (x .build .last .1 .1 .1 .0) (x .build .last .1 .1 .1 .1 .0) (x .build .last .1 .1 .1 .1 .1 .0) (x .build .ensures) _ (c .before .counts .given .1))
+    (x .build .last .1 .1 .0) (x .build .last .1 .1 .1 .0) (x .build .last .1 .1 .1 .1 .0) (x .build .last .1 .1 .1 .1 .1 .0) (x .build .ensures) _
+    (c .before .counts .given .1))
 
 same-length-5 : tie.Need-same-length-5
 same-length-5 c = search needs
@@ -74,10 +78,13 @@ returns-4 c =
     let y = c .before .before .before .before .before .before .before .before .before in
     let x = y .before .before .before .before .before .before .before .before .before .before .before .before .before .before .before .before in
     let a = x .before .before .before .before .before .before .before .before .before .before .before .before .args in
-    filled-on (a .place) (a .s .now) (a .nodes .now) (a .names .now) (a .lines .now) (a .pool .now) _ _ (x .before .before .before .before .before .before .if1 .left) (x .before .before .before .before .before .if2 .left)
+    filled-on (a .how) (a .s .now) (a .nodes .now) (a .names .now) (a .lines .now) (a .pool .now) _ _
+    (x .before .before .before .before .before .before .if1 .left) (x .before .before .before .before .before .if2 .left)
     (fill-refused _ (x .build .result) (a .nodes .now) (a .names .now) (a .lines .now) (a .pool .now)
-    (x .build .last .1 .1 .0) (x .build .last .1 .1 .1 .0) (x .build .last .1 .1 .1 .1 .0) (x .build .last .1 .1 .1 .1 .1 .0) (x .build .ensures) _ _ (c .refused3 .result)
-    (y .clear-book .last .0) (y .clear-book .last .1 .0) (y .clear-book .last .1 .1 .0) (y .clear-book .last .1 .1 .1 .0) (y .before .before .before .before .before .before .n .given .1) (c .refused3 .ensures) (y .clear-book .ensures)
+    (x .build .last .1 .1 .0) (x .build .last .1 .1 .1 .0) (x .build .last .1 .1 .1 .1 .0) (x .build .last .1 .1 .1 .1 .1 .0) (x .build .ensures) _ _
+    (c .refused3 .result)
+    (y .clear-book .last .0) (y .clear-book .last .1 .0) (y .clear-book .last .1 .1 .0) (y .clear-book .last .1 .1 .1 .0)
+    (y .before .before .before .before .before .before .n .given .1) (c .refused3 .ensures) (y .clear-book .ensures)
     (search needs) (search needs) (search needs) (search needs))
 
 pub fill-spec : {M : Type 1} → statement M
