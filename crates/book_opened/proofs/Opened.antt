@@ -8,6 +8,7 @@ use native.Mathlib.Omega.{arith}
 use borrow.Author.Tests.{eqb-true, leb-true, ltb-false, not-true}
 use lib.Dec.{eqb, leb, ltb}
 use lib.ListN.{length}
+use Rattle.numbers.specs.Editions.{reld}
 use Rattle.numbers.specs.Limits.{script-limit}
 use Rattle.numbers.specs.Refusals.{no-room, too-long}
 use Rattle.lists.proofs.Tests.{both}
@@ -113,12 +114,12 @@ unfolding opening reading reading-from
 viewable place b s w h k e = go (ltb script-limit (length s)) (leb node-width (length (b .nodes))) refl e
   where
     go : (x y : Bool) → leb node-width (length (b .nodes)) ≡ y
-        → cond x (declined too-long 0) (cond y (build-reading place b s nothing-yet (reading place s)) (declined no-room 0)) ≡ opens w
+        → cond x (declined too-long 0) (cond y (build-reading place b s nothing-yet (reading reld place s)) (declined no-room 0)) ≡ opens w
         → Viewable b w
     go true y z f = absurd (true≢false (cc))
     go false false z f = absurd (true≢false (cc))
     go false true z f =
-        along place b s w (length s + 2 - start place s .at) (start place s) nothing-yet (sound-start b s place (leb-true _ _ z) h k) f
+        along place b s w (length s + 2 - start reld place s .at) (start reld place s) nothing-yet (sound-start b s place (leb-true _ _ z) h k) f
 
 starts-free : (place : ℕ) → opens-at place ≡ true → (place < at-symbol) × (block-place place ≡ false)
 starts-free place e = go (eqb place at-script) refl e

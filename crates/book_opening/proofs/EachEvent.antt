@@ -3,6 +3,7 @@ use Prim.Native.Nat.{ℕ}
 use mathlib.Core.Path.{_≡_, refl, ap, _∙_}
 use mathlib.Core.List.{List, [], _∷_}
 use lib.ListN.{length}
+use Rattle.numbers.specs.Editions.{reld}
 use Rattle.linker_script.specs.Parts.{part}
 use Rattle.storing.specs.Keeping.{Keep, kept, refused, keep}
 use Rattle.reading_cursors.specs.declared.Event.{Event}
@@ -62,4 +63,4 @@ module _ (b b′ : Buffers) (a : Alike b b′) where
 
   pub opening-alike : (place : ℕ) (s : List ℕ) → opening place b s ≡ opening place b′ s
   unfolding opening build-reading
-  opening-alike place s = rw (a .nodes, build-alike place s nothing-yet (reading place s .events) (reading place s .outcome))
+  opening-alike place s = rw (a .nodes, build-alike place s nothing-yet (reading reld place s .events) (reading reld place s .outcome))

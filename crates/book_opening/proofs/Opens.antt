@@ -7,6 +7,7 @@ use mathlib.Core.Bool.{true, true≢false}
 use native.Mathlib.Omega.{arith}
 use borrow.Author.Tests.{le-leb, le-ltb, lt-leb, lt-ltb}
 use lib.ListN.{length, length-replicate}
+use Rattle.numbers.specs.Editions.{reld}
 use Rattle.numbers.specs.Limits.{line-limit, node-limit, pool-limit, script-limit}
 use Rattle.numbers.specs.Refusals.{no-room, too-long}
 use Rattle.packing.specs.Padding.{pad, zeros}
@@ -48,7 +49,7 @@ pub record Going (place : ℕ) (s n m l q n′ m′ l′ q′ : List ℕ) (c : C
   pub marked : Marked c
   pub holds : built g (five n′ m′ l′ q′ []) ≡ true
   pub alike : Alike (five n m l q []) (five n′ m′ l′ q′ [])
-  pub whole : build-reading place (five n m l q []) s nothing-yet (reading place s)
+  pub whole : build-reading place (five n m l q []) s nothing-yet (reading reld place s)
       ≡ build-reading place (five n′ m′ l′ q′ []) s (building g (five n′ m′ l′ q′ [])) (reading-from s c)
 
 -- behind an opening that is known
@@ -59,14 +60,14 @@ ended-no : (o : Opening) (k p : ℕ) (r : Built) (b b′ : Buffers) → o ≡ de
 ended-no o k p r b b′ z x = rw z x
 
 module _ (place : ℕ) (s n m l q : List ℕ) where
-  pub going-starts : (c : Cursor) → c ≡ start place s → node-width ≤ length n → Clear n → Clear m → Clear l → Clear q
+  pub going-starts : (c : Cursor) → c ≡ start reld place s → node-width ≤ length n → Clear n → Clear m → Clear l → Clear q
       → Going place s n m l q n m l q c none-yet
   unfolding reading
   going-starts c z h a b d e =
       let t = starts-built n m l q a b d e h in
       record {
-        stands = rw z (start-stands place s);
-        marked = rw z (start-marked place s);
+        stands = rw z (start-stands reld place s);
+        marked = rw z (start-marked reld place s);
         holds = t .1;
         alike = record { nodes = refl; names = refl; lines = refl; pool = refl };
         whole = rw (t .0, z);
@@ -75,7 +76,7 @@ module _ (place : ℕ) (s n m l q : List ℕ) where
   module _ (n′ m′ l′ q′ : List ℕ) (c : Cursor) (g : Progress) (i : Going place s n m l q n′ m′ l′ q′ c g) (x : Step) (k : x ≡ next s c) where
     -- what is left, by the next step
     left-to-read : (y : Step) → x ≡ y
-        → build-reading place (five n m l q []) s nothing-yet (reading place s)
+        → build-reading place (five n m l q []) s nothing-yet (reading reld place s)
         ≡ build-reading place (five n′ m′ l′ q′ []) s (building g (five n′ m′ l′ q′ [])) (on-step y (λ d. reading-from s d))
     left-to-read y z = i .whole ∙ ap (build-reading place (five n′ m′ l′ q′ []) s (building g (five n′ m′ l′ q′ []))) (reading-step s c (i .stands) ∙ rw (← k, z))
 
@@ -87,7 +88,7 @@ module _ (place : ℕ) (s n m l q : List ℕ) where
 
     -- the text has ended: r is what `finished` answers
     pub going-ends : (r : Counts) → x ≡ End → Finished place g r
-        → Ended (build-reading place (five n m l q []) s nothing-yet (reading place s)) (Done r) (five n m l q []) (five n′ m′ l′ q′ [])
+        → Ended (build-reading place (five n m l q []) s nothing-yet (reading reld place s)) (Done r) (five n m l q []) (five n′ m′ l′ q′ [])
     unfolding build-reading build
     going-ends r z f =
         let w : Book = finished place (building g (five n′ m′ l′ q′ [])) in
@@ -98,7 +99,7 @@ module _ (place : ℕ) (s n m l q : List ℕ) where
 
     -- the reading is refused
     pub going-refused : (a p : ℕ) → x ≡ step.Refused a p
-        → Ended (build-reading place (five n m l q []) s nothing-yet (reading place s)) (Refused a p) (five n m l q []) (five n′ m′ l′ q′ [])
+        → Ended (build-reading place (five n m l q []) s nothing-yet (reading reld place s)) (Refused a p) (five n m l q []) (five n′ m′ l′ q′ [])
     unfolding build-reading build
     going-refused a p z = ended-no _ a p (Refused a p) (five n m l q []) (five n′ m′ l′ q′ []) (left-to-read (step.Refused a p) z) refl
 
@@ -114,7 +115,7 @@ module _ (place : ℕ) (s n m l q : List ℕ) where
       -- the event is refused: v is what `take_event` answers
       pub going-no : (v : Taking) (a p : ℕ) (n″ m″ l″ q″ : List ℕ) → v ≡ No a p
           → Took (take-event (five n′ m′ l′ q′ []) s (building g (five n′ m′ l′ q′ [])) e) v (five n″ m″ l″ q″ [])
-          → Ended (build-reading place (five n m l q []) s nothing-yet (reading place s)) (Refused a p) (five n m l q []) (five n″ m″ l″ q″ [])
+          → Ended (build-reading place (five n m l q []) s nothing-yet (reading reld place s)) (Refused a p) (five n m l q []) (five n″ m″ l″ q″ [])
       unfolding build-reading build
       going-no v a p n″ m″ l″ q″ y u =
           let t : take-event (five n′ m′ l′ q′ []) s (building g (five n′ m′ l′ q′ [])) e ≡ no a p = rw y at u in
@@ -161,7 +162,7 @@ module _ (place : ℕ) (s n m l q : List ℕ) where
 
   -- row 0 has room
   pub filled-on : (r : Opened) (b′ : Buffers) → length s ≤ script-limit → node-width ≤ length n
-      → Filled (build-reading place (five n m l q []) s nothing-yet (reading place s)) r (five n m l q []) b′
+      → Filled (build-reading place (five n m l q []) s nothing-yet (reading reld place s)) r (five n m l q []) b′
       → Filled (opening place (five n m l q []) s) r (five n m l q []) b′
   unfolding opening
   filled-on r b′ h k t = rw (le-ltb script-limit (length s) h, le-leb node-width (length n) k) t

@@ -7,6 +7,7 @@ use native.Mathlib.Omega.{arith}
 use lib.Dec.{leb, ltb}
 use lib.ListN.{length}
 use Rattle.linker_script.specs.Parts.{part}
+use Rattle.numbers.specs.Editions.{reld}
 use Rattle.numbers.specs.Limits.{script-limit}
 use Rattle.numbers.specs.Refusals.{no-room, too-long, unknown-parent}
 use Rattle.storing.specs.Keeping.{Keep, kept, refused, keep}
@@ -88,9 +89,9 @@ module _ (s : List ℕ) where
     unfolding opening reading reading-from
     opening-within = go (ltb script-limit (length s)) (leb node-width (length (b .nodes)))
       where
-        go : (x y : Bool) → Within (cond x (declined too-long 0) (cond y (build-reading place b s nothing-yet (reading place s)) (declined no-room 0)))
+        go : (x y : Bool) → Within (cond x (declined too-long 0) (cond y (build-reading place b s nothing-yet (reading reld place s)) (declined no-room 0)))
         go true y = omega arith
-        go false true = build-within _ (start place s) nothing-yet (start-stands place s) (start-marked place s)
+        go false true = build-within _ (start reld place s) nothing-yet (start-stands reld place s) (start-marked reld place s)
         go false false = omega arith
 
     pub opening-refuses-within : (n p : ℕ) → opening place b s ≡ declined n p → p ≤ length s

@@ -5,6 +5,7 @@ use mathlib.Core.List.{List, [], _∷_}
 use mathlib.Core.Bool.{Bool, false, cond, _&&_, not}
 use lib.Dec.{eqb, leb}
 use lib.ListN.{length}
+use Rattle.numbers.specs.Editions.{reld}
 use Rattle.numbers.specs.Limits.{over, script-limit}
 use Rattle.numbers.specs.Refusals.{no-room, too-long}
 use Rattle.packing.specs.Padding.{zeroed}
@@ -64,7 +65,7 @@ build-reading place b s g r = build place b s g (r .events) (r .outcome)
 unfoldable pub opening : ℕ → Buffers → List ℕ → Opening
 opening place b s =
     cond (over script-limit s) (declined too-long 0)
-    (cond (leb node-width (length (b .nodes))) (build-reading place b s nothing-yet (reading place s))
+    (cond (leb node-width (length (b .nodes))) (build-reading place b s nothing-yet (reading reld place s))
     (declined no-room 0))
 
 -- ---- what is answered, and what is left in the buffers: "A refused opening returns zero counts and zero buffers"

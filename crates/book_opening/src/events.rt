@@ -3,6 +3,7 @@ ghost use mathlib.Core.Path.{_≡_};
 ghost use mathlib.Core.List.{[]};
 ghost use Prim.Native.Nat.{_*_, _≤_};
 ghost use lib.ListN.{length};
+ghost use Rattle.numbers.specs.Editions.{reld};
 ghost use Rattle.numbers.specs.Limits.{line-limit, node-limit, pool-limit, script-limit};
 ghost use Rattle.reading.specs.Events.{reading};
 ghost use Rattle.book.specs.Layout.{five, node-width};
@@ -21,6 +22,7 @@ use book_building::Taking;
 use book_building::clear_book;
 use book_building::events::take_event;
 use numbers::NO_ROOM;
+use numbers::RELD;
 use numbers::SCRIPT_LIMIT;
 use numbers::TOO_LONG;
 use reading::scripts::next_event;
@@ -88,11 +90,11 @@ fn build(
     pool: &mut [u8],
 ) -> Built
     requires { ⌜ (length (now s) ≤ script-limit) × (node-width ≤ length (now nodes)) × Clear (now nodes) × Clear (now names) × Clear (now lines) × Clear (now pool) ⌝ }
-    ensures { λ r. ⌜ Ended (build-reading place (five (now (nodes .entry)) (now (names .entry)) (now (lines .entry)) (now (pool .entry)) []) (now (s .entry)) nothing-yet (reading place (now (s .entry))))
+    ensures { λ r. ⌜ Ended (build-reading place (five (now (nodes .entry)) (now (names .entry)) (now (lines .entry)) (now (pool .entry)) []) (now (s .entry)) nothing-yet (reading reld place (now (s .entry))))
         r (five (now (nodes .entry)) (now (names .entry)) (now (lines .entry)) (now (pool .entry)) [])
         (five (now (nodes .exit)) (now (names .exit)) (now (lines .exit)) (now (pool .exit)) []) ⌝ }
 {
-    let mut c = start_at(place, s);
+    let mut c = start_at(RELD, place, s);
     let mut g = Progress {
         nodes: 1,
         names: 0,

@@ -8,6 +8,7 @@ use mathlib.Core.Option.{some}
 use borrow.Author.Tests.{lt-ltb}
 use lib.Dec.{eqb, leb, ltb}
 use lib.ListN.{length}
+use Rattle.numbers.specs.Editions.{reld}
 use Rattle.numbers.specs.Limits.{script-limit}
 use Rattle.numbers.specs.Refusals.{no-room, too-long}
 use Rattle.linker_script.specs.Trim.{trim-end}
@@ -54,10 +55,10 @@ module _ (place : ℕ) (b : Buffers) (s : List ℕ) (w : Book) where
   opened-edits e = go (ltb script-limit (length s)) (leb node-width (length (b .nodes))) e
     where
       go : (x y : Bool)
-          → cond x (declined too-long 0) (cond y (build-reading place b s nothing-yet (reading place s)) (declined no-room 0)) ≡ opens w → w .edits ≡ []
+          → cond x (declined too-long 0) (cond y (build-reading place b s nothing-yet (reading reld place s)) (declined no-room 0)) ≡ opens w → w .edits ≡ []
       go true y f = absurd (true≢false (cc))
       go false false f = absurd (true≢false (cc))
-      go false true f = build-edits (reading place s .events) (reading place s .outcome) nothing-yet f
+      go false true f = build-edits (reading reld place s .events) (reading reld place s .outcome) nothing-yet f
 
   pub held-opened : Viewable b w → w .edits ≡ [] → Held b w (desk-at (w .lines)) (lent-book b w)
   held-opened v e =
