@@ -8,6 +8,7 @@ use native.Mathlib.Omega.{arith}
 use borrow.Author.Tests.{eqb-true, leb-true, ltb-false, not-true}
 use lib.Dec.{eqb, leb, ltb}
 use lib.ListN.{length}
+use Rattle.numbers.specs.Editions.{reld}
 use Rattle.numbers.specs.Limits.{script-limit}
 use Rattle.numbers.specs.Refusals.{no-room, too-long}
 use Rattle.lists.proofs.Tests.{both}
@@ -118,13 +119,13 @@ unfolding opening reading reading-from
 viewable how b s w h k e = go (ltb script-limit (length s)) (leb node-width (length (b .nodes))) refl e
   where
     go : (x y : Bool) → leb node-width (length (b .nodes)) ≡ y
-        → cond x (declined too-long 0) (cond y (build-reading (how .place) b s nothing-yet (reading (how .place) s)) (declined no-room 0)) ≡ opens w
+        → cond x (declined too-long 0) (cond y (build-reading reld (how .place) b s nothing-yet (reading reld (how .place) s)) (declined no-room 0)) ≡ opens w
         → Viewable b w
     go true y z f = absurd (true≢false (cc))
     go false false z f = absurd (true≢false (cc))
     go false true z f =
         let p = how .place in
-        along p b s w (length s + 2 - start p s .at) (start p s) nothing-yet (sound-start b s p (leb-true _ _ z) h k) f
+        along p b s w (length s + 2 - start reld p s .at) (start reld p s) nothing-yet (sound-start b s p (leb-true _ _ z) h k) f
 
 starts-free : (how : How) → opens-at how ≡ true → (how .place < at-symbol) × (block-place (how .place) ≡ false)
 starts-free how e = go (how .place) (eqb (how .place) at-script) refl e

@@ -9,6 +9,7 @@ use borrow.Author.Tests.{eq-eqb, le-ltb, ltb-true, ltb-false}
 use lib.Dec.{eqb, ltb}
 use lib.ListN.{length, getD, set, length-append, length-set}
 use Rattle.linker_script.specs.Parts.{part}
+use Rattle.numbers.specs.Editions.{reld}
 use Rattle.numbers.specs.Marks.{general, global}
 use Rattle.numbers.specs.Signs.{semicolon}
 use Rattle.lists.specs.Each.{every}
@@ -108,12 +109,12 @@ good-line b xs ys y t h k e = record {
 
 -- ---- the start
 module _ (b : Buffers) (s : List ℕ) (place : ℕ) (room : node-width ≤ length (b .nodes)) (few : place < at-symbol) (free : block-place place ≡ false) where
-  pub sound-start : Sound place b (start place s) nothing-yet
+  pub sound-start : Sound place b (start reld place s) nothing-yet
   unfolding start nothing-yet every
   sound-start = record {
     few = few;
     side = refl;
-    marked = start-marked place s;
+    marked = start-marked reld place s;
     good = record { rooms = roomy-start b room; nodes = nodes-start; lines = refl; stand = refl };
     agrees = record { block = sym free; plain = λ _. refl; among = λ e. absurd (true≢false (sym e ∙ free)) };
     rust = rust-start;

@@ -3,6 +3,7 @@ use Prim.Native.Nat.{ℕ}
 use mathlib.Core.Path.{_≡_, refl, ap, _∙_}
 use mathlib.Core.List.{List, [], _∷_}
 use lib.ListN.{length}
+use Rattle.numbers.specs.Editions.{reld}
 use Rattle.linker_script.specs.Parts.{part}
 use Rattle.storing.specs.Keeping.{Keep, kept, refused, keep}
 use Rattle.reading_cursors.specs.declared.Event.{Event}
@@ -64,5 +65,5 @@ module _ (b b′ : Buffers) (a : Alike b b′) where
   pub opening-alike : (how : How) (s : List ℕ) → opening how b s ≡ opening how b′ s
   unfolding opening build-reading
   opening-alike how s =
-      let r = reading (how .place) s in
+      let r = reading reld (how .place) s in
       rw (a .nodes, build-alike (how .place) s nothing-yet (r .events) (r .outcome))

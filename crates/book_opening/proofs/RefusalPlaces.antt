@@ -7,6 +7,7 @@ use native.Mathlib.Omega.{arith}
 use lib.Dec.{leb, ltb}
 use lib.ListN.{length}
 use Rattle.linker_script.specs.Parts.{part}
+use Rattle.numbers.specs.Editions.{reld}
 use Rattle.numbers.specs.Limits.{script-limit}
 use Rattle.numbers.specs.Refusals.{no-room, too-long, unknown-parent}
 use Rattle.storing.specs.Keeping.{Keep, kept, refused, keep}
@@ -91,10 +92,10 @@ module _ (s : List ℕ) where
     opening-within = go (ltb script-limit (length s)) (leb node-width (length (b .nodes)))
       where
         go : (x y : Bool)
-            → Within (cond x (declined too-long 0) (cond y (build-reading (how .place) b s nothing-yet (reading (how .place) s)) (declined no-room 0)))
+            → Within (cond x (declined too-long 0) (cond y (build-reading reld (how .place) b s nothing-yet (reading reld (how .place) s)) (declined no-room 0)))
         go true y = omega arith
         go false true =
-            build-within (how .place) b _ (start (how .place) s) nothing-yet (start-stands (how .place) s) (start-marked (how .place) s)
+            build-within (how .place) b _ (start reld (how .place) s) nothing-yet (start-stands reld (how .place) s) (start-marked reld (how .place) s)
         go false false = omega arith
 
     pub opening-refuses-within : (n p : ℕ) → opening how b s ≡ declined n p → p ≤ length s

@@ -8,6 +8,7 @@ use borrow.Author.Tests.{eqb-true}
 use lib.Dec.{eqb, leb, ltb}
 use lib.ListN.{length}
 use Rattle.linker_script.specs.Parts.{part}
+use Rattle.numbers.specs.Editions.{reld}
 use Rattle.numbers.specs.Limits.{over, script-limit, token-limit}
 use Rattle.numbers.specs.Refusals.{bad-extern, bad-pattern, glob-not-utf8, no-room, too-long, unclosed, unknown-parent, unreadable}
 use Rattle.utf8.specs.Utf8.{chars, utf8}
@@ -115,12 +116,12 @@ abbrev Outcome-says : Outcome → Type 0
 Outcome-says accepted = Unit {0}
 Outcome-says (events.refused n p) = Says n
 
-outcome-says : (place : ℕ) (s : List ℕ) → Outcome-says (reading place s .outcome)
-outcome-says place s = go (reading place s .outcome) refl
+outcome-says : (place : ℕ) (s : List ℕ) → Outcome-says (reading reld place s .outcome)
+outcome-says place s = go (reading reld place s .outcome) refl
   where
-    go : (o : Outcome) → reading place s .outcome ≡ o → Outcome-says o
+    go : (o : Outcome) → reading reld place s .outcome ≡ o → Outcome-says o
     go accepted e = tt
-    go (events.refused n p) e = reader-says n (reading-refuses s n p place e)
+    go (events.refused n p) e = reader-says n (reading-refuses s n p reld place e)
 
 -- ---- the whole
 on-says : (t : Taken) (f : Building → Opening) → Taken-says t → ((g : Building) → Says-declined (f g)) → Says-declined (on-taken t f)
@@ -142,10 +143,10 @@ unfolding opening build-reading
 opening-says how b s = go (ltb script-limit (length s)) (leb node-width (length (b .nodes)))
   where
     go : (x y : Bool)
-        → Says-declined (cond x (declined too-long 0) (cond y (build-reading (how .place) b s nothing-yet (reading (how .place) s)) (declined no-room 0)))
+        → Says-declined (cond x (declined too-long 0) (cond y (build-reading reld (how .place) b s nothing-yet (reading reld (how .place) s)) (declined no-room 0)))
     go true y = (omega arith, omega arith)
     go false true =
-        let r = reading (how .place) s in
+        let r = reading reld (how .place) s in
         build-says (how .place) b s nothing-yet (r .events) (r .outcome) (outcome-says (how .place) s)
     go false false = (omega arith, omega arith)
 

@@ -3,6 +3,7 @@ use Prim.Native.Nat.{ℕ}
 use mathlib.Core.Path.{_≡_}
 use mathlib.Core.List.{List}
 use mathlib.Core.Bool.{true}
+use Rattle.numbers.specs.Editions.{reld}
 use Rattle.reading.specs.Events.{reading}
 use Rattle.book.specs.declared.Counts.{Counts}
 use Rattle.book.specs.Layout.{Buffers, counts-of, laid-out}
@@ -29,7 +30,7 @@ Filled o r b b′ = (r ≡ told o) × (b′ ≡ left b o)
 
 -- ---- the text s, in the buffers b: its events, read from a place of the grammar on, and its opening
 abbrev pub Builds : ℕ → Buffers → List ℕ → Built → Buffers → Type 0
-Builds place b s r b′ = Ended (build-reading place b s nothing-yet (reading place s)) r b b′
+Builds place b s r b′ = Ended (build-reading place b s nothing-yet (reading reld place s)) r b b′
 
 abbrev pub Opens : How → Buffers → List ℕ → Opened → Buffers → Type 0
 Opens how b s r b′ = Filled (opening how b s) r b b′

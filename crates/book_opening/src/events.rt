@@ -2,6 +2,7 @@
 ghost use mathlib.Core.Path.{_≡_};
 ghost use Prim.Native.Nat.{_*_, _≤_};
 ghost use lib.ListN.{length};
+ghost use Rattle.numbers.specs.Editions.{reld};
 ghost use Rattle.numbers.specs.Limits.{line-limit, node-limit, pool-limit, script-limit};
 ghost use Rattle.book.specs.Layout.{node-width};
 ghost use Rattle.book_building.specs.State.{All-clear, four};
@@ -21,6 +22,7 @@ use book_building::Taking;
 use book_building::clear_book;
 use book_building::events::take_event;
 use numbers::NO_ROOM;
+use numbers::RELD;
 use numbers::SCRIPT_LIMIT;
 use numbers::TOO_LONG;
 use reading::scripts::next_event;
@@ -84,7 +86,7 @@ fn build(
     ensures { λ r. ⌜ Builds place (four (now (nodes .entry)) (now (names .entry)) (now (lines .entry)) (now (pool .entry))) (now (s .entry))
         r (four (now (nodes .exit)) (now (names .exit)) (now (lines .exit)) (now (pool .exit))) ⌝ }
 {
-    let mut c = start_at(place, s);
+    let mut c = start_at(RELD, place, s);
     let mut g = Progress {
         nodes: 1,
         names: 0,

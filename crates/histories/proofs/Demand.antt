@@ -8,6 +8,7 @@ use mathlib.Core.Option.{some}
 use borrow.Author.Tests.{lt-ltb}
 use lib.Dec.{eqb, leb, ltb}
 use lib.ListN.{length}
+use Rattle.numbers.specs.Editions.{reld}
 use Rattle.numbers.specs.Limits.{script-limit}
 use Rattle.numbers.specs.Refusals.{no-room, too-long}
 use Rattle.linker_script.specs.Trim.{trim-end}
@@ -56,12 +57,12 @@ module _ (how : How) (b : Buffers) (s : List ℕ) (w : Book) where
   opened-edits e = go (ltb script-limit (length s)) (leb node-width (length (b .nodes))) e
     where
       go : (x y : Bool)
-          → cond x (declined too-long 0) (cond y (build-reading (how .place) b s nothing-yet (reading (how .place) s)) (declined no-room 0)) ≡ opens w
+          → cond x (declined too-long 0) (cond y (build-reading reld (how .place) b s nothing-yet (reading reld (how .place) s)) (declined no-room 0)) ≡ opens w
           → w .edits ≡ []
       go true y f = absurd (true≢false (cc))
       go false false f = absurd (true≢false (cc))
       go false true f =
-          let r = reading (how .place) s in
+          let r = reading reld (how .place) s in
           build-edits (how .place) b s w (r .events) (r .outcome) nothing-yet f
 
   pub held-opened : Viewable b w → w .edits ≡ [] → Held b w (desk-at (w .lines)) (lent-book b w)

@@ -8,6 +8,7 @@ use native.Mathlib.Omega.{arith}
 use lib.Dec.{eqb, ltb}
 use lib.ListN.{length}
 use Rattle.linker_script.specs.Parts.{part}
+use Rattle.numbers.specs.Editions.{reld}
 use Rattle.numbers.specs.Limits.{token-limit}
 use Rattle.numbers.specs.Marks.{global}
 use Rattle.lists.proofs.Tests.{both}
@@ -77,10 +78,10 @@ module _ (a b : Buffers) (r : Rooms a b) (w : Book) (k : eqb (w .kind) rust ≡ 
       go (Refused i p) z more d es g = declined (reader-numbered i (next-refuses s c i p z .0))
 
   pub symbol-leads : (bare : Bool) (d : Desk) (es : List Edit) → Sound b w d es
-      → Leads b w (with-events (edition-of (w .kind)) s d (reading (symbol-place bare) s .events)) (symbol-asked a (some (book-with w (d .lines) es)) s bare)
+      → Leads b w (with-events (edition-of (w .kind)) s d (reading reld (symbol-place bare) s .events)) (symbol-asked a (some (book-with w (d .lines) es)) s bare)
   unfolding symbol-asked reading reading-from
   symbol-leads bare d es g =
-      let c : Cursor = start (symbol-place bare) s in
+      let c : Cursor = start reld (symbol-place bare) s in
       leads-cond (eqb (w .kind) export)
-      (λ _. leads-cond (ltb token-limit (length s)) (λ _. declined (λ h. omega arith)) (along (length s + 2 - c .at) c (start-marked (symbol-place bare) s) d es g))
+      (λ _. leads-cond (ltb token-limit (length s)) (λ _. declined (λ h. omega arith)) (along (length s + 2 - c .at) c (start-marked reld (symbol-place bare) s) d es g))
       (declined (λ h. omega arith))

@@ -5,6 +5,7 @@ use mathlib.Core.List.{List, [], _∷_, _++_}
 use mathlib.Core.Bool.{Bool, cond}
 use lib.Dec.{eqb}
 use Rattle.linker_script.specs.Parts.{part}
+use Rattle.numbers.specs.Editions.{reld}
 use Rattle.numbers.specs.Marks.{global}
 use Rattle.linker_script.specs.Trim.{trim-end}
 use Rattle.lists.specs.Each.{every}
@@ -111,7 +112,7 @@ follow e d (adds node section language t) = with-kept d node section language (k
 follow e d (strikes i) = edited-to d (marked-at 1 (d .lines) i)
 follow e d undoes = back-to d (d .earlier)
 follow e d settles = settled-to (every stands (d .lines)) d
-follow e d (adds-symbol t bare) = with-events e t d (reading (symbol-place bare) t .events)
+follow e d (adds-symbol t bare) = with-events e t d (reading reld (symbol-place bare) t .events)
 
 -- a refused call changes nothing
 unfoldable pub leads : Edition → Desk → List Told → Desk

@@ -6,13 +6,14 @@ use mathlib.Core.List.{List, [], _∷_}
 use mathlib.Core.Bool.{Bool, cond, _||_}
 use lib.Dec.{eqb}
 use lib.ListN.{getD, drop}
+use Rattle.numbers.specs.declared.Edition.{Edition}
 use Rattle.numbers.specs.Refusals.{unclosed}
 use Rattle.numbers.specs.Signs.{asterisk, carriage-return, hash, line-feed, slash, space, tab}
 use Rattle.linker_script.specs.declared.Found.{Found}
 use Rattle.linker_script.specs.declared.Found.the-variants.{Here, Nowhere}
 use Rattle.linker_script.specs.declared.Skipped.{Skipped}
 use Rattle.linker_script.specs.declared.Skipped.the-variants.{At, Open}
-use Rattle.linker_script.specs.Finding.{first-in, is, are}
+use Rattle.linker_script.specs.Finding.{first-in, first-from, is, are}
 
 -- "spaces, tabs, CR, LF"
 unfoldable pub blank : ℕ → Bool
@@ -33,12 +34,20 @@ abbrev pub past : ℕ → ℕ → Found → Move
 past p more (Here q) = pass (q + more - p)
 past p more Nowhere = open-comment
 
+-- how many bytes after its `/` the `*/` of a comment can start: "at least one"
+abbrev pub closes-after : Edition → ℕ
+closes-after e = 1
+
+-- "the first `*/` that starts at least one byte after the `/`", which stands at the place p of s
+abbrev pub comment-end : Edition → List ℕ → ℕ → Found
+comment-end e s p = first-from (are asterisk slash) s (p + closes-after e)
+
 -- at the byte b, which stands at the place p with the text l behind it
-unfoldable pub move : ℕ → ℕ → List ℕ → Move
-move p b l =
+unfoldable pub move : Edition → ℕ → ℕ → List ℕ → Move
+move e p b l =
     cond (blank b) (pass 0)
     (cond (eqb b hash) (past p 0 (first-in (is line-feed) (p + 1) l))
-    (cond (are slash asterisk b (getD l 0 0)) (past p 1 (first-in (are asterisk slash) (p + 1) l))
+    (cond (are slash asterisk b (getD l 0 0)) (past p 1 (first-in (are asterisk slash) (p + closes-after e) (drop (closes-after e - 1) l)))
     stop))
 
 abbrev pub go : Move → ℕ → (ℕ → Skipped) → Skipped
@@ -47,14 +56,14 @@ go (pass k) p on = on k
 go open-comment p on = Open p
 
 -- behind the first k bytes of the text l, which begins at the place p
-unfoldable pub skip-past : ℕ → ℕ → List ℕ → Skipped
-skip-past k p [] = At p
-skip-past (suc k) p (b ∷ l) = skip-past k (p + 1) l
-skip-past zero p (b ∷ l) = go (move p b l) p (λ k. skip-past k (p + 1) l)
+unfoldable pub skip-past : Edition → ℕ → ℕ → List ℕ → Skipped
+skip-past e k p [] = At p
+skip-past e (suc k) p (b ∷ l) = skip-past e k (p + 1) l
+skip-past e zero p (b ∷ l) = go (move e p b l) p (λ k. skip-past e k (p + 1) l)
 
 -- where a skip that starts at the place p of s ends, or the place of the comment that nothing closes
-unfoldable pub skip : List ℕ → ℕ → Skipped
-skip s p = skip-past 0 p (drop p s)
+unfoldable pub skip : Edition → List ℕ → ℕ → Skipped
+skip e s p = skip-past e 0 p (drop p s)
 
 -- the paper's number of this answer, 0 where the skip ends: "`#` without LF, `/*` without `*/`" is refused 3
 abbrev pub skip-refusal : Skipped → ℕ

@@ -4,11 +4,12 @@ ghost use mathlib.Core.Path.{_≡_};
 ghost use Prim.Native.Nat.{_+_, _<_};
 ghost use lib.ListN.{length, getD};
 ghost use Rattle.linker_script.specs.Finding.{first-from, are};
-ghost use Rattle.linker_script.specs.Skip.{blank, skip};
+ghost use Rattle.linker_script.specs.Skip.{blank, comment-end, skip};
 use crate::Found;
 use crate::Skipped;
 use crate::byte_at;
 use crate::searching::find;
+use numbers::Edition;
 
 fn is_pair(s: &[u8], i: usize, x: u8, y: u8) -> bool
     requires { ⌜ i < length (now s) ⌝ }
@@ -40,9 +41,17 @@ fn is_blank(b: u8) -> bool
     b == b' ' || (b == b'\t' || (b == b'\r' || b == b'\n'))
 }
 
-// Past blanks and comments.
-pub fn skip_comments_and_whitespace(s: &[u8], at: usize) -> Skipped
-    ensures { λ r. ⌜ r ≡ skip (now (s .entry)) at ⌝ }
+// The `*/` that closes the comment at a place.
+fn comment_end(edition: Edition, s: &[u8], at: usize) -> Found
+    requires { ⌜ at < length (now s) ⌝ }
+    ensures { λ r. ⌜ r ≡ comment-end edition (now (s .entry)) at ⌝ }
+{
+    find_pair(s, b'*', b'/', at + 1)
+}
+
+// Past blanks and comments. The edition says where a comment closes.
+pub fn skip_comments_and_whitespace(edition: Edition, s: &[u8], at: usize) -> Skipped
+    ensures { λ r. ⌜ r ≡ skip edition (now (s .entry)) at ⌝ }
 {
     let mut i = at;
     while i < s.len() {
@@ -65,7 +74,7 @@ pub fn skip_comments_and_whitespace(s: &[u8], at: usize) -> Skipped
         if !is_pair(s, i, b'/', b'*') {
             return Skipped::At(i);
         }
-        match find_pair(s, b'*', b'/', i + 1) {
+        match comment_end(edition, s, i) {
             Found::Here(q) => {
                 i = q + 2;
             }

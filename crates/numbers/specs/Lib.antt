@@ -1,4 +1,5 @@
 pub mod Classes
+pub mod Editions
 pub mod Limits
 pub mod Marks
 pub mod Refusals

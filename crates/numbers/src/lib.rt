@@ -1,5 +1,7 @@
-// The numbers of document 01, each under one name: limits, refusals, classes, sections and languages. The same names stand in specs/, and each promise that uses one of these
-// constants cites its name there, so the two are shown equal wherever they are used.
+// The numbers of document 01, each under one name: limits, refusals, classes, sections and languages. The same names stand in specs/, and each promise that
+// uses one of these constants cites its name there, so the two are shown equal wherever they are used.
+ghost use mathlib.Core.Path.{_≡_};
+ghost use Rattle.numbers.specs.Editions.{edition-by};
 
 // "Limits, last accepted".
 pub const SCRIPT_LIMIT: usize = 1048576;
@@ -70,7 +72,16 @@ pub const GENERAL: u32 = 0;
 pub const CXX: u32 = 1;
 
 // How texts and patterns are read. There is one way today, reld's; document 02 (request 06) brings a second. The definitions that promises cite of a pattern's
-// spelling take the edition already, and so do the functions.
+// spelling, of a skip and of a token's end take the edition already, and so do the functions.
 pub enum Edition {
     Reld,
+}
+
+// Editions by number, as a cursor has them: a struct that holds an enum is walked by no proof of the crate `reader`.
+pub const RELD: u32 = 0;
+
+pub fn edition_by(number: u32) -> Edition
+    ensures { λ r. ⌜ r ≡ edition-by number ⌝ }
+{
+    Edition::Reld
 }

@@ -1,8 +1,10 @@
 // The reader that holds the script and its place: thin functions over `start_at` and `next_event`. The borrow checker covers no function over a struct that
 // holds a reference, so each is proved by a walk of its code by hand.
 ghost use mathlib.Core.Path.{_≡_};
+ghost use Rattle.numbers.specs.Editions.{reld};
 ghost use Rattle.reading_cursors.specs.Moves.{start};
 ghost use Rattle.reading.specs.Scripts.{next};
+use numbers::RELD;
 use reading::scripts::next_event;
 use reading_cursors::Cursor;
 use reading_cursors::Step;
@@ -39,7 +41,7 @@ pub fn moved<'a>(r: Reader<'a>, cursor: Cursor) -> Reader<'a>
 
 // The first event of a text that starts at a place of the grammar.
 pub fn first(place: u32, text: &[u8]) -> Step
-    ensures { λ s. ⌜ s ≡ next (now (text .entry)) (start place (now (text .entry))) ⌝ }
+    ensures { λ s. ⌜ s ≡ next (now (text .entry)) (start reld place (now (text .entry))) ⌝ }
 {
-    next(new(text, start_at(place, text)))
+    next(new(text, start_at(RELD, place, text)))
 }

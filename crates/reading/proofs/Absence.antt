@@ -8,13 +8,14 @@ use native.Mathlib.Omega.{arith}
 use borrow.Author.Tests.{eq-eqb, eqb-true, eqb-false}
 use lib.Dec.{eqb}
 use lib.ListN.{length, getD, List·getD-eq-default}
+use Rattle.numbers.specs.declared.Edition.{Edition}
 use Rattle.numbers.specs.Signs.{asterisk, closing-brace, hash, line-feed, semicolon, slash}
 use Rattle.lists.proofs.Tests.{neither}
 use Rattle.linker_script.specs.declared.Found.{Found}
 use Rattle.linker_script.specs.declared.Found.the-variants.{Here, Nowhere}
 use Rattle.linker_script.specs.declared.Skipped.the-variants.{At, Open}
 use Rattle.linker_script.specs.Finding.{Test, are, first-from, is}
-use Rattle.linker_script.specs.Skip.{blank, skip, skips}
+use Rattle.linker_script.specs.Skip.{blank, closes-after, comment-end, skip, skips}
 use Rattle.linker_script.proofs.Searches.{byte-within, first-here, first-on, first-within, passes}
 use Rattle.linker_script.proofs.Skipping.{skip-ends, past-blank, past-line, line-opens, stops, past-comment, comment-opens}
 use Rattle.reading_tokens.proofs.Ends.{and-both}
@@ -102,20 +103,21 @@ module _ (s : List ℕ) (p : ℕ) where
   unfolding blank
   slash-blank e = rw e
 
-  pub skip-blank : blank (getD s p 0) ≡ true → skip s p ≡ skip s (p + 1)
-  skip-blank e = past-blank s p p refl (blank-within e) true (sym e) refl
+module _ (x : Edition) (s : List ℕ) (p : ℕ) where
+  pub skip-blank : blank (getD s p 0) ≡ true → skip x s p ≡ skip x s (p + 1)
+  skip-blank e = past-blank x s p p refl (blank-within s p e) true (sym e) refl
 
   module _ (e : Byte hash s p) where
     hash-within : p < length s
     hash-within = byte-within s p (omega arith)
 
-    pub skip-line : (q : ℕ) → first-from (is line-feed) s (p + 1) ≡ Here q → skip s p ≡ skip s (q + 1)
-    skip-line q f = past-line s p p refl hash-within false (hash-blank e) refl e (Here q) (sym f) q refl
+    pub skip-line : (q : ℕ) → first-from (is line-feed) s (p + 1) ≡ Here q → skip x s p ≡ skip x s (q + 1)
+    skip-line q f = past-line x s p p refl hash-within false (hash-blank s p e) refl e (Here q) (sym f) q refl
 
-    pub skip-line-opens : None line-feed s p → skip s p ≡ Open p
+    pub skip-line-opens : None line-feed s p → skip x s p ≡ Open p
     skip-line-opens f =
         let n = none-nowhere line-feed s (p + 1) (λ q l. f q (omega arith)) in
-        sym (line-opens s p p refl hash-within false (hash-blank e) refl e Nowhere (sym n) refl)
+        sym (line-opens x s p p refl hash-within false (hash-blank s p e) refl e Nowhere (sym n) refl)
 
   module _ (e : Byte slash s p) (f : Byte asterisk s (p + 1)) where
     slash-within : p < length s
@@ -127,44 +129,44 @@ module _ (s : List ℕ) (p : ℕ) where
     opens : true ≡ passes (are slash asterisk) s p
     opens = rw (e, f)
 
-    pub skip-comment : (q : ℕ) → first-from (are asterisk slash) s (p + 1) ≡ Here q → skip s p ≡ skip s (q + 2)
-    skip-comment q g = past-comment s p p refl slash-within false (slash-blank e) refl no-hash true opens refl (Here q) (sym g) q refl
+    pub skip-comment : (q : ℕ) → comment-end x s p ≡ Here q → skip x s p ≡ skip x s (q + 2)
+    skip-comment q g = past-comment x s p p refl slash-within false (slash-blank s p e) refl no-hash true opens refl (Here q) (sym g) q refl
 
-    pub skip-comment-opens : No-pair asterisk slash s (p + 1) → skip s p ≡ Open p
+    pub skip-comment-opens : No-pair asterisk slash s (p + closes-after x) → skip x s p ≡ Open p
     skip-comment-opens g =
-        let n = pair-nowhere asterisk slash s (p + 1) g in
-        sym (comment-opens s p p refl slash-within false (slash-blank e) refl no-hash true opens refl Nowhere (sym n) refl)
+        let n = pair-nowhere asterisk slash s (p + closes-after x) g in
+        sym (comment-opens x s p p refl slash-within false (slash-blank s p e) refl no-hash true opens refl Nowhere (sym n) refl)
 
-  pub skip-stays : skips s p ≡ false → skip s p ≡ At p
+  pub skip-stays : skips s p ≡ false → skip x s p ≡ At p
   skip-stays e = go (decLt p (length s))
     where
-      go : Dec (p < length s) → skip s p ≡ At p
+      go : Dec (p < length s) → skip x s p ≡ At p
       go (yes h) =
           let a = neither (blank (getD s p 0)) (eqb (getD s p 0) hash || are slash asterisk (getD s p 0) (getD s (p + 1) 0)) e in
           let b = neither (eqb (getD s p 0) hash) (are slash asterisk (getD s p 0) (getD s (p + 1) 0)) (a .1) in
-          sym (stops s p p refl h false (sym (a .0)) refl (eqb-false (getD s p 0) hash (b .0)) false (sym (b .1)) refl)
-      go (no h) = sym (skip-ends s p p refl (omega arith))
+          sym (stops x s p p refl h false (sym (a .0)) refl (eqb-false (getD s p 0) hash (b .0)) false (sym (b .1)) refl)
+      go (no h) = sym (skip-ends x s p p refl (omega arith))
 
   -- at the end of a token
-  pub semicolon-stays : Byte semicolon s p → skip s p ≡ At p
+  pub semicolon-stays : Byte semicolon s p → skip x s p ≡ At p
   unfolding blank
   semicolon-stays e = skip-stays (rw e)
 
-  pub closing-stays : Byte closing-brace s p → skip s p ≡ At p
+  pub closing-stays : Byte closing-brace s p → skip x s p ≡ At p
   unfolding blank
   closing-stays e = skip-stays (rw e)
 
 -- what stands there, and so what a skip does
-pub data Turn (s : List ℕ) (p : ℕ) : Type 0 where
-  stays : skips s p ≡ false → Turn s p
-  at-blank : p < length s → blank (getD s p 0) ≡ true → Turn s p
-  at-line : {q : ℕ} → p < q → q < length s → Byte hash s p → first-from (is line-feed) s (p + 1) ≡ Here q → Turn s p
-  at-comment : {q : ℕ} → p < q → q < length s → Byte slash s p → Byte asterisk s (p + 1) → first-from (are asterisk slash) s (p + 1) ≡ Here q → Turn s p
-  in-line : Byte hash s p → None line-feed s p → Turn s p
-  in-comment : Byte slash s p → Byte asterisk s (p + 1) → No-pair asterisk slash s (p + 1) → Turn s p
+pub data Turn (x : Edition) (s : List ℕ) (p : ℕ) : Type 0 where
+  stays : skips s p ≡ false → Turn x s p
+  at-blank : p < length s → blank (getD s p 0) ≡ true → Turn x s p
+  at-line : {q : ℕ} → p < q → q < length s → Byte hash s p → first-from (is line-feed) s (p + 1) ≡ Here q → Turn x s p
+  at-comment : {q : ℕ} → p < q → q < length s → Byte slash s p → Byte asterisk s (p + 1) → comment-end x s p ≡ Here q → Turn x s p
+  in-line : Byte hash s p → None line-feed s p → Turn x s p
+  in-comment : Byte slash s p → Byte asterisk s (p + 1) → No-pair asterisk slash s (p + closes-after x) → Turn x s p
 
-module _ (s : List ℕ) (p : ℕ) where
-  turn-line : Byte hash s p → (f : Found) → first-from (is line-feed) s (p + 1) ≡ f → Turn s p
+module _ (x : Edition) (s : List ℕ) (p : ℕ) where
+  turn-line : Byte hash s p → (f : Found) → first-from (is line-feed) s (p + 1) ≡ f → Turn x s p
   turn-line k (Here q) e =
       let f = first-within (is line-feed) s (p + 1) q e in
       at-line {q = q} (omega (arith, f .onward)) (f .within) k e
@@ -176,25 +178,25 @@ module _ (s : List ℕ) (p : ℕ) where
           let z : p ≡ q = omega arith in
           omega (arith, rw (← z) at b)
 
-  turn-comment : Byte slash s p → Byte asterisk s (p + 1) → (f : Found) → first-from (are asterisk slash) s (p + 1) ≡ f → Turn s p
+  turn-comment : Byte slash s p → Byte asterisk s (p + 1) → (f : Found) → comment-end x s p ≡ f → Turn x s p
   turn-comment j k (Here q) e =
-      let f = first-within (are asterisk slash) s (p + 1) q e in
+      let f = first-within (are asterisk slash) s (p + closes-after x) q e in
       at-comment {q = q} (omega (arith, f .onward)) (f .within) j k e
-  turn-comment j k Nowhere e = in-comment j k (nowhere-pair asterisk slash s (p + 1) (omega arith) e)
+  turn-comment j k Nowhere e = in-comment j k (nowhere-pair asterisk slash s (p + closes-after x) (omega arith) e)
 
-  pub turn : Turn s p
+  pub turn : Turn x s p
   turn = go (blank (getD s p 0)) refl
     where
-      pair : (v : Bool) → eqb (getD s p 0) slash && eqb (getD s (p + 1) 0) asterisk ≡ v → blank (getD s p 0) ≡ false → eqb (getD s p 0) hash ≡ false → Turn s p
+      pair : (v : Bool) → eqb (getD s p 0) slash && eqb (getD s (p + 1) 0) asterisk ≡ v → blank (getD s p 0) ≡ false → eqb (getD s p 0) hash ≡ false → Turn x s p
       pair true e a b =
           let k = and-both (eqb (getD s p 0) slash) (eqb (getD s (p + 1) 0) asterisk) e in
-          turn-comment (eqb-true (getD s p 0) slash (k .0)) (eqb-true (getD s (p + 1) 0) asterisk (k .1)) (first-from (are asterisk slash) s (p + 1)) refl
+          turn-comment (eqb-true (getD s p 0) slash (k .0)) (eqb-true (getD s (p + 1) 0) asterisk (k .1)) (comment-end x s p) refl
       pair false e a b = stays (rw (a, b, e))
 
-      line : (v : Bool) → eqb (getD s p 0) hash ≡ v → blank (getD s p 0) ≡ false → Turn s p
+      line : (v : Bool) → eqb (getD s p 0) hash ≡ v → blank (getD s p 0) ≡ false → Turn x s p
       line true e a = turn-line (eqb-true (getD s p 0) hash e) (first-from (is line-feed) s (p + 1)) refl
       line false e a = pair (eqb (getD s p 0) slash && eqb (getD s (p + 1) 0) asterisk) refl a e
 
-      go : (v : Bool) → blank (getD s p 0) ≡ v → Turn s p
+      go : (v : Bool) → blank (getD s p 0) ≡ v → Turn x s p
       go true e = at-blank (blank-within s p e) e
       go false e = line (eqb (getD s p 0) hash) refl e

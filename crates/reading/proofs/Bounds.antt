@@ -7,6 +7,7 @@ use native.Mathlib.Omega.{arith}
 use borrow.Author.Tests.{eqb-true, ltb-true}
 use lib.Dec.{eqb, ltb}
 use lib.ListN.{length, getD, drop, length-drop}
+use Rattle.numbers.specs.declared.Edition.{Edition}
 use Rattle.numbers.specs.Refusals.{unclosed, unreadable, bad-extern}
 use Rattle.numbers.specs.Signs.{closing-brace, semicolon}
 use Rattle.linker_script.specs.declared.Found.{Found}
@@ -84,33 +85,34 @@ module _ (s : List ℕ) (p : ℕ) where
       go false l = refuses refl
   ends-found t n h Nowhere e = refuses h
 
-  pub semicolon-ends : Ends s p (to-semicolon s p)
+module _ (x : Edition) (s : List ℕ) (p : ℕ) where
+  pub semicolon-ends : Ends s p (to-semicolon x s p)
   unfolding to-semicolon
-  semicolon-ends = ends-found (is semicolon) unreadable refl (first-from (is semicolon) s p) refl
+  semicolon-ends = ends-found s p (is semicolon) unreadable refl (first-from (is semicolon) s p) refl
 
-  brace-ends : Ends s p (to-brace s p)
+  brace-ends : Ends s p (to-brace x s p)
   unfolding to-brace
-  brace-ends = ends-found (is closing-brace) unclosed refl (first-from (is closing-brace) s p) refl
+  brace-ends = ends-found s p (is closing-brace) unclosed refl (first-from (is closing-brace) s p) refl
 
-  pub extern-ends : (last : ℕ) → Ends s p (extern-end last s p)
+  pub extern-ends : (last : ℕ) → Ends s p (extern-end x last s p)
   unfolding extern-end
-  extern-ends last = ends-cond (ltb p last) (ends-cond (brace-before s p (first-from (is semicolon) s p)) brace-ends semicolon-ends) brace-ends
+  extern-ends last = ends-cond s p (ltb p last) (ends-cond s p (brace-before s p (first-from (is semicolon) s p)) brace-ends semicolon-ends) brace-ends
 
-  pub bare-extern-ends : (last : ℕ) → Ends s p (bare-extern-end last s p)
+  pub bare-extern-ends : (last : ℕ) → Ends s p (bare-extern-end x last s p)
   unfolding bare-extern-end
-  bare-extern-ends last = ends-cond (ltb p last) (extern-ends last) semicolon-ends
+  bare-extern-ends last = ends-cond s p (ltb p last) (extern-ends last) semicolon-ends
 
-pub bare-skip-within : (s : List ℕ) → bare-skip s ≤ length s
+pub bare-skip-within : (x : Edition) (s : List ℕ) → bare-skip x s ≤ length s
 unfolding bare-skip
-bare-skip-within s = go (first-from (is closing-brace) s 0) refl
+bare-skip-within x s = go (first-from (is closing-brace) s 0) refl
   where
-    go : (f : Found) → first-from (is closing-brace) s 0 ≡ f → bare-skip s ≤ length s
+    go : (f : Found) → first-from (is closing-brace) s 0 ≡ f → bare-skip x s ≤ length s
     go (Here q) e = rw e (omega (arith, first-within (is closing-brace) s 0 q e .within))
     go Nowhere e = rw e (omega arith)
 
-pub bare-refuses : (s : List ℕ) (n : ℕ) → bare-end s ≡ Refused n → of-grammar n ≡ true
+pub bare-refuses : (x : Edition) (s : List ℕ) (n : ℕ) → bare-end x s ≡ Refused n → of-grammar n ≡ true
 unfolding bare-end
-bare-refuses s n e = go (first-from (is closing-brace) s 0) refl
+bare-refuses x s n e = go (first-from (is closing-brace) s 0) refl
   where
     short : (q : ℕ) (t : Bool) → cond t (To q) (Refused unreadable) ≡ Refused n → of-grammar n ≡ true
     short q true h = absurd (true≢false (cc))

@@ -10,6 +10,7 @@ use native.Mathlib.Omega.{arith}
 use borrow.Author.Tests.{eq-eqb, ne-eqb, eqb-true, le-ltb}
 use lib.Dec.{eqb, ltb}
 use lib.ListN.{length, getD, drop, drop-of-length-le}
+use Rattle.numbers.specs.declared.Edition.{Edition}
 use Rattle.numbers.specs.Limits.{script-limit, token-limit}
 use Rattle.numbers.specs.Refusals.{unreadable, unclosed, bad-extern}
 use Rattle.numbers.specs.Signs.{closing-brace, opening-brace, semicolon}
@@ -17,7 +18,6 @@ use Rattle.linker_script.specs.declared.Found.{Found}
 use Rattle.linker_script.specs.declared.Found.the-variants.{Here, Nowhere}
 use Rattle.linker_script.specs.declared.Skipped.the-variants.{At, Open}
 use Rattle.linker_script.specs.Finding.{closes, first-from}
-use Rattle.linker_script.specs.Skip.{skip}
 use Rattle.linker_script.proofs.Searches.{drop-next}
 use Rattle.reading_tokens.specs.declared.TokenEnd.{TokenEnd}
 use Rattle.reading_tokens.specs.declared.TokenEnd.the-variants as no
@@ -28,7 +28,7 @@ use Rattle.reading_cursors.specs.declared.Event.{Event}
 use Rattle.reading_cursors.specs.declared.Event.the-variants.{Body, Extern, Closed}
 use Rattle.reading_cursors.specs.declared.Step.{Step}
 use Rattle.reading_cursors.specs.declared.Step.the-variants.{Go, Refused}
-use Rattle.reading_cursors.specs.Moves.{moved, in-section, in-language, skipping, expecting, ending}
+use Rattle.reading_cursors.specs.Moves.{edition-at, moved, in-section, in-language, skip-at, skipping, expecting, ending}
 use Rattle.reading_matchers.specs.Matchers.{extern-word, cxx-word, c-word, close-word, line-to, extern-open, extern-at, extern-inside, in-extern, in-bare, matcher as matcher-at, line as line-of, bare-line, bare-matcher}
 use Rattle.reading_cursors.specs.Places.{in-body, in-body-extern, in-sole, in-sole-extern, in-list, in-list-extern, in-symbol-extern, in-bare-extern, behind-symbol}
 use Rattle.reading_bodies.specs.Bodies.{global-word, local-word, name-to, node-at, script-at, parent-to, parent-at, node-end, sole-end, inside-body, body-at, sole-at, list-at}
@@ -93,39 +93,39 @@ usual bare-token = false
 usual bare-extern-token = true
 
 -- where 01 says that a token at p ends
-abbrev pub token-end : Token → List ℕ → ℕ → TokenEnd
-token-end k s p = cond (to-closing k s p) (to-brace s p) (to-semicolon s p)
+abbrev pub token-end : Edition → Token → List ℕ → ℕ → TokenEnd
+token-end x k s p = cond (to-closing x k s p) (to-brace x s p) (to-semicolon x s p)
 
 module _ (s : List ℕ) (c : Cursor) (g : Standing s c) (p : ℕ) where
-  extern-end-said : extern-end (c .last) s p ≡ token-end extern-token s p
+  extern-end-said : extern-end (edition-at c) (c .last) s p ≡ token-end (edition-at c) extern-token s p
   unfolding to-either
   extern-end-said = standing-ends s c g p
 
-  bare-extern-end-said : bare-extern-end (c .last) s p ≡ token-end bare-extern-token s p
+  bare-extern-end-said : bare-extern-end (edition-at c) (c .last) s p ≡ token-end (edition-at c) bare-extern-token s p
   unfolding to-either
-  bare-extern-end-said = rw (g .last) (bare-extern-01 s p ∙ go (first-from closes s p) refl)
+  bare-extern-end-said = rw (g .last) (bare-extern-01 (edition-at c) s p ∙ go (first-from closes s p) refl)
     where
-      go : (f : Found) → first-from closes s p ≡ f → bare-either s p (first-from closes s p) ≡ token-end bare-extern-token s p
+      go : (f : Found) → first-from closes s p ≡ f → bare-either (edition-at c) s p (first-from closes s p) ≡ token-end (edition-at c) bare-extern-token s p
       go (Here q) e = rw (e, to-either, e)
       go Nowhere e = rw e
 
 -- ---- what is left of a step that has come to a rule at a place
 pub data Rest (s : List ℕ) (c : Cursor) : Rule → ℕ → Step → Type 0 where
-  skip-rest : {r : Rule} {p : ℕ} (on : ℕ → Step) → ((q : ℕ) → Rest s c r q (on q)) → Rest s c (skip-to r) p (skipping s p on)
+  skip-rest : {r : Rule} {p : ℕ} (on : ℕ → Step) → ((q : ℕ) → Rest s c r q (on q)) → Rest s c (skip-to r) p (skipping c s p on)
   script-rest : {p : ℕ} → Rest s c script-start p (script-at c s p)
   node-rest : {p : ℕ} → Rest s c node p (node-at c s p)
   opening-rest : {p : ℕ} (e : Event) (d : ℕ → Cursor) → Rest s c opening p (expecting opening-brace s p (λ q. Go e (d q)))
   body-rest : {r : Rule} {p : ℕ} {a : Step} (inner : ℕ) → Rest s c (skip-to r) (p + 1) a
       → Rest s c (body r) p (cond (eqb (getD s p 0) closing-brace) a (inside-body c s inner p))
   parent-rest : {p : ℕ} (d : Cursor) → Rest s c parent p (parent-at d s p)
-  semicolon-rest : {p : ℕ} → Rest s c last-semicolon p (expecting semicolon s p (λ r. skipping s r (λ e. ending s e)))
+  semicolon-rest : {p : ℕ} → Rest s c last-semicolon p (expecting semicolon s p (λ r. skipping c s r (λ e. ending s e)))
   end-rest : {p : ℕ} → Rest s c end p (ending s p)
   list-rest : {p : ℕ} → Rest s c matchers p (list-at c s p)
   matcher-rest : {k : Token} {p : ℕ} {t : Step} (inner : ℕ) → Rest s c (token k) p t
       → Rest s c (matcher k) p (cond (stands-at extern-word s p) (extern-at c s inner p) t)
-  block-rest : {k : Token} {p : ℕ} (place : ℕ) → usual k ≡ true → Rest s c (block k) p (extern-inside c s place p (token-end k s p))
-  token-rest : {k : Token} {p : ℕ} (place : ℕ) → usual k ≡ true → Rest s c (token k) p (line-to c s place p (token-end k s p))
-  bare-rest : {p : ℕ} (place : ℕ) → p ≡ 0 → Rest s c (token bare-token) p (bare-line c s place (bare-end s))
+  block-rest : {k : Token} {p : ℕ} (place : ℕ) → usual k ≡ true → Rest s c (block k) p (extern-inside c s place p (token-end (edition-at c) k s p))
+  token-rest : {k : Token} {p : ℕ} (place : ℕ) → usual k ≡ true → Rest s c (token k) p (line-to c s place p (token-end (edition-at c) k s p))
+  bare-rest : {p : ℕ} (place : ℕ) → p ≡ 0 → Rest s c (token bare-token) p (bare-line c s place (bare-end (edition-at c) s))
   no-more-rest : {p : ℕ} (e : Event) (d : Cursor) → Rest s c no-more p (Go e d)
 
 pub record Left (s : List ℕ) (c : Cursor) (r : Rule) (p : ℕ) : Type 0 where
@@ -146,7 +146,7 @@ module _ (s : List ℕ) (c : Cursor) where
       (λ r. expecting opening-brace s r (λ q. Go (Extern (c .section) l) (moved (in-language c l) place q)))
       (λ q. opening-rest (Extern (c .section) l) (λ r. moved (in-language c l) place r))
 
-  end-skip-rest : (p : ℕ) → Rest s c (skip-to end) p (skipping s p (λ r. ending s r))
+  end-skip-rest : (p : ℕ) → Rest s c (skip-to end) p (skipping c s p (λ r. ending s r))
   end-skip-rest p = skip-rest (λ r. ending s r) (λ q. end-rest)
 
   now-left : {r : Rule} {p : ℕ} (t : Step) → next s c ≡ t → Rest s c r p t → Left s c r p
@@ -159,10 +159,10 @@ module _ (s : List ℕ) (c : Cursor) where
   from l f = f (l .step) (l .same) (l .rest)
 
   -- ---- a step comes to where it is said to come
-  skip-moves : {r : Rule} (p q : ℕ) → skip s p ≡ skip s q → (t : Step) → next s c ≡ t → Rest s c (skip-to r) p t → Left s c (skip-to r) q
-  skip-moves p q e t z (skip-rest on f) = now-left (skipping s q on) (z ∙ rw e) (skip-rest on f)
+  skip-moves : {r : Rule} (p q : ℕ) → skip-at c s p ≡ skip-at c s q → (t : Step) → next s c ≡ t → Rest s c (skip-to r) p t → Left s c (skip-to r) q
+  skip-moves p q e t z (skip-rest on f) = now-left (skipping c s q on) (z ∙ rw e) (skip-rest on f)
 
-  skip-done : {r : Rule} (p : ℕ) → skip s p ≡ At p → (t : Step) → next s c ≡ t → Rest s c (skip-to r) p t → Left s c r p
+  skip-done : {r : Rule} (p : ℕ) → skip-at c s p ≡ At p → (t : Step) → next s c ≡ t → Rest s c (skip-to r) p t → Left s c r p
   skip-done p e t z (skip-rest on f) = now-left (on p) (z ∙ rw e) (f p)
 
   nodes-left : (p : ℕ) → (Byte opening-brace s p → ⊥) → (t : Step) → next s c ≡ t → Rest s c script-start p t → Left s c node p
@@ -183,11 +183,11 @@ module _ (s : List ℕ) (c : Cursor) where
 
   semicolon-left : (p : ℕ) → Byte semicolon s p → (t : Step) → next s c ≡ t → Rest s c last-semicolon p t → Left s c (skip-to end) (p + 1)
   semicolon-left p e t z semicolon-rest =
-      now-left (skipping s (p + 1) (λ r. ending s r)) (z ∙ rw (eq-eqb (getD s p 0) semicolon e)) (end-skip-rest (p + 1))
+      now-left (skipping c s (p + 1) (λ r. ending s r)) (z ∙ rw (eq-eqb (getD s p 0) semicolon e)) (end-skip-rest (p + 1))
 
   list-left : (p : ℕ) → Word close-word s p → (t : Step) → next s c ≡ t → Rest s c matchers p t → Left s c (skip-to end) (p + 2)
   unfolding list-at
-  list-left p e t z list-rest = now-left (skipping s (p + 2) (λ r. ending s r)) (z ∙ rw e) (end-skip-rest (p + 2))
+  list-left p e t z list-rest = now-left (skipping c s (p + 2) (λ r. ending s r)) (z ∙ rw e) (end-skip-rest (p + 2))
 
   in-list-left : (p : ℕ) → No-word close-word s p → (t : Step) → next s c ≡ t → Rest s c matchers p t → Left s c (matcher plain-token) p
   unfolding list-at
@@ -209,7 +209,7 @@ module _ (s : List ℕ) (c : Cursor) where
   unfolding extern-inside
   block-left p e t z (block-rest place u) =
       now-left
-      (skipping s (p + 2) (λ r. Go Closed (moved (in-language c 0) place r)))
+      (skipping c s (p + 2) (λ r. Go Closed (moved (in-language c 0) place r)))
       (z ∙ rw e)
       (skip-rest (λ r. Go Closed (moved (in-language c 0) place r)) (λ q. no-more-rest Closed (moved (in-language c 0) place q)))
 
@@ -219,7 +219,7 @@ module _ (s : List ℕ) (c : Cursor) where
   in-block-left : {k : Token} (p : ℕ) → No-word close-word s p → No-word extern-word s p → (t : Step) → next s c ≡ t → Rest s c (block k) p t
       → Left s c (token k) p
   unfolding extern-inside
-  in-block-left {k} p e f t z (block-rest place u) = now-left (line-to c s (c .place) p (token-end k s p)) (z ∙ rw (e, f)) (token-rest (c .place) u)
+  in-block-left {k} p e f t z (block-rest place u) = now-left (line-to c s (c .place) p (token-end (edition-at c) k s p)) (z ∙ rw (e, f)) (token-rest (c .place) u)
 
   all-left : (p : ℕ) → None closing-brace s p → (t : Step) → next s c ≡ t → Rest s c (token bare-token) p t → Left s c (skip-to no-more) 0
   unfolding bare-line bare-end bare-skip
@@ -227,7 +227,7 @@ module _ (s : List ℕ) (c : Cursor) where
   all-left p n t z (bare-rest place y) =
       let e = none-nowhere closing-brace s 0 (rw y at n) in
       now-left
-      (skipping s 0 (λ r. Go (matched place) (moved c place (length s + 1))))
+      (skipping c s 0 (λ r. Go (matched place) (moved c place (length s + 1))))
       (z ∙ rw (e, bare-line, e))
       (skip-rest (λ r. Go (matched place) (moved c place (length s + 1))) (λ q. no-more-rest (matched place) (moved c place (length s + 1))))
     where
@@ -244,7 +244,7 @@ module _ (s : List ℕ) (c : Cursor) where
     unfolding sole-at sole-end
     at-sole-rest p =
         body-rest in-sole-extern
-        (skip-rest (λ q. expecting semicolon s q (λ r. skipping s r (λ e. ending s e))) (λ q. semicolon-rest))
+        (skip-rest (λ q. expecting semicolon s q (λ r. skipping c s r (λ e. ending s e))) (λ q. semicolon-rest))
 
     at-opening-rest : (place : ℕ) → Rest s c (skip-to opening) (c .at) (opening-at c s place)
     unfolding opening-at
@@ -255,14 +255,14 @@ module _ (s : List ℕ) (c : Cursor) where
     unfolding in-extern
     at-block-rest place =
         skip-rest {r = block extern-token}
-        (λ p. extern-inside c s place p (extern-end (c .last) s p))
+        (λ p. extern-inside c s place p (extern-end (edition-at c) (c .last) s p))
         (λ p. rw (extern-end-said s c g p) (block-rest place refl))
 
     at-bare-block-rest : (place : ℕ) → Rest s c (skip-to (block bare-extern-token)) (c .at) (in-bare c s place)
     unfolding in-bare
     at-bare-block-rest place =
         skip-rest {r = block bare-extern-token}
-        (λ p. extern-inside c s place p (bare-extern-end (c .last) s p))
+        (λ p. extern-inside c s place p (bare-extern-end (edition-at c) (c .last) s p))
         (λ p. rw (bare-extern-end-said s c g p) (block-rest place refl))
 
     at-bare-rest : (inner place : ℕ) → c .at ≡ 0 → Rest s c (matcher bare-token) (c .at) (bare-matcher c s inner place)
@@ -276,7 +276,7 @@ module _ (s : List ℕ) (c : Cursor) where
     unfolding next next-script next-list next-symbol start-script go-node go-body go-sole go-list
     due-left n z o due-script =
         now-left
-        (skipping s (c .at) (λ p. script-at c s p))
+        (skipping c s (c .at) (λ p. script-at c s p))
         (rw (z, in-limit script-limit (λ h. o (script h))))
         (skip-rest (λ p. script-at c s p) (λ p. script-rest))
     due-left n z o due-node = now-left (go-node s c) (rw z) (skip-rest (λ p. node-at c s p) (λ p. node-rest))
@@ -303,10 +303,10 @@ module _ (s : List ℕ) (c : Cursor) where
 
     comes-left : {r : Rule} {p : ℕ} → Comes s c r p → Left s c r p
     comes-left (starts o d) = due-left (c .place) refl o d
-    comes-left (past-blank {p = p} h e) = from (comes-left h) (skip-moves p (p + 1) (skip-blank s p e))
-    comes-left (past-line {p = p} {q = q} h e f) = from (comes-left h) (skip-moves p (q + 1) (skip-line s p e q f))
-    comes-left (past-comment {p = p} {q = q} h e f k) = from (comes-left h) (skip-moves p (q + 2) (skip-comment s p e f q k))
-    comes-left (skipped {p = p} h e) = from (comes-left h) (skip-done p (skip-stays s p e))
+    comes-left (past-blank {p = p} h e) = from (comes-left h) (skip-moves p (p + 1) (skip-blank (edition-at c) s p e))
+    comes-left (past-line {p = p} {q = q} h e f) = from (comes-left h) (skip-moves p (q + 1) (skip-line (edition-at c) s p e q f))
+    comes-left (past-comment {p = p} {q = q} h e f k) = from (comes-left h) (skip-moves p (q + 2) (skip-comment (edition-at c) s p e f q k))
+    comes-left (skipped {p = p} h e) = from (comes-left h) (skip-done p (skip-stays (edition-at c) s p e))
     comes-left (to-nodes {p = p} h n) = from (comes-left h) (nodes-left p n)
     comes-left (behind-body {p = p} h e) = from (comes-left h) (body-left p e)
     comes-left (of-body {p = p} h n a b) = from (comes-left h) (in-body-left p n a b)
@@ -339,7 +339,7 @@ module _ (s : List ℕ) (c : Cursor) where
     end-refuses : (p ≡ length s → ⊥) → (t : Step) → next s c ≡ t → Rest s c end p t → next s c ≡ Refused unreadable p
     end-refuses n t z end-rest = z ∙ rw (ne-eqb p (length s) n)
 
-    skip-refuses : {r : Rule} → skip s p ≡ Open p → (t : Step) → next s c ≡ t → Rest s c (skip-to r) p t → next s c ≡ Refused unclosed p
+    skip-refuses : {r : Rule} → skip-at c s p ≡ Open p → (t : Step) → next s c ≡ t → Rest s c (skip-to r) p t → next s c ≡ Refused unclosed p
     skip-refuses e t z (skip-rest on f) = z ∙ rw e
 
     language-refuses : {k : Token} → Word extern-word s p → No-word cxx-word s (p + 7) → No-word c-word s (p + 7) → (t : Step) → next s c ≡ t
@@ -352,19 +352,19 @@ module _ (s : List ℕ) (c : Cursor) where
     within-refuses e t z (block-rest place u) = z ∙ rw (differ extern-word close-word s p 0 (omega arith) (omega arith) (λ y. omega arith) e, e)
 
     -- tokens
-    no-end-refuses : {k : Token} → to-closing k s p ≡ false → None semicolon s p → (t : Step) → next s c ≡ t → Rest s c (token k) p t
+    no-end-refuses : {k : Token} → to-closing (edition-at c) k s p ≡ false → None semicolon s p → (t : Step) → next s c ≡ t → Rest s c (token k) p t
         → next s c ≡ Refused unreadable p
     unfolding line-to to-semicolon
     no-end-refuses e n t z (token-rest place u) = z ∙ rw (e, none-nowhere semicolon s p n)
     no-end-refuses e n t z (bare-rest place y) = absurd (true≢false e)
 
-    empty-refuses : {k : Token} → to-closing k s p ≡ false → Byte semicolon s p → (t : Step) → next s c ≡ t → Rest s c (token k) p t
+    empty-refuses : {k : Token} → to-closing (edition-at c) k s p ≡ false → Byte semicolon s p → (t : Step) → next s c ≡ t → Rest s c (token k) p t
         → next s c ≡ Refused unreadable p
     unfolding line-to to-semicolon
     empty-refuses e b t z (token-rest place u) = z ∙ rw (e, stands-first semicolon s p (omega arith) b, le-ltb p p (omega arith))
     empty-refuses e b t z (bare-rest place y) = absurd (true≢false e)
 
-    closing-refuses : {k : Token} → to-closing k s p ≡ true → Byte closing-brace s p → (t : Step) → next s c ≡ t → Rest s c (token k) p t
+    closing-refuses : {k : Token} → to-closing (edition-at c) k s p ≡ true → Byte closing-brace s p → (t : Step) → next s c ≡ t → Rest s c (token k) p t
         → next s c ≡ Refused unreadable p
     unfolding line-to to-brace bare-line bare-end
     closing-refuses e b t z (token-rest place u) = z ∙ rw (e, stands-first closing-brace s p (omega arith) b, le-ltb p p (omega arith))
@@ -387,8 +387,8 @@ module _ (s : List ℕ) (c : Cursor) where
     unreadable-refuses (empty-to-closing h e b) = from (comes-left g h) (closing-refuses p e b)
 
     pub unclosed-refuses : Unclosed s c p → next s c ≡ Refused unclosed p
-    unclosed-refuses (line h e n) = from (comes-left g h) (skip-refuses p (skip-line-opens s p e n))
-    unclosed-refuses (comment h e f n) = from (comes-left g h) (skip-refuses p (skip-comment-opens s p e f n))
+    unclosed-refuses (line h e n) = from (comes-left g h) (skip-refuses p (skip-line-opens (edition-at c) s p e n))
+    unclosed-refuses (comment h e f n) = from (comes-left g h) (skip-refuses p (skip-comment-opens (edition-at c) s p e f n))
     unclosed-refuses (no-brace-left h n) = from (comes-left g h) (brace-refuses p n)
 
     pub bad-extern-refuses : Bad-extern s c p → next s c ≡ Refused bad-extern p

@@ -17,7 +17,6 @@ use Rattle.linker_script.specs.declared.Found.{Found}
 use Rattle.linker_script.specs.declared.Found.the-variants.{Here, Nowhere}
 use Rattle.linker_script.specs.declared.Skipped.the-variants.{At}
 use Rattle.linker_script.specs.Finding.{closes, first-from, is}
-use Rattle.linker_script.specs.Skip.{skip}
 use Rattle.linker_script.proofs.Searches.{first-within}
 use Rattle.reading_tokens.specs.declared.TokenEnd.{TokenEnd}
 use Rattle.reading_tokens.specs.declared.TokenEnd.the-variants.{To}
@@ -28,7 +27,7 @@ use Rattle.reading_cursors.specs.declared.Event.{Event}
 use Rattle.reading_cursors.specs.declared.Event.the-variants.{Extern}
 use Rattle.reading_cursors.specs.declared.Step.{Step}
 use Rattle.reading_cursors.specs.declared.Step.the-variants.{Go, End, Refused}
-use Rattle.reading_cursors.specs.Moves.{moved, in-language, start, skipping, expecting, ending}
+use Rattle.reading_cursors.specs.Moves.{edition-at, moved, in-language, start, skip-at, skipping, expecting, ending}
 use Rattle.reading_matchers.specs.Matchers.{extern-word, cxx-word, c-word, close-word, line-to, extern-open, extern-at, extern-inside, matcher as matcher-at, bare-line}
 use Rattle.reading_cursors.specs.Places.{at-list, in-list, in-list-extern, at-symbol, in-symbol-extern, at-bare, in-bare-extern}
 use Rattle.reading_bodies.specs.Bodies.{global-word, local-word, name-to, node-at, script-at, parent-to, parent-at, inside-body, list-at}
@@ -53,20 +52,20 @@ module _ (s : List ℕ) (c : Cursor) where
   on-cond false f g = g refl
 
   module _ {r : Rule} {on : ℕ → Step} (f : (q : ℕ) → Comes s c r q → Says (on q)) where
-    skip-turn : (p : ℕ) → ((q : ℕ) → p < q → p < length s → Comes s c (skip-to r) q → Says (skipping s q on)) → Comes s c (skip-to r) p → Turn s p
-        → Says (skipping s p on)
-    skip-turn p more w (stays e) = rw (skip-stays s p e) (f p (skipped w e))
-    skip-turn p more w (at-blank h e) = rw (skip-blank s p e) (more (p + 1) (omega arith) h (past-blank w e))
-    skip-turn p more w (at-line {q = q} h k e j) = rw (skip-line s p e q j) (more (q + 1) (omega arith) (omega arith) (past-line w e j))
-    skip-turn p more w (at-comment {q = q} h k e i j) = rw (skip-comment s p e i q j) (more (q + 2) (omega arith) (omega arith) (past-comment w e i j))
-    skip-turn p more w (in-line e n) = rw (skip-line-opens s p e n) (refuses (three (line w e n)))
-    skip-turn p more w (in-comment e i n) = rw (skip-comment-opens s p e i n) (refuses (three (comment w e i n)))
+    skip-turn : (p : ℕ) → ((q : ℕ) → p < q → p < length s → Comes s c (skip-to r) q → Says (skipping c s q on)) → Comes s c (skip-to r) p → Turn (edition-at c) s p
+        → Says (skipping c s p on)
+    skip-turn p more w (stays e) = rw (skip-stays (edition-at c) s p e) (f p (skipped w e))
+    skip-turn p more w (at-blank h e) = rw (skip-blank (edition-at c) s p e) (more (p + 1) (omega arith) h (past-blank w e))
+    skip-turn p more w (at-line {q = q} h k e j) = rw (skip-line (edition-at c) s p e q j) (more (q + 1) (omega arith) (omega arith) (past-line w e j))
+    skip-turn p more w (at-comment {q = q} h k e i j) = rw (skip-comment (edition-at c) s p e i q j) (more (q + 2) (omega arith) (omega arith) (past-comment w e i j))
+    skip-turn p more w (in-line e n) = rw (skip-line-opens (edition-at c) s p e n) (refuses (three (line w e n)))
+    skip-turn p more w (in-comment e i n) = rw (skip-comment-opens (edition-at c) s p e i n) (refuses (three (comment w e i n)))
 
-    skip-in : (n p : ℕ) → length s - p < n → Comes s c (skip-to r) p → Says (skipping s p on)
+    skip-in : (n p : ℕ) → length s - p < n → Comes s c (skip-to r) p → Says (skipping c s p on)
     skip-in zero p h w = absurd (omega arith)
-    skip-in (suc n) p h w = skip-turn p (λ q a b v. skip-in n q (omega arith) v) w (turn s p)
+    skip-in (suc n) p h w = skip-turn p (λ q a b v. skip-in n q (omega arith) v) w (turn (edition-at c) s p)
 
-    skip-says : (p : ℕ) → Comes s c (skip-to r) p → Says (skipping s p on)
+    skip-says : (p : ℕ) → Comes s c (skip-to r) p → Says (skipping c s p on)
     skip-says p w = skip-in (length s - p + 1) p (omega arith) w
 
   module _ (p : ℕ) where
@@ -94,11 +93,11 @@ module _ (s : List ℕ) (c : Cursor) where
 
   -- tokens
   data Ended (k : Token) (p : ℕ) : TokenEnd → Type 0 where
-    to : {q : ℕ} → skip s q ≡ At q → Ended k p (To q)
+    to : {q : ℕ} → skip-at c s q ≡ At q → Ended k p (To q)
     not : {n : ℕ} → (Comes s c (token k) p → Refusing s c n p) → Ended k p (no.Refused n)
 
   -- one that goes to the byte b
-  ended-found : (k : Token) (p b n : ℕ) → ((q : ℕ) → Byte b s q → skip s q ≡ At q) → (Byte b s p → Comes s c (token k) p → Refusing s c unreadable p)
+  ended-found : (k : Token) (p b n : ℕ) → ((q : ℕ) → Byte b s q → skip-at c s q ≡ At q) → (Byte b s p → Comes s c (token k) p → Refusing s c unreadable p)
       → (first-from (is b) s p ≡ Nowhere → Comes s c (token k) p → Refusing s c n p) → (f : Found) → first-from (is b) s p ≡ f → Ended k p (end-at p n f)
   ended-found k p b n z empty none (Here q) e = go (ltb p q) refl
     where
@@ -112,15 +111,15 @@ module _ (s : List ℕ) (c : Cursor) where
           not (empty (rw y at stands-there))
   ended-found k p b n z empty none Nowhere e = not (none e)
 
-  semicolon-ended : (k : Token) (p : ℕ) → to-closing k s p ≡ false → Ended k p (to-semicolon s p)
+  semicolon-ended : (k : Token) (p : ℕ) → to-closing (edition-at c) k s p ≡ false → Ended k p (to-semicolon (edition-at c) s p)
   unfolding to-semicolon
   semicolon-ended k p h =
-      ended-found k p semicolon unreadable (semicolon-stays s) (λ b w. two (empty-to-semicolon w h b))
+      ended-found k p semicolon unreadable (semicolon-stays (edition-at c) s) (λ b w. two (empty-to-semicolon w h b))
       (λ e w. two (no-token-end w h (nowhere-none semicolon s p (omega arith) e)))
       (first-from (is semicolon) s p)
       refl
 
-  no-brace : (k : Token) (p : ℕ) → usual k ≡ true → to-closing k s p ≡ true → first-from (is closing-brace) s p ≡ Nowhere → Comes s c (token k) p
+  no-brace : (k : Token) (p : ℕ) → usual k ≡ true → to-closing (edition-at c) k s p ≡ true → first-from (is closing-brace) s p ≡ Nowhere → Comes s c (token k) p
       → Refusing s c unclosed p
   no-brace plain-token p u h e w = absurd (true≢false (sym h))
   no-brace extern-token p u h e w = three (no-brace-left w (nowhere-none closing-brace s p (omega arith) e))
@@ -133,41 +132,41 @@ module _ (s : List ℕ) (c : Cursor) where
           absurd (nowhere-none closing-brace s p (omega arith) e q (x .0) (x .1 .0))
       go Nowhere k = absurd (true≢false (sym (rw k at h)))
 
-  brace-ended : (k : Token) (p : ℕ) → usual k ≡ true → to-closing k s p ≡ true → Ended k p (to-brace s p)
+  brace-ended : (k : Token) (p : ℕ) → usual k ≡ true → to-closing (edition-at c) k s p ≡ true → Ended k p (to-brace (edition-at c) s p)
   unfolding to-brace
   brace-ended k p u h =
-      ended-found k p closing-brace unclosed (closing-stays s) (λ b w. two (empty-to-closing w h b))
+      ended-found k p closing-brace unclosed (closing-stays (edition-at c) s) (λ b w. two (empty-to-closing w h b))
       (no-brace k p u h)
       (first-from (is closing-brace) s p)
       refl
 
-  token-says : (k : Token) (place p : ℕ) → usual k ≡ true → Comes s c (token k) p → Says (line-to c s place p (token-end k s p))
+  token-says : (k : Token) (place p : ℕ) → usual k ≡ true → Comes s c (token k) p → Says (line-to c s place p (token-end (edition-at c) k s p))
   unfolding line-to
-  token-says k place p u w = go (to-closing k s p) refl
+  token-says k place p u w = go (to-closing (edition-at c) k s p) refl
     where
       line-says : (e : TokenEnd) → Ended k p e → Says (line-to c s place p e)
       line-says (To q) (to z) = rw z goes
       line-says (no.Refused n) (not f) = refuses (f w)
 
-      go : (v : Bool) → to-closing k s p ≡ v → Says (line-to c s place p (cond v (to-brace s p) (to-semicolon s p)))
-      go true h = line-says (to-brace s p) (brace-ended k p u h)
-      go false h = line-says (to-semicolon s p) (semicolon-ended k p h)
+      go : (v : Bool) → to-closing (edition-at c) k s p ≡ v → Says (line-to c s place p (cond v (to-brace (edition-at c) s p) (to-semicolon (edition-at c) s p)))
+      go true h = line-says (to-brace (edition-at c) s p) (brace-ended k p u h)
+      go false h = line-says (to-semicolon (edition-at c) s p) (semicolon-ended k p h)
 
-  bare-says : (place p : ℕ) → p ≡ 0 → Comes s c (token bare-token) p → Says (bare-line c s place (bare-end s))
+  bare-says : (place p : ℕ) → p ≡ 0 → Comes s c (token bare-token) p → Says (bare-line c s place (bare-end (edition-at c) s))
   unfolding bare-line bare-end bare-skip
   bare-says place p y w = go (first-from (is closing-brace) s 0) refl
     where
       at-first : Comes s c (token bare-token) 0
       at-first = rw y at w
 
-      go : (f : Found) → first-from (is closing-brace) s 0 ≡ f → Says (bare-line c s place (bare-end s))
+      go : (f : Found) → first-from (is closing-brace) s 0 ≡ f → Says (bare-line c s place (bare-end (edition-at c) s))
       go (Here q) e = rw e (here (ltb 0 q) refl)
         where
           stands-there : Byte closing-brace s q
           stands-there = eqb-true (getD s q 0) closing-brace (first-within (is closing-brace) s 0 q e .holds)
 
           here : (v : Bool) → ltb 0 q ≡ v → Says (bare-line c s place (cond v (To q) (no.Refused unreadable)))
-          here true h = rw (e, closing-stays s q stands-there) goes
+          here true h = rw (e, closing-stays (edition-at c) s q stands-there) goes
           here false h =
               let z : q ≡ 0 = omega (arith, ltb-false 0 q h) in
               refuses (two (empty-to-closing at-first refl (rw z at stands-there)))
@@ -326,27 +325,27 @@ module _ (s : List ℕ) (c : Cursor) (g : Standing s c) where
         go (four u) = u
 
 -- ---- so of a whole reading
-module _ (place : ℕ) (s : List ℕ) (n p : ℕ) where
-  reached-stands : {c : Cursor} → Reaches place s c → Standing s c
-  reached-stands first = start-stands place s
+module _ (edition place : ℕ) (s : List ℕ) (n p : ℕ) where
+  reached-stands : {c : Cursor} → Reaches edition place s c → Standing s c
+  reached-stands first = start-stands edition place s
   reached-stands (after {c = c} {d = d} {e = e} r h) = next-stands s c d e (reached-stands r) h
 
   -- what is left of it decides
-  reached-same : {c : Cursor} → Reaches place s c → reading place s .outcome ≡ reading-from s c .outcome
+  reached-same : {c : Cursor} → Reaches edition place s c → reading edition place s .outcome ≡ reading-from s c .outcome
   unfolding reading
   reached-same first = refl
   reached-same (after {c = c} {d = d} {e = e} r h) =
       let z : reading-from s c .outcome ≡ reading-from s d .outcome = rw (reading-step s c (reached-stands r), h) in
       reached-same r ∙ z
 
-  refused-so : Refused-reading place s n p → reading place s .outcome ≡ refused n p
+  refused-so : Refused-reading edition place s n p → reading edition place s .outcome ≡ refused n p
   refused-so x =
       let g = reached-stands (x .reached) in
       let h = refuses-so s (x .cursor) g (x .refusing) in
       reached-same (x .reached) ∙ rw (reading-step s (x .cursor) g, h)
 
   -- with at most m events to come
-  refused-in : (m : ℕ) (c : Cursor) → length s + 1 - c .at < m → Reaches place s c → reading-from s c .outcome ≡ refused n p → Refused-reading place s n p
+  refused-in : (m : ℕ) (c : Cursor) → length s + 1 - c .at < m → Reaches edition place s c → reading-from s c .outcome ≡ refused n p → Refused-reading edition place s n p
   refused-in zero c l r h = absurd (omega arith)
   refused-in (suc m) c l r h =
       go (next s c) refl (rw (reading-step s c (reached-stands r)) at h) (λ d e k. refused-in m d (near d e k) (after r k))
@@ -357,7 +356,7 @@ module _ (place : ℕ) (s : List ℕ) (n p : ℕ) where
           omega (arith, o .onward, o .within)
 
       go : (t : Step) → next s c ≡ t → on-step t (λ d. reading-from s d) .outcome ≡ refused n p
-          → ((d : Cursor) (e : Event) → next s c ≡ Go e d → reading-from s d .outcome ≡ refused n p → Refused-reading place s n p) → Refused-reading place s n p
+          → ((d : Cursor) (e : Event) → next s c ≡ Go e d → reading-from s d .outcome ≡ refused n p → Refused-reading edition place s n p) → Refused-reading edition place s n p
       go (Go e d) z k more = more d e z k
       go End z k more = absurd (true≢false (cc))
       go (Refused a b) z k more =
@@ -365,10 +364,10 @@ module _ (place : ℕ) (s : List ℕ) (n p : ℕ) where
           let y : b ≡ p = cc in
           record { cursor = c; reached = r; refusing = refuses-only s c (reached-stands r) n p (rw (x, y) at z) }
 
-  refused-only : reading place s .outcome ≡ refused n p → Refused-reading place s n p
+  refused-only : reading edition place s .outcome ≡ refused n p → Refused-reading edition place s n p
   unfolding reading
-  refused-only h = refused-in (length s + 2) (start place s) (omega arith) first h
+  refused-only h = refused-in (length s + 2) (start edition place s) (omega arith) first h
 
-  pub reading-exactly : (reading place s .outcome ≡ refused n p → Refused-reading place s n p)
-      × (Refused-reading place s n p → reading place s .outcome ≡ refused n p)
+  pub reading-exactly : (reading edition place s .outcome ≡ refused n p → Refused-reading edition place s n p)
+      × (Refused-reading edition place s n p → reading edition place s .outcome ≡ refused n p)
   reading-exactly = (refused-only, refused-so)

@@ -11,6 +11,7 @@ use native.Mathlib.Omega.{arith}
 use borrow.Author.Tests.{eq-eqb, eqb-true, lt-ltb, le-ltb, ltb-true}
 use lib.Dec.{eqb, ltb}
 use lib.ListN.{getD}
+use Rattle.numbers.specs.declared.Edition.{Edition}
 use Rattle.numbers.specs.Refusals.{unclosed, unreadable}
 use Rattle.numbers.specs.Signs.{closing-brace, semicolon}
 use Rattle.linker_script.specs.declared.Found.{Found}
@@ -54,23 +55,23 @@ end-found p n r Nowhere e =
     absurd (omega arith)
 
 -- the token ends at r, and the search for `;` at q
-pub data Looked (s : List ℕ) (q r : ℕ) : Type 0 where
-  near : q ≤ r + 1 → Looked s q r
-  at-last : extern-end (last-close s) s r ≡ Refused unreadable → Looked s q r
+pub data Looked (x : Edition) (s : List ℕ) (q r : ℕ) : Type 0 where
+  near : q ≤ r + 1 → Looked x s q r
+  at-last : extern-end x (last-close s) s r ≡ Refused unreadable → Looked x s q r
 
 -- a `};` is left from p on, so the first `;` from there is looked for
-module _ (s : List ℕ) (p q r : ℕ) (h : p < last-close s) (e : first-from (is semicolon) s p ≡ Here q) where
+module _ (x : Edition) (s : List ℕ) (p q r : ℕ) (h : p < last-close s) (e : first-from (is semicolon) s p ≡ Here q) where
   found : First (is semicolon) s p q
   found = first-within (is semicolon) s p q e
 
-  ends-at-semicolon : to-semicolon s p ≡ To r → Looked s q r
+  ends-at-semicolon : to-semicolon x s p ≡ To r → Looked x s q r
   unfolding to-semicolon
   ends-at-semicolon k =
       let f = end-found p unreadable r (first-from (is semicolon) s p) k .0 in
       let z : q ≡ r = cc in
       near (omega arith)
 
-  ends-at-brace : brace-before s p (Here q) ≡ true → to-brace s p ≡ To r → Looked s q r
+  ends-at-brace : brace-before s p (Here q) ≡ true → to-brace x s p ≡ To r → Looked x s q r
   unfolding to-brace extern-end
   ends-at-brace b k = go (decLe q (r + 1))
     where
@@ -94,7 +95,7 @@ module _ (s : List ℕ) (p q r : ℕ) (h : p < last-close s) (e : first-from (is
               let z : q - 1 + 1 ≡ q = omega arith in
               absurd (n (q - 1) (omega arith) before (rw z (eqb-true (getD s q 0) semicolon (found .holds))))
 
-      go : Dec (q ≤ r + 1) → Looked s q r
+      go : Dec (q ≤ r + 1) → Looked x s q r
       go (yes l) = near l
       go (no l) =
           let m : r < q = omega arith in
@@ -103,10 +104,10 @@ module _ (s : List ℕ) (p q r : ℕ) (h : p < last-close s) (e : first-from (is
           let b = eq-eqb (getD s (q - 1) 0) closing-brace before in
           at-last (rw (a, f, lt-ltb r q m, b, stands-first closing-brace s r (omega arith) here, le-ltb r r (omega arith)))
 
-  pub semicolon-near : extern-end (last-close s) s p ≡ To r → Looked s q r
+  pub semicolon-near : extern-end x (last-close s) s p ≡ To r → Looked x s q r
   unfolding extern-end
   semicolon-near k = go (brace-before s p (Here q)) refl (rw (lt-ltb p (last-close s) h, e) at k)
     where
-      go : (v : Bool) → brace-before s p (Here q) ≡ v → cond v (to-brace s p) (to-semicolon s p) ≡ To r → Looked s q r
+      go : (v : Bool) → brace-before s p (Here q) ≡ v → cond v (to-brace x s p) (to-semicolon x s p) ≡ To r → Looked x s q r
       go true b x = ends-at-brace b x
       go false b x = ends-at-semicolon x

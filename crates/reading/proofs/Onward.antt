@@ -15,7 +15,7 @@ use Rattle.reading_cursors.specs.declared.Cursor.{Cursor}
 use Rattle.reading_cursors.specs.declared.Event.{Event}
 use Rattle.reading_cursors.specs.declared.Step.{Step}
 use Rattle.reading_cursors.specs.declared.Step.the-variants.{Go, End, Refused}
-use Rattle.reading_cursors.specs.Moves.{start}
+use Rattle.reading_cursors.specs.Moves.{edition-at, start}
 use Rattle.reading_cursors.specs.Places.{behind-symbol}
 use Rattle.reading.specs.Scripts.{next}
 use Rattle.reading.specs.Events.{Reading, on-step, reading-within, reading-from, reading}
@@ -34,9 +34,9 @@ pub record Standing (s : List ℕ) (c : Cursor) : Type 0 where
   pub last : c .last ≡ last-close s
   pub inside : eqb (c .place) behind-symbol ≡ false → c .at ≤ length s
 
-pub start-stands : (place : ℕ) (s : List ℕ) → Standing s (start place s)
+pub start-stands : (edition place : ℕ) (s : List ℕ) → Standing s (start edition place s)
 unfolding start
-start-stands place s = record { fresh = λ _. refl; within = omega arith; last = refl; inside = λ _. omega arith }
+start-stands edition place s = record { fresh = λ _. refl; within = omega arith; last = refl; inside = λ _. omega arith }
 
 pub next-stands : (s : List ℕ) (c d : Cursor) (e : Event) → Standing s c → next s c ≡ Go e d → Standing s d
 next-stands s c d e k h =
@@ -44,8 +44,8 @@ next-stands s c d e k h =
     record { fresh = λ b. absurd (true≢false (sym b ∙ o .begun)); within = o .within; last = o .same ∙ k .last; inside = o .inside }
 
 -- so a token of an extern block ends there as 01 says
-pub standing-ends : (s : List ℕ) (c : Cursor) → Standing s c → (p : ℕ) → extern-end (c .last) s p ≡ to-either s p
-standing-ends s c k p = rw (k .last) (extern-end-01 s p)
+pub standing-ends : (s : List ℕ) (c : Cursor) → Standing s c → (p : ℕ) → extern-end (edition-at c) (c .last) s p ≡ to-either (edition-at c) s p
+standing-ends s c k p = rw (k .last) (extern-end-01 (edition-at c) s p)
 
 -- ---- the bound
 same-step : (t : Step) (f g : Cursor → Reading) → ((e : Event) (d : Cursor) → t ≡ Go e d → f d ≡ g d) → on-step t f ≡ on-step t g
@@ -79,6 +79,6 @@ module _ (s : List ℕ) where
       let z : length s + 2 - c .at ≡ suc n = omega (arith, k .within) in
       rw z (turn n c k (λ d. reading-from s d) (λ d j l. same-within n (length s + 2 - d .at) d j (omega arith) (omega arith)))
 
-  pub reading-starts : (place : ℕ) → reading place s ≡ on-step (next s (start place s)) (λ d. reading-from s d)
+  pub reading-starts : (edition place : ℕ) → reading edition place s ≡ on-step (next s (start edition place s)) (λ d. reading-from s d)
   unfolding reading
-  reading-starts place = reading-step (start place s) (start-stands place s)
+  reading-starts edition place = reading-step (start edition place s) (start-stands edition place s)

@@ -16,7 +16,6 @@ use Rattle.linker_script.specs.declared.Found.the-variants.{Here, Nowhere}
 use Rattle.linker_script.specs.declared.Skipped.{Skipped}
 use Rattle.linker_script.specs.declared.Skipped.the-variants.{At, Open}
 use Rattle.linker_script.specs.Finding.{first-from, is}
-use Rattle.linker_script.specs.Skip.{skip}
 use Rattle.linker_script.proofs.Searches.{first-within}
 use Rattle.linker_script.proofs.Skipping.{Stopped, skip-stops}
 use Rattle.reading_tokens.specs.declared.TokenEnd.{TokenEnd}
@@ -28,7 +27,7 @@ use Rattle.reading_cursors.specs.declared.Event.{Event}
 use Rattle.reading_cursors.specs.declared.Event.the-variants.{Node, Body, Section, Extern, Closed, Line, Parent}
 use Rattle.reading_cursors.specs.declared.Step.{Step}
 use Rattle.reading_cursors.specs.declared.Step.the-variants.{Go, End, Refused}
-use Rattle.reading_cursors.specs.Moves.{moved, in-section, in-language, on-skip, skipping, expecting, ending}
+use Rattle.reading_cursors.specs.Moves.{edition-at, moved, in-section, in-language, skip-at, on-skip, skipping, expecting, ending}
 use Rattle.reading_matchers.specs.Matchers.{extern-word, cxx-word, c-word, close-word, line-to, extern-open, extern-at, extern-inside, in-extern, matcher}
 use Rattle.reading_cursors.specs.Places.{at-script, at-node, at-body, in-body, in-body-extern, in-sole, in-sole-extern, at-list, in-list, in-list-extern, at-symbol}
 use Rattle.reading_bodies.specs.Bodies.{global-word, local-word, name-to, node-at, script-at, parent-to, parent-at, node-end, sole-end, inside-body, body-at, sole-at, list-at}
@@ -90,11 +89,11 @@ module _ (s : List ℕ) (c : Cursor) where
   on-cond true f g = f refl
   on-cond false f g = g refl
 
-  on-skipping : (p : ℕ) {on : ℕ → Step} → ((q : ℕ) → Stopped s q → Comes s c (on q)) → Comes s c (skipping s p on)
-  on-skipping p {on} f = go (skip s p) refl
+  on-skipping : (p : ℕ) {on : ℕ → Step} → ((q : ℕ) → Stopped s q → Comes s c (on q)) → Comes s c (skipping c s p on)
+  on-skipping p {on} f = go (skip-at c s p) refl
     where
-      go : (k : Skipped) → skip s p ≡ k → Comes s c (on-skip k on)
-      go (At q) e = f q (skip-stops s p q e)
+      go : (k : Skipped) → skip-at c s p ≡ k → Comes s c (on-skip k on)
+      go (At q) e = f q (skip-stops (edition-at c) s p q e)
       go (Open q) e = refused
 
   on-expecting : (b p : ℕ) {a : Step} → Comes s c a → Comes s c (expecting b s p (λ _. a))
@@ -133,7 +132,7 @@ module _ (s : List ℕ) (c : Cursor) where
 
       in-extern-comes : Comes s c (in-extern c s place)
       unfolding in-extern
-      in-extern-comes = on-skipping (c .at) (λ p _. extern-inside-comes p (extern-end (c .last) s p))
+      in-extern-comes = on-skipping (c .at) (λ p _. extern-inside-comes p (extern-end (edition-at c) (c .last) s p))
 
   module _ (h : block-place (c .place) ≡ false) where
     matcher-comes : (inner place p : ℕ) → block-place inner ≡ true → Near c inner → block-place place ≡ false → Near c place
@@ -141,7 +140,7 @@ module _ (s : List ℕ) (c : Cursor) where
     unfolding matcher
     matcher-comes inner place p x m y n =
         on-cond (stands-at extern-word s p) (λ _. extern-at-comes inner m h x p)
-        (λ _. line-to-comes place p (to-semicolon s p) (y ∙ sym h) n)
+        (λ _. line-to-comes place p (to-semicolon (edition-at c) s p) (y ∙ sym h) n)
 
     opening-at-comes : (place : ℕ) → block-place place ≡ false → Near c place → Comes s c (opening-at c s place)
     unfolding opening-at
@@ -191,7 +190,7 @@ module _ (s : List ℕ) (c : Cursor) where
       unfolding node-end parent-at
       node-end-comes p = on-skipping p (λ q _. parent-to-comes q (first-from (is semicolon) s q) refl)
 
-      sole-end-comes : (p : ℕ) → Comes s c (sole-end s p)
+      sole-end-comes : (p : ℕ) → Comes s c (sole-end c s p)
       unfolding sole-end
       sole-end-comes p = on-skipping p (λ q _. on-expecting semicolon q (on-skipping (q + 1) (λ e _. on-ending e)))
 

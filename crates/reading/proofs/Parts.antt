@@ -16,7 +16,6 @@ use Rattle.linker_script.specs.declared.Found.the-variants.{Here, Nowhere}
 use Rattle.linker_script.specs.declared.Skipped.{Skipped}
 use Rattle.linker_script.specs.declared.Skipped.the-variants.{At, Open}
 use Rattle.linker_script.specs.Finding.{first-from, is}
-use Rattle.linker_script.specs.Skip.{skip}
 use Rattle.linker_script.proofs.Searches.{first-within}
 use Rattle.linker_script.proofs.Trimming.{trim-few}
 use Rattle.reading_tokens.specs.declared.TokenEnd.{TokenEnd}
@@ -28,7 +27,7 @@ use Rattle.reading_cursors.specs.declared.Event.{Event}
 use Rattle.reading_cursors.specs.declared.Event.the-variants.{Node, Body, Section, Extern, Closed, Line, Parent}
 use Rattle.reading_cursors.specs.declared.Step.{Step}
 use Rattle.reading_cursors.specs.declared.Step.the-variants.{Go, End, Refused}
-use Rattle.reading_cursors.specs.Moves.{in-section, on-skip, skipping, expecting, ending, start}
+use Rattle.reading_cursors.specs.Moves.{edition-at, in-section, skip-at, on-skip, skipping, expecting, ending, start}
 use Rattle.reading_matchers.specs.Matchers.{extern-word, cxx-word, c-word, close-word, line-to, extern-open, extern-at, extern-inside, in-extern, in-bare, matcher, bare-line, bare-matcher}
 use Rattle.reading_cursors.specs.Places.{at-script, at-node, at-body, in-body, in-body-extern, in-sole, in-sole-extern, at-list, in-list, in-list-extern, at-symbol, in-symbol-extern, at-bare, in-bare-extern, behind-symbol}
 use Rattle.reading_bodies.specs.Bodies.{global-word, local-word, name-to, node-at, script-at, parent-to, parent-at, node-end, sole-end, inside-body, body-at, sole-at, list-at}
@@ -68,8 +67,8 @@ module _ (s : List ℕ) where
   on-cond true f g = f refl
   on-cond false f g = g
 
-  on-skipping : (p : ℕ) {on : ℕ → Step} → ((q : ℕ) → Keeps s (on q)) → Keeps s (skipping s p on)
-  on-skipping p {on} f = go (skip s p)
+  on-skipping : (c : Cursor) (p : ℕ) {on : ℕ → Step} → ((q : ℕ) → Keeps s (on q)) → Keeps s (skipping c s p on)
+  on-skipping c p {on} f = go (skip-at c s p)
     where
       go : (k : Skipped) → Keeps s (on-skip k on)
       go (At q) = f q
@@ -88,13 +87,13 @@ module _ (s : List ℕ) where
     -- ---- matchers
     line-to-keeps : (place p : ℕ) (e : TokenEnd) → Ends s p e → Keeps s (line-to c s place p e)
     unfolding line-to
-    line-to-keeps place p (To q) (ends h k) = on-skipping q (λ r. goes (line m (trimmed-within s p q (omega arith))) m)
+    line-to-keeps place p (To q) (ends h k) = on-skipping c q (λ r. goes (line m (trimmed-within s p q (omega arith))) m)
     line-to-keeps place p (token.Refused n) (refuses h) = refused
 
     extern-open-keeps : (place language p : ℕ) → language ≤ 1 → Keeps s (extern-open c s place language p)
     unfolding extern-open
     extern-open-keeps place language p h =
-        on-skipping p (λ q. on-expecting opening-brace q (goes extern (record { section = m .section; language = h })))
+        on-skipping c p (λ q. on-expecting opening-brace q (goes extern (record { section = m .section; language = h })))
 
     extern-at-keeps : (place p : ℕ) → Keeps s (extern-at c s place p)
     unfolding extern-at
@@ -105,30 +104,30 @@ module _ (s : List ℕ) where
     extern-inside-keeps : (place p : ℕ) (e : TokenEnd) → Ends s p e → Keeps s (extern-inside c s place p e)
     unfolding extern-inside
     extern-inside-keeps place p e h =
-        on-cond (stands-at close-word s p) (λ _. on-skipping (p + 2) (λ q. goes closed (record { section = m .section; language = omega arith })))
+        on-cond (stands-at close-word s p) (λ _. on-skipping c (p + 2) (λ q. goes closed (record { section = m .section; language = omega arith })))
         (on-cond (stands-at extern-word s p) (λ _. refused) (line-to-keeps (c .place) p e h))
 
     in-extern-keeps : (place : ℕ) → Keeps s (in-extern c s place)
     unfolding in-extern
-    in-extern-keeps place = on-skipping (c .at) (λ p. extern-inside-keeps place p (extern-end (c .last) s p) (extern-ends s p (c .last)))
+    in-extern-keeps place = on-skipping c (c .at) (λ p. extern-inside-keeps place p (extern-end (edition-at c) (c .last) s p) (extern-ends (edition-at c) s p (c .last)))
 
     in-bare-keeps : (place : ℕ) → Keeps s (in-bare c s place)
     unfolding in-bare
-    in-bare-keeps place = on-skipping (c .at) (λ p. extern-inside-keeps place p (bare-extern-end (c .last) s p) (bare-extern-ends s p (c .last)))
+    in-bare-keeps place = on-skipping c (c .at) (λ p. extern-inside-keeps place p (bare-extern-end (edition-at c) (c .last) s p) (bare-extern-ends (edition-at c) s p (c .last)))
 
     matcher-keeps : (inner place p : ℕ) → Keeps s (matcher c s inner place p)
     unfolding matcher
     matcher-keeps inner place p =
-        on-cond (stands-at extern-word s p) (λ _. extern-at-keeps inner p) (line-to-keeps place p (to-semicolon s p) (semicolon-ends s p))
+        on-cond (stands-at extern-word s p) (λ _. extern-at-keeps inner p) (line-to-keeps place p (to-semicolon (edition-at c) s p) (semicolon-ends (edition-at c) s p))
 
     bare-line-keeps : (place : ℕ) (e : TokenEnd) → Keeps s (bare-line c s place e)
     unfolding bare-line
-    bare-line-keeps place (To q) = on-skipping _ (λ r. goes (line m (trimmed-within s 0 q (omega arith))) m)
+    bare-line-keeps place (To q) = on-skipping c _ (λ r. goes (line m (trimmed-within s 0 q (omega arith))) m)
     bare-line-keeps place (token.Refused n) = refused
 
     bare-matcher-keeps : (inner place : ℕ) → Keeps s (bare-matcher c s inner place)
     unfolding bare-matcher
-    bare-matcher-keeps inner place = on-cond (stands-at extern-word s 0) (λ _. extern-at-keeps inner 0) (bare-line-keeps place (bare-end s))
+    bare-matcher-keeps inner place = on-cond (stands-at extern-word s 0) (λ _. extern-at-keeps inner 0) (bare-line-keeps place (bare-end (edition-at c) s))
 
     -- ---- nodes
     name-to-keeps : (p : ℕ) → Keeps s (name-to c p (name-end s p))
@@ -164,15 +163,15 @@ module _ (s : List ℕ) where
 
     node-end-keeps : (p : ℕ) → Keeps s (node-end c s p)
     unfolding node-end parent-at
-    node-end-keeps p = on-skipping p (λ q. parent-to-keeps (in-section c 0) q in-global (first-from (is semicolon) s q) refl)
+    node-end-keeps p = on-skipping c p (λ q. parent-to-keeps (in-section c 0) q in-global (first-from (is semicolon) s q) refl)
 
     opening-at-keeps : (place : ℕ) → Keeps s (opening-at c s place)
     unfolding opening-at
-    opening-at-keeps place = on-skipping (c .at) (λ p. on-expecting opening-brace p (goes body m))
+    opening-at-keeps place = on-skipping c (c .at) (λ p. on-expecting opening-brace p (goes body m))
 
-    sole-end-keeps : (p : ℕ) → Keeps s (sole-end s p)
+    sole-end-keeps : (p : ℕ) → Keeps s (sole-end c s p)
     unfolding sole-end
-    sole-end-keeps p = on-skipping p (λ q. on-expecting semicolon q (on-skipping (q + 1) (λ e. on-ending e)))
+    sole-end-keeps p = on-skipping c p (λ q. on-expecting semicolon q (on-skipping c (q + 1) (λ e. on-ending e)))
 
     -- ---- bodies and lists
     inside-body-keeps : (inner p : ℕ) → Keeps s (inside-body c s inner p)
@@ -191,25 +190,25 @@ module _ (s : List ℕ) where
 
     list-at-keeps : (p : ℕ) → Keeps s (list-at c s p)
     unfolding list-at
-    list-at-keeps p = on-cond (stands-at close-word s p) (λ _. on-skipping (p + 2) (λ q. on-ending q)) (matcher-keeps c m in-list-extern in-list p)
+    list-at-keeps p = on-cond (stands-at close-word s p) (λ _. on-skipping c (p + 2) (λ q. on-ending q)) (matcher-keeps c m in-list-extern in-list p)
 
     -- ---- the step at each place
     next-script-keeps : Keeps s (next-script s c)
     unfolding next-script start-script go-node go-body go-sole
     next-script-keeps =
-        on-cond (eqb (c .place) at-script) (λ _. on-within script-limit (on-skipping (c .at) (λ p. script-at-keeps c m p)))
-        (on-cond (eqb (c .place) at-node) (λ _. on-skipping (c .at) (λ p. node-at-keeps c m p))
+        on-cond (eqb (c .place) at-script) (λ _. on-within script-limit (on-skipping c (c .at) (λ p. script-at-keeps c m p)))
+        (on-cond (eqb (c .place) at-node) (λ _. on-skipping c (c .at) (λ p. node-at-keeps c m p))
         (on-cond (eqb (c .place) at-body) (λ _. opening-at-keeps in-body)
-        (on-cond (eqb (c .place) in-body) (λ _. on-skipping (c .at) (λ p. body-at-keeps p))
+        (on-cond (eqb (c .place) in-body) (λ _. on-skipping c (c .at) (λ p. body-at-keeps p))
         (on-cond (eqb (c .place) in-body-extern) (λ _. in-extern-keeps c m in-body)
-        (on-cond (eqb (c .place) in-sole) (λ _. on-skipping (c .at) (λ p. sole-at-keeps p))
+        (on-cond (eqb (c .place) in-sole) (λ _. on-skipping c (c .at) (λ p. sole-at-keeps p))
         (in-extern-keeps c m in-sole))))))
 
     next-list-keeps : Keeps s (next-list s c)
     unfolding next-list go-list
     next-list-keeps =
         on-cond (eqb (c .place) at-list) (λ _. on-within script-limit (opening-at-keeps in-list))
-        (on-cond (eqb (c .place) in-list) (λ _. on-skipping (c .at) (λ p. list-at-keeps p))
+        (on-cond (eqb (c .place) in-list) (λ _. on-skipping c (c .at) (λ p. list-at-keeps p))
         (in-extern-keeps c m in-list))
 
     next-symbol-keeps : Keeps s (next-symbol s c)
@@ -233,6 +232,6 @@ module _ (s : List ℕ) where
         go : Keeps s (Go e d) → Parts s e × Marked d
         go (goes p k) = (p, k)
 
-pub start-marked : (place : ℕ) (s : List ℕ) → Marked (start place s)
+pub start-marked : (edition place : ℕ) (s : List ℕ) → Marked (start edition place s)
 unfolding start
-start-marked place s = record { section = omega arith; language = omega arith }
+start-marked edition place s = record { section = omega arith; language = omega arith }

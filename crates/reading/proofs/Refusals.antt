@@ -76,9 +76,9 @@ module _ (s : List ℕ) (n p : ℕ) where
           let e : a ≡ n = cc in
           rw (← e) (next-refuses s c a b z .0)
 
-  pub reading-refuses : (place : ℕ) → reading place s .outcome ≡ refused n p → of-reader n ≡ true
+  pub reading-refuses : (edition place : ℕ) → reading edition place s .outcome ≡ refused n p → of-reader n ≡ true
   unfolding reading reading-from
-  reading-refuses place h = within-refuses (length s + 2 - start place s .at) (start place s) h
+  reading-refuses edition place h = within-refuses (length s + 2 - start edition place s .at) (start edition place s) h
 
 -- ---- a refusal, at a cursor of a reading
 small : (n : ℕ) → of-reader n ≡ true → n ≤ 4

@@ -18,7 +18,6 @@ use Rattle.linker_script.specs.declared.Found.the-variants.{Here, Nowhere}
 use Rattle.linker_script.specs.declared.Skipped.{Skipped}
 use Rattle.linker_script.specs.declared.Skipped.the-variants.{At, Open}
 use Rattle.linker_script.specs.Finding.{first-from, is}
-use Rattle.linker_script.specs.Skip.{skip}
 use Rattle.linker_script.proofs.Searches.{first-within}
 use Rattle.linker_script.proofs.Skipping.{skip-onward, skip-within}
 use Rattle.linker_script.proofs.Unclosed.{unclosed-within}
@@ -30,7 +29,7 @@ use Rattle.reading_cursors.specs.declared.Cursor.{Cursor}
 use Rattle.reading_cursors.specs.declared.Event.{Event}
 use Rattle.reading_cursors.specs.declared.Step.{Step}
 use Rattle.reading_cursors.specs.declared.Step.the-variants.{Go, End, Refused}
-use Rattle.reading_cursors.specs.Moves.{in-section, on-skip, skipping, expecting, ending}
+use Rattle.reading_cursors.specs.Moves.{edition-at, in-section, skip-at, on-skip, skipping, expecting, ending}
 use Rattle.reading_matchers.specs.Matchers.{extern-word, cxx-word, c-word, close-word, line-to, extern-open, extern-at, extern-inside, in-extern, in-bare, matcher, bare-line, bare-matcher}
 use Rattle.reading_cursors.specs.Places.{at-script, at-node, at-body, in-body, in-body-extern, in-sole, in-sole-extern, at-list, in-list, in-list-extern, at-symbol, in-symbol-extern, at-bare, in-bare-extern, behind-symbol}
 use Rattle.reading_bodies.specs.Bodies.{global-word, local-word, name-to, node-at, script-at, parent-to, parent-at, node-end, sole-end, inside-body, body-at, sole-at, list-at}
@@ -92,14 +91,14 @@ module _ (s : List ℕ) (c : Cursor) where
   on-cond true f g = f refl
   on-cond false f g = g refl
 
-  on-skipping : (p : ℕ) {on : ℕ → Step} → Reached s c p → ((q : ℕ) → Past s p q → Reached s c q → Fits s c (on q)) → Fits s c (skipping s p on)
-  on-skipping p {on} r f = go (skip s p) refl
+  on-skipping : (p : ℕ) {on : ℕ → Step} → Reached s c p → ((q : ℕ) → Past s p q → Reached s c q → Fits s c (on q)) → Fits s c (skipping c s p on)
+  on-skipping p {on} r f = go (skip-at c s p) refl
     where
-      go : (k : Skipped) → skip s p ≡ k → Fits s c (on-skip k on)
+      go : (k : Skipped) → skip-at c s p ≡ k → Fits s c (on-skip k on)
       go (At q) e =
-          let w : Past s p q = record { onward = skip-onward s p q e; within = skip-within s p q e } in
+          let w : Past s p q = record { onward = skip-onward (edition-at c) s p q e; within = skip-within (edition-at c) s p q e } in
           f q w (further p q r (w .onward) (w .within))
-      go (Open q) e = refused (grammar {p = q} refl (λ h. omega (arith, unclosed-within s p q (r .inside h) e)))
+      go (Open q) e = refused (grammar {p = q} refl (λ h. omega (arith, unclosed-within (edition-at c) s p q (r .inside h) e)))
 
   on-expecting : (b p : ℕ) {a : Step} → 0 < b → Reached s c p → (p < length s → Fits s c a) → Fits s c (expecting b s p (λ _. a))
   on-expecting b p h r f = on-cond (eqb (getD s p 0) b) (λ e. f (byte-stands s p b h e)) (λ _. refuse unreadable p refl r)
@@ -157,11 +156,11 @@ module _ (s : List ℕ) (c : Cursor) where
   module _ (place : ℕ) (b : symbol-start place ≡ false) (i : symbol-start (c .place) ≡ false) where
     in-extern-fits : Fits s c (in-extern c s place)
     unfolding in-extern
-    in-extern-fits = on-skipping (c .at) here (λ p _ r. extern-inside-fits place p b r i (extern-end (c .last) s p) (extern-ends s p (c .last)))
+    in-extern-fits = on-skipping (c .at) here (λ p _ r. extern-inside-fits place p b r i (extern-end (edition-at c) (c .last) s p) (extern-ends (edition-at c) s p (c .last)))
 
     in-bare-fits : Fits s c (in-bare c s place)
     unfolding in-bare
-    in-bare-fits = on-skipping (c .at) here (λ p _ r. extern-inside-fits place p b r i (bare-extern-end (c .last) s p) (bare-extern-ends s p (c .last)))
+    in-bare-fits = on-skipping (c .at) here (λ p _ r. extern-inside-fits place p b r i (bare-extern-end (edition-at c) (c .last) s p) (bare-extern-ends (edition-at c) s p (c .last)))
 
   module _ (inner place : ℕ) (a : symbol-start inner ≡ false) (b : symbol-start place ≡ false) where
     matcher-fits : (p : ℕ) → Reached s c p → Fits s c (matcher c s inner place p)
@@ -169,13 +168,13 @@ module _ (s : List ℕ) (c : Cursor) where
     matcher-fits p r =
         on-cond (stands-at extern-word s p)
         (λ _. extern-at-fits inner p a r)
-        (λ _. line-to-fits place p b r (to-semicolon s p) (semicolon-ends s p))
+        (λ _. line-to-fits place p b r (to-semicolon (edition-at c) s p) (semicolon-ends (edition-at c) s p))
 
     module _ (r : Reached s c 0) (z : place ≡ behind-symbol) where
-      bare-line-fits : (e : TokenEnd) → bare-end s ≡ e → Fits s c (bare-line c s place e)
+      bare-line-fits : (e : TokenEnd) → bare-end (edition-at c) s ≡ e → Fits s c (bare-line c s place e)
       unfolding bare-line
       bare-line-fits (To q) _ =
-          on-skipping (bare-skip s) (further 0 (bare-skip s) r (omega arith) (λ _. bare-skip-within s)) (λ _ _ _.
+          on-skipping (bare-skip (edition-at c) s) (further 0 (bare-skip (edition-at c) s) r (omega arith) (λ _. bare-skip-within (edition-at c) s)) (λ _ _ _.
           goes (λ f. record {
             onward = omega (arith, r .ahead f);
             within = omega arith;
@@ -183,11 +182,11 @@ module _ (s : List ℕ) (c : Cursor) where
             begun = b;
             inside = λ h. absurd (true≢false (rw z at h));
           }))
-      bare-line-fits (token.Refused n) e = refuse n 0 (bare-refuses s n e) r
+      bare-line-fits (token.Refused n) e = refuse n 0 (bare-refuses (edition-at c) s n e) r
 
       bare-matcher-fits : Fits s c (bare-matcher c s inner place)
       unfolding bare-matcher
-      bare-matcher-fits = on-cond (stands-at extern-word s 0) (λ _. extern-at-fits inner 0 a r) (λ _. bare-line-fits (bare-end s) refl)
+      bare-matcher-fits = on-cond (stands-at extern-word s 0) (λ _. extern-at-fits inner 0 a r) (λ _. bare-line-fits (bare-end (edition-at c) s) refl)
 
   -- ---- nodes
   module _ (p : ℕ) (r : Reached s c p) where
@@ -221,7 +220,7 @@ module _ (s : List ℕ) (c : Cursor) where
     unfolding node-end parent-at
     node-end-fits = on-skipping p r (λ q _ t. parent-to-fits q t (in-section c 0) refl (first-from (is semicolon) s q) refl)
 
-    sole-end-fits : Fits s c (sole-end s p)
+    sole-end-fits : Fits s c (sole-end c s p)
     unfolding sole-end
     sole-end-fits =
         on-skipping p r (λ q _ t. on-expecting semicolon q (omega arith) t (λ h.

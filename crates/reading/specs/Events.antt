@@ -39,5 +39,6 @@ reading-within (suc n) s c = on-step (next s c) (λ d. reading-within n s d)
 unfoldable pub reading-from : List ℕ → Cursor → Reading
 reading-from s c = reading-within (length s + 2 - c .at) s c
 
-unfoldable pub reading : ℕ → List ℕ → Reading
-reading place s = reading-from s (start place s)
+-- the text s from a place of the grammar on, in the edition with that number
+unfoldable pub reading : ℕ → ℕ → List ℕ → Reading
+reading edition place s = reading-from s (start edition place s)

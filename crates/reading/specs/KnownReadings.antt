@@ -7,6 +7,7 @@ use Prim.Native.String.{String}
 use mathlib.Core.Path.{_≡_}
 use mathlib.Core.List.{List, [], _∷_}
 use Rattle.lists.specs.Texts.{codes}
+use Rattle.numbers.specs.Editions.{reld}
 use Rattle.reading_cursors.specs.declared.Event.{Event}
 use Rattle.reading_cursors.specs.declared.Event.the-variants.{Node, Body, Section, Extern, Closed, Line, Parent}
 use Rattle.reading_cursors.specs.Places.{at-script, at-list, at-symbol, at-bare}
@@ -14,16 +15,16 @@ use Rattle.reading.specs.Events.{accepted, refused, Reading, reading}
 
 -- ---- the readings of a text: as a version script, an export list, a text of `add_symbol`, and one without semicolon
 unfoldable pub as-script : String → Reading
-as-script t = reading at-script (codes t)
+as-script t = reading reld at-script (codes t)
 
 unfoldable pub as-list : String → Reading
-as-list t = reading at-list (codes t)
+as-list t = reading reld at-list (codes t)
 
 unfoldable pub as-symbol : String → Reading
-as-symbol t = reading at-symbol (codes t)
+as-symbol t = reading reld at-symbol (codes t)
 
 unfoldable pub as-bare : String → Reading
-as-bare t = reading at-bare (codes t)
+as-bare t = reading reld at-bare (codes t)
 
 -- the lines among events: section, language, start, length
 abbrev pub line-before : Event → List Event → List Event

@@ -5,15 +5,17 @@ use mathlib.Core.Path.{_≡_}
 use mathlib.Core.List.{List, _++_}
 use mathlib.Core.Bool.{Bool, true, false, _&&_}
 use lib.ListN.{length, getD}
+use Rattle.numbers.specs.declared.Edition.{Edition}
 use Rattle.numbers.specs.Limits.{script-limit, token-limit}
 use Rattle.numbers.specs.Signs.{asterisk, closing-brace, hash, line-feed, opening-brace, semicolon, slash}
 use Rattle.linker_script.specs.declared.Found.{Found}
 use Rattle.linker_script.specs.declared.Found.the-variants.{Here, Nowhere}
-use Rattle.linker_script.specs.Finding.{are, closes, first-from, is}
+use Rattle.linker_script.specs.Finding.{closes, first-from, is}
 use Rattle.linker_script.specs.Parts.{behind}
-use Rattle.linker_script.specs.Skip.{blank, skips}
+use Rattle.linker_script.specs.Skip.{blank, comment-end, skips}
 use Rattle.reading_tokens.specs.Tokens.{brace-next, named, stands-at}
 use Rattle.reading_cursors.specs.declared.Cursor.{Cursor}
+use Rattle.reading_cursors.specs.Moves.{edition-at}
 use Rattle.reading_matchers.specs.Matchers.{extern-word, cxx-word, c-word, close-word}
 use Rattle.reading_cursors.specs.Places.{at-script, at-node, at-body, in-body, in-body-extern, in-sole, in-sole-extern, at-list, in-list, in-list-extern, at-symbol, in-symbol-extern, at-bare, in-bare-extern}
 use Rattle.reading_bodies.specs.Bodies.{global-word, local-word}
@@ -56,11 +58,11 @@ found-any Nowhere = false
 
 -- whether the token at p goes to `}`, else to `;`: "when the remaining text has no `};`, or has one with no `;` before it"; "An extern block there differs in
 -- one point: with no `};` left, tokens go to `;`."
-abbrev pub to-closing : Token → List ℕ → ℕ → Bool
-to-closing plain-token s p = false
-to-closing extern-token s p = brace-next s p
-to-closing bare-token s p = true
-to-closing bare-extern-token s p = found-any (first-from closes s p) && brace-next s p
+abbrev pub to-closing : Edition → Token → List ℕ → ℕ → Bool
+to-closing x plain-token s p = false
+to-closing x extern-token s p = brace-next x s p
+to-closing x bare-token s p = true
+to-closing x bare-extern-token s p = found-any (first-from closes s p) && brace-next x s p
 
 pub data Rule : Type 0 where
   -- "skip", and then a rule
@@ -116,7 +118,7 @@ pub data Comes (s : List ℕ) (c : Cursor) : Rule → ℕ → Type 0 where
   past-line : {r : Rule} {p q : ℕ} → Comes s c (skip-to r) p → Byte hash s p → first-from (is line-feed) s (p + 1) ≡ Here q
       → Comes s c (skip-to r) (q + 1)
   past-comment : {r : Rule} {p q : ℕ} → Comes s c (skip-to r) p → Byte slash s p → Byte asterisk s (p + 1)
-      → first-from (are asterisk slash) s (p + 1) ≡ Here q → Comes s c (skip-to r) (q + 2)
+      → comment-end (edition-at c) s p ≡ Here q → Comes s c (skip-to r) (q + 2)
   skipped : {r : Rule} {p : ℕ} → Comes s c (skip-to r) p → skips s p ≡ false → Comes s c r p
   -- "If `{` follows: … Otherwise …"
   to-nodes : {p : ℕ} → Comes s c script-start p → (Byte opening-brace s p → ⊥) → Comes s c node p

@@ -18,7 +18,7 @@ use Rattle.reading_bodies.specs.Bodies.{node-at, script-at, body-at, sole-at, l
 
 -- a body or a list opens: "skip, `{`"
 unfoldable pub opening-at : Cursor → List ℕ → ℕ → Step
-opening-at c s place = skipping s (c .at) (λ p. expecting opening-brace s p (λ q. Go Body (moved c place q)))
+opening-at c s place = skipping c s (c .at) (λ p. expecting opening-brace s p (λ q. Go Body (moved c place q)))
 
 -- ---- "script, text … over its limit"
 abbrev pub within : ℕ → List ℕ → Step → Step
@@ -26,19 +26,19 @@ within limit s r = cond (over limit s) (Refused too-long 0) r
 
 -- ---- a step, at each place of a reading
 unfoldable pub start-script : List ℕ → Cursor → Step
-start-script s c = within script-limit s (skipping s (c .at) (λ p. script-at c s p))
+start-script s c = within script-limit s (skipping c s (c .at) (λ p. script-at c s p))
 
 unfoldable pub go-node : List ℕ → Cursor → Step
-go-node s c = skipping s (c .at) (λ p. node-at c s p)
+go-node s c = skipping c s (c .at) (λ p. node-at c s p)
 
 unfoldable pub go-body : List ℕ → Cursor → Step
-go-body s c = skipping s (c .at) (λ p. body-at c s p)
+go-body s c = skipping c s (c .at) (λ p. body-at c s p)
 
 unfoldable pub go-sole : List ℕ → Cursor → Step
-go-sole s c = skipping s (c .at) (λ p. sole-at c s p)
+go-sole s c = skipping c s (c .at) (λ p. sole-at c s p)
 
 unfoldable pub go-list : List ℕ → Cursor → Step
-go-list s c = skipping s (c .at) (λ p. list-at c s p)
+go-list s c = skipping c s (c .at) (λ p. list-at c s p)
 
 unfoldable pub next-script : List ℕ → Cursor → Step
 next-script s c =

@@ -3,7 +3,6 @@ ghost use mathlib.Core.Path.{_≡_};
 ghost use Rattle.reading.specs.Scripts.{opening-at, start-script, go-node, go-body, go-sole, go-list, next-script, next-list, next-symbol, next};
 use linker_script::Skipped;
 use linker_script::byte_at;
-use linker_script::comments::skip_comments_and_whitespace;
 use numbers::SCRIPT_LIMIT;
 use numbers::TOKEN_LIMIT;
 use numbers::TOO_LONG;
@@ -31,6 +30,7 @@ use reading_cursors::places::IN_BODY_EXTERN;
 use reading_cursors::places::IN_LIST;
 use reading_cursors::places::IN_SOLE;
 use reading_cursors::places::IN_SYMBOL_EXTERN;
+use reading_cursors::skip_at;
 use reading_matchers::in_bare;
 use reading_matchers::in_extern;
 use reading_matchers::parse_bare_matcher;
@@ -41,7 +41,7 @@ fn opening_at(c: Cursor, s: &[u8], place: u32) -> Step
     ensures { λ r. ⌜ r ≡ opening-at c (now (s .entry)) place ⌝ }
 {
     let at = c.at;
-    match skip_comments_and_whitespace(s, at) {
+    match skip_at(c, s, at) {
         Skipped::Open(o) => Step::Refused(UNCLOSED, o),
         Skipped::At(p) => {
             if byte_at(s, p) == b'{' {
@@ -60,7 +60,7 @@ fn start_script(c: Cursor, s: &[u8]) -> Step
         return Step::Refused(TOO_LONG, 0);
     }
     let at = c.at;
-    match skip_comments_and_whitespace(s, at) {
+    match skip_at(c, s, at) {
         Skipped::Open(o) => Step::Refused(UNCLOSED, o),
         Skipped::At(p) => script_at(c, s, p),
     }
@@ -70,7 +70,7 @@ fn go_node(c: Cursor, s: &[u8]) -> Step
     ensures { λ r. ⌜ r ≡ go-node (now (s .entry)) c ⌝ }
 {
     let at = c.at;
-    match skip_comments_and_whitespace(s, at) {
+    match skip_at(c, s, at) {
         Skipped::Open(o) => Step::Refused(UNCLOSED, o),
         Skipped::At(p) => node_at(c, s, p),
     }
@@ -80,7 +80,7 @@ fn go_body(c: Cursor, s: &[u8]) -> Step
     ensures { λ r. ⌜ r ≡ go-body (now (s .entry)) c ⌝ }
 {
     let at = c.at;
-    match skip_comments_and_whitespace(s, at) {
+    match skip_at(c, s, at) {
         Skipped::Open(o) => Step::Refused(UNCLOSED, o),
         Skipped::At(p) => body_at(c, s, p),
     }
@@ -90,7 +90,7 @@ fn go_sole(c: Cursor, s: &[u8]) -> Step
     ensures { λ r. ⌜ r ≡ go-sole (now (s .entry)) c ⌝ }
 {
     let at = c.at;
-    match skip_comments_and_whitespace(s, at) {
+    match skip_at(c, s, at) {
         Skipped::Open(o) => Step::Refused(UNCLOSED, o),
         Skipped::At(p) => sole_at(c, s, p),
     }
@@ -100,7 +100,7 @@ fn go_list(c: Cursor, s: &[u8]) -> Step
     ensures { λ r. ⌜ r ≡ go-list (now (s .entry)) c ⌝ }
 {
     let at = c.at;
-    match skip_comments_and_whitespace(s, at) {
+    match skip_at(c, s, at) {
         Skipped::Open(o) => Step::Refused(UNCLOSED, o),
         Skipped::At(p) => list_at(c, s, p),
     }

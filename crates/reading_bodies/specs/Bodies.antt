@@ -51,14 +51,14 @@ parent-at c s p = parent-to c p (first-from (is semicolon) s p)
 
 -- behind the `}` of a named node's body, where the next body begins "global at first"; and of a sole body
 unfoldable pub node-end : Cursor → List ℕ → ℕ → Step
-node-end c s p = skipping s p (λ q. parent-at (in-section c global) s q)
+node-end c s p = skipping c s p (λ q. parent-at (in-section c global) s q)
 
 -- "skip, end"
-abbrev pub end-behind : List ℕ → ℕ → Step
-end-behind s p = skipping s p (λ q. ending s q)
+abbrev pub end-behind : Cursor → List ℕ → ℕ → Step
+end-behind c s p = skipping c s p (λ q. ending s q)
 
-unfoldable pub sole-end : List ℕ → ℕ → Step
-sole-end s p = skipping s p (λ q. expecting semicolon s q (λ r. end-behind s r))
+unfoldable pub sole-end : Cursor → List ℕ → ℕ → Step
+sole-end c s p = skipping c s p (λ q. expecting semicolon s q (λ r. end-behind c s r))
 
 -- ---- "Body: `{`, then repeatedly skip; `}` ends it and skips; `global:` and `local:` set the section (global at first); else a matcher."
 -- at the place p, where no `}` stands; an extern block goes on at `inner`
@@ -72,8 +72,8 @@ unfoldable pub body-at : Cursor → List ℕ → ℕ → Step
 body-at c s p = cond (eqb (getD s p 0) closing-brace) (node-end c s (p + 1)) (inside-body c s in-body-extern p)
 
 unfoldable pub sole-at : Cursor → List ℕ → ℕ → Step
-sole-at c s p = cond (eqb (getD s p 0) closing-brace) (sole-end s (p + 1)) (inside-body c s in-sole-extern p)
+sole-at c s p = cond (eqb (getD s p 0) closing-brace) (sole-end c s (p + 1)) (inside-body c s in-sole-extern p)
 
 -- ---- "Export list: skip, `{`, matchers, `};` with nothing between, skip, end. Section words mean nothing there."
 unfoldable pub list-at : Cursor → List ℕ → ℕ → Step
-list-at c s p = cond (stands-at close-word s p) (end-behind s (behind close-word p)) (matcher c s in-list-extern in-list p)
+list-at c s p = cond (stands-at close-word s p) (end-behind c s (behind close-word p)) (matcher c s in-list-extern in-list p)

@@ -5,7 +5,6 @@ ghost use Rattle.reading_bodies.specs.Bodies.{end-behind, name-to, node-
 use linker_script::Found;
 use linker_script::Skipped;
 use linker_script::byte_at;
-use linker_script::comments::skip_comments_and_whitespace;
 use linker_script::searching::find;
 use numbers::UNCLOSED;
 use numbers::UNREADABLE;
@@ -20,6 +19,7 @@ use reading_cursors::places::IN_LIST;
 use reading_cursors::places::IN_LIST_EXTERN;
 use reading_cursors::places::IN_SOLE;
 use reading_cursors::places::IN_SOLE_EXTERN;
+use reading_cursors::skip_at;
 use reading_cursors::with_section;
 use reading_matchers::parse_matcher;
 use reading_tokens::parse_token;
@@ -82,7 +82,7 @@ fn parent_at(c: Cursor, s: &[u8], p: usize) -> Step
 fn node_end(c: Cursor, s: &[u8], p: usize) -> Step
     ensures { λ r. ⌜ r ≡ node-end c (now (s .entry)) p ⌝ }
 {
-    match skip_comments_and_whitespace(s, p) {
+    match skip_at(c, s, p) {
         Skipped::Open(o) => Step::Refused(UNCLOSED, o),
         Skipped::At(q) => {
             let next = with_section(c, 0);
@@ -92,10 +92,10 @@ fn node_end(c: Cursor, s: &[u8], p: usize) -> Step
 }
 
 // Behind the last `;` of a script or a list: skip, end.
-fn end_behind(s: &[u8], p: usize) -> Step
-    ensures { λ r. ⌜ r ≡ end-behind (now (s .entry)) p ⌝ }
+fn end_behind(c: Cursor, s: &[u8], p: usize) -> Step
+    ensures { λ r. ⌜ r ≡ end-behind c (now (s .entry)) p ⌝ }
 {
-    match skip_comments_and_whitespace(s, p) {
+    match skip_at(c, s, p) {
         Skipped::Open(o) => Step::Refused(UNCLOSED, o),
         Skipped::At(q) => {
             if q == s.len() {
@@ -107,16 +107,16 @@ fn end_behind(s: &[u8], p: usize) -> Step
 }
 
 // Behind the `}` of the one body of a script.
-fn sole_end(s: &[u8], p: usize) -> Step
-    ensures { λ r. ⌜ r ≡ sole-end (now (s .entry)) p ⌝ }
+fn sole_end(c: Cursor, s: &[u8], p: usize) -> Step
+    ensures { λ r. ⌜ r ≡ sole-end c (now (s .entry)) p ⌝ }
 {
-    match skip_comments_and_whitespace(s, p) {
+    match skip_at(c, s, p) {
         Skipped::Open(o) => Step::Refused(UNCLOSED, o),
         Skipped::At(q) => {
             if byte_at(s, q) != b';' {
                 return Step::Refused(UNREADABLE, q);
             }
-            end_behind(s, q + 1)
+            end_behind(c, s, q + 1)
         }
     }
 }
@@ -150,7 +150,7 @@ pub fn sole_at(c: Cursor, s: &[u8], p: usize) -> Step
     ensures { λ r. ⌜ r ≡ sole-at c (now (s .entry)) p ⌝ }
 {
     if byte_at(s, p) == b'}' {
-        return sole_end(s, p + 1);
+        return sole_end(c, s, p + 1);
     }
     inside_body(c, s, IN_SOLE_EXTERN, p)
 }
@@ -159,7 +159,7 @@ pub fn list_at(c: Cursor, s: &[u8], p: usize) -> Step
     ensures { λ r. ⌜ r ≡ list-at c (now (s .entry)) p ⌝ }
 {
     if try_take(s, b"};", p) {
-        return end_behind(s, p + 2);
+        return end_behind(c, s, p + 2);
     }
     parse_matcher(c, s, IN_LIST_EXTERN, IN_LIST, p)
 }

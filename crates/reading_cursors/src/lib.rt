@@ -1,19 +1,23 @@
 // Where a reading stands, what a step of it answers, a cursor's moves, and the places of the grammar (`places`). Definitions: specs/Moves.antt and
 // specs/Places.antt. `move_to`, `with_section` and `with_language` are leaves of the reader. Fields are copied, so that each function is covered.
 ghost use mathlib.Core.Path.{_≡_};
-ghost use Rattle.reading_cursors.specs.Moves.{in-language, in-section, moved, start};
+ghost use Rattle.reading_cursors.specs.Moves.{in-language, in-section, moved, skip-at, start};
+use linker_script::Skipped;
+use linker_script::comments::skip_comments_and_whitespace;
 use linker_script::last_close;
+use numbers::edition_by;
 
 pub mod places;
 
 // Where a reading stands: the place in the text, the place in the grammar (specs/Places.antt), the section and language that a line there gets,
-// and the place from which on the text has no `};`.
+// the place from which on the text has no `};`, and the number of the edition in which it is read.
 pub struct Cursor {
     pub at: usize,
     pub place: u32,
     pub section: u32,
     pub language: u32,
     pub last: usize,
+    pub edition: u32,
 }
 
 pub enum Event {
@@ -54,8 +58,8 @@ pub enum Step {
 }
 
 // A reading starts at the text's first byte, at a place of the grammar (specs/Places.antt).
-pub fn start_at(place: u32, s: &[u8]) -> Cursor
-    ensures { λ r. ⌜ r ≡ start place (now (s .entry)) ⌝ }
+pub fn start_at(edition: u32, place: u32, s: &[u8]) -> Cursor
+    ensures { λ r. ⌜ r ≡ start edition place (now (s .entry)) ⌝ }
 {
     Cursor {
         at: 0,
@@ -63,6 +67,7 @@ pub fn start_at(place: u32, s: &[u8]) -> Cursor
         section: 0,
         language: 0,
         last: last_close(s),
+        edition,
     }
 }
 
@@ -75,6 +80,7 @@ pub fn move_to(c: Cursor, place: u32, at: usize) -> Cursor
         section: c.section,
         language: c.language,
         last: c.last,
+        edition: c.edition,
     }
 }
 
@@ -87,6 +93,7 @@ pub fn with_section(c: Cursor, section: u32) -> Cursor
         section,
         language: c.language,
         last: c.last,
+        edition: c.edition,
     }
 }
 
@@ -99,5 +106,13 @@ pub fn with_language(c: Cursor, language: u32) -> Cursor
         section: c.section,
         language,
         last: c.last,
+        edition: c.edition,
     }
+}
+
+// A skip from a place on, in the cursor's edition.
+pub fn skip_at(c: Cursor, s: &[u8], at: usize) -> Skipped
+    ensures { λ r. ⌜ r ≡ skip-at c (now (s .entry)) at ⌝ }
+{
+    skip_comments_and_whitespace(edition_by(c.edition), s, at)
 }

@@ -4,20 +4,20 @@ use mathlib.Core.Path.{_≡_}
 use mathlib.Core.List.{List}
 use borrow.Author.Tests.{eq-eqb, ne-eqb}
 use lib.ListN.{length, getD}
+use Rattle.numbers.specs.declared.Edition.{Edition}
 use Rattle.numbers.specs.Refusals.{unclosed}
 use Rattle.numbers.specs.Signs.{semicolon}
 use Rattle.linker_script.specs.declared.Skipped.{Skipped}
 use Rattle.linker_script.specs.declared.Skipped.the-variants.{At, Open}
-use Rattle.linker_script.specs.Skip.{skip}
 use Rattle.reading_tokens.specs.declared.TokenEnd.{TokenEnd}
 use Rattle.reading_tokens.specs.declared.TokenEnd.the-variants.{To}
 use Rattle.reading_tokens.specs.declared.TokenEnd.the-variants as token
-use Rattle.reading_tokens.specs.Tokens.{bare-skip}
+use Rattle.reading_tokens.specs.Tokens.{to-semicolon, extern-end, bare-extern-end, bare-end, bare-skip}
 use Rattle.reading_cursors.specs.declared.Cursor.{Cursor}
 use Rattle.reading_cursors.specs.declared.Event.{Event}
 use Rattle.reading_cursors.specs.declared.Step.{Step}
 use Rattle.reading_cursors.specs.declared.Step.the-variants.{Go, Refused}
-use Rattle.reading_cursors.specs.Moves.{moved, in-language}
+use Rattle.reading_cursors.specs.Moves.{edition-at, moved, in-language, skip-at}
 use Rattle.reading_matchers.specs.Matchers.{past-semicolon, line, line-to, extern-inside, bare-line}
 
 -- ---- "take a `;` if there": x is the byte at p
@@ -34,7 +34,7 @@ module _ (c : Cursor) (s : List ℕ) (place p : ℕ) (x : TokenEnd) where
   unfolding line-to
   line-refused n k = rw k
 
-  module _ (q : ℕ) (k : x ≡ To q) (f : Skipped) (e : f ≡ skip s q) where
+  module _ (q : ℕ) (k : x ≡ To q) (f : Skipped) (e : f ≡ skip-at c s q) where
     pub line-open : (o : ℕ) → f ≡ Open o → Refused unclosed o ≡ line-to c s place p x
     unfolding line-to
     line-open o h = rw (k, ← e, h)
@@ -50,25 +50,33 @@ module _ (c : Cursor) (s : List ℕ) (place : ℕ) (x : TokenEnd) where
   unfolding bare-line
   bare-refused n k = rw k
 
-  module _ (q : ℕ) (k : x ≡ To q) (b : ℕ) (g : b ≡ bare-skip s) (f : Skipped) (e : f ≡ skip s b) where
+  module _ (q : ℕ) (k : x ≡ To q) (y : Edition) (z : y ≡ edition-at c) (b : ℕ) (g : b ≡ bare-skip y s) (f : Skipped) (e : f ≡ skip-at c s b) where
+    starts : b ≡ bare-skip (edition-at c) s
+    starts = rw (← z) g
+
     pub bare-open : (o : ℕ) → f ≡ Open o → Refused unclosed o ≡ bare-line c s place x
     unfolding bare-line
-    bare-open o h = rw (k, ← g, ← e, h)
+    bare-open o h = rw (k, ← starts, ← e, h)
 
     pub bare-goes : (r : ℕ) → f ≡ At r → (l : Event) → l ≡ line c s 0 q → (d : Cursor) → d ≡ moved c place (length s + 1) → Go l d ≡ bare-line c s place x
     unfolding bare-line
-    bare-goes r h l a d m = rw (k, ← g, ← e, h, a, m)
+    bare-goes r h l a d m = rw (k, ← starts, ← e, h, a, m)
 
--- ---- where x is the end that a function answers
-module _ (c : Cursor) (s : List ℕ) (place : ℕ) (x y : TokenEnd) (r : Step) where
-  pub line-with : (p : ℕ) → r ≡ line-to c s place p x → x ≡ y → r ≡ line-to c s place p y
-  line-with p a e = rw (← e) a
+-- ---- where x is the end that a function answers, in the edition y that is the cursor's
+module _ (c : Cursor) (s : List ℕ) (place : ℕ) (x : TokenEnd) (r : Step) (y : Edition) (z : y ≡ edition-at c) where
+  module _ (p : ℕ) where
+    pub line-with : r ≡ line-to c s place p x → x ≡ to-semicolon y s p → r ≡ line-to c s place p (to-semicolon (edition-at c) s p)
+    line-with a e = rw (← z, ← e) a
 
-  pub inside-with : (p : ℕ) → r ≡ extern-inside c s place p x → x ≡ y → r ≡ extern-inside c s place p y
-  inside-with p a e = rw (← e) a
+    module _ (a : r ≡ extern-inside c s place p x) where
+      pub inside-with : x ≡ extern-end y (c .last) s p → r ≡ extern-inside c s place p (extern-end (edition-at c) (c .last) s p)
+      inside-with e = rw (← z, ← e) a
 
-  pub bare-with : r ≡ bare-line c s place x → x ≡ y → r ≡ bare-line c s place y
-  bare-with a e = rw (← e) a
+      pub inside-bare-with : x ≡ bare-extern-end y (c .last) s p → r ≡ extern-inside c s place p (bare-extern-end (edition-at c) (c .last) s p)
+      inside-bare-with e = rw (← z, ← e) a
+
+  pub bare-with : r ≡ bare-line c s place x → x ≡ bare-end y s → r ≡ bare-line c s place (bare-end (edition-at c) s)
+  bare-with a e = rw (← z, ← e) a
 
 -- ---- where the next cursor n is made in two moves
 pub go-in-language : (e : Event) (c d n : Cursor) (language place p : ℕ) → n ≡ moved d place p → d ≡ in-language c language → Go e n ≡ Go e (moved (in-language c language) place p)

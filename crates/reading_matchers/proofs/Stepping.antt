@@ -11,20 +11,20 @@ use lib.ListN.{length, getD}
 use Rattle.numbers.specs.Refusals.{unclosed, unreadable}
 use Rattle.linker_script.specs.declared.Skipped.{Skipped}
 use Rattle.linker_script.specs.declared.Skipped.the-variants.{At, Open}
-use Rattle.linker_script.specs.Skip.{skip}
 use Rattle.linker_script.proofs.Searches.{byte-within}
 use Rattle.reading_tokens.specs.Tokens.{stands-at}
 use Rattle.reading_tokens.proofs.Words.{stands-within}
+use Rattle.reading_cursors.specs.declared.Cursor.{Cursor}
 use Rattle.reading_cursors.specs.declared.Step.{Step}
 use Rattle.reading_cursors.specs.declared.Step.the-variants.{End, Refused}
-use Rattle.reading_cursors.specs.Moves.{skipping, expecting, ending}
+use Rattle.reading_cursors.specs.Moves.{skip-at, skipping, expecting, ending}
 
--- ---- behind a skip; f is what `skip_comments_and_whitespace` answers
-module _ (s : List ℕ) (p : ℕ) (on : ℕ → Step) (f : Skipped) (e : f ≡ skip s p) where
-  pub skip-open : (o : ℕ) → f ≡ Open o → Refused unclosed o ≡ skipping s p on
+-- ---- behind a skip; f is what `skip_at` answers
+module _ (c : Cursor) (s : List ℕ) (p : ℕ) (on : ℕ → Step) (f : Skipped) (e : f ≡ skip-at c s p) where
+  pub skip-open : (o : ℕ) → f ≡ Open o → Refused unclosed o ≡ skipping c s p on
   skip-open o k = rw (← e, k)
 
-  pub skip-goes : (q : ℕ) → f ≡ At q → (r : Step) → r ≡ on q → r ≡ skipping s p on
+  pub skip-goes : (q : ℕ) → f ≡ At q → (r : Step) → r ≡ on q → r ≡ skipping c s p on
   skip-goes q k r a = rw (← e, k) a
 
 -- ---- behind a byte b; x is what `byte_at` answers

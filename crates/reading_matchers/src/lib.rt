@@ -7,15 +7,16 @@ ghost use Rattle.reading_tokens.specs.Tokens.{trimmed};
 ghost use Rattle.reading_matchers.specs.Matchers.{extern-word, past-semicolon, line, line-to, extern-open, extern-at, extern-inside, in-extern, in-bare, matcher, bare-line, bare-matcher};
 use linker_script::Skipped;
 use linker_script::byte_at;
-use linker_script::comments::skip_comments_and_whitespace;
 use linker_script::trimmed_length;
 use numbers::BAD_EXTERN;
 use numbers::UNCLOSED;
 use numbers::UNREADABLE;
+use numbers::edition_by;
 use reading_cursors::Cursor;
 use reading_cursors::Event;
 use reading_cursors::Step;
 use reading_cursors::move_to;
+use reading_cursors::skip_at;
 use reading_cursors::with_language;
 use reading_tokens::TokenEnd;
 use reading_tokens::bare_end;
@@ -68,7 +69,7 @@ fn line_to(c: Cursor, s: &[u8], place: u32, p: usize, end: TokenEnd) -> Step
 {
     match end {
         TokenEnd::Refused(n) => Step::Refused(n, p),
-        TokenEnd::To(q) => match skip_comments_and_whitespace(s, q) {
+        TokenEnd::To(q) => match skip_at(c, s, q) {
             Skipped::Open(o) => Step::Refused(UNCLOSED, o),
             Skipped::At(r) => {
                 let event = line_of(c, s, p, q);
@@ -83,7 +84,7 @@ fn line_to(c: Cursor, s: &[u8], place: u32, p: usize, end: TokenEnd) -> Step
 fn extern_open(c: Cursor, s: &[u8], place: u32, language: u32, p: usize) -> Step
     ensures { λ r. ⌜ r ≡ extern-open c (now (s .entry)) place language p ⌝ }
 {
-    match skip_comments_and_whitespace(s, p) {
+    match skip_at(c, s, p) {
         Skipped::Open(o) => Step::Refused(UNCLOSED, o),
         Skipped::At(r) => {
             if byte_at(s, r) == b'{' {
@@ -119,7 +120,7 @@ fn extern_inside(c: Cursor, s: &[u8], place: u32, p: usize, end: TokenEnd) -> St
     ensures { λ r. ⌜ r ≡ extern-inside c (now (s .entry)) place p end ⌝ }
 {
     if try_take(s, b"};", p) {
-        return match skip_comments_and_whitespace(s, p + 2) {
+        return match skip_at(c, s, p + 2) {
             Skipped::Open(o) => Step::Refused(UNCLOSED, o),
             Skipped::At(r) => {
                 let next = move_to(with_language(c, 0), place, r);
@@ -139,10 +140,11 @@ pub fn in_extern(c: Cursor, s: &[u8], place: u32) -> Step
 {
     let at = c.at;
     let last = c.last;
-    match skip_comments_and_whitespace(s, at) {
+    match skip_at(c, s, at) {
         Skipped::Open(o) => Step::Refused(UNCLOSED, o),
         Skipped::At(p) => {
-            let end = extern_end(last, s, p);
+            let edition = edition_by(c.edition);
+            let end = extern_end(edition, last, s, p);
             extern_inside(c, s, place, p, end)
         }
     }
@@ -154,10 +156,11 @@ pub fn in_bare(c: Cursor, s: &[u8], place: u32) -> Step
 {
     let at = c.at;
     let last = c.last;
-    match skip_comments_and_whitespace(s, at) {
+    match skip_at(c, s, at) {
         Skipped::Open(o) => Step::Refused(UNCLOSED, o),
         Skipped::At(p) => {
-            let end = bare_extern_end(last, s, p);
+            let edition = edition_by(c.edition);
+            let end = bare_extern_end(edition, last, s, p);
             extern_inside(c, s, place, p, end)
         }
     }
@@ -170,7 +173,8 @@ pub fn parse_matcher(c: Cursor, s: &[u8], inner: u32, place: u32, p: usize) -> S
     if try_take(s, b"extern ", p) {
         return extern_at(c, s, inner, p);
     }
-    let end = to_semicolon(s, p);
+    let edition = edition_by(c.edition);
+    let end = to_semicolon(edition, s, p);
     line_to(c, s, place, p, end)
 }
 
@@ -179,7 +183,7 @@ fn bare_line(c: Cursor, s: &[u8], place: u32, end: TokenEnd) -> Step
 {
     match end {
         TokenEnd::Refused(n) => Step::Refused(n, 0),
-        TokenEnd::To(q) => match skip_comments_and_whitespace(s, bare_skip(s)) {
+        TokenEnd::To(q) => match skip_at(c, s, bare_skip(edition_by(c.edition), s)) {
             Skipped::Open(o) => Step::Refused(UNCLOSED, o),
             Skipped::At(_) => {
                 let event = line_of(c, s, 0, q);
@@ -197,6 +201,7 @@ pub fn parse_bare_matcher(c: Cursor, s: &[u8], inner: u32, place: u32) -> Step
     if try_take(s, b"extern ", 0) {
         return extern_at(c, s, inner, 0);
     }
-    let end = bare_end(s);
+    let edition = edition_by(c.edition);
+    let end = bare_end(edition, s);
     bare_line(c, s, place, end)
 }

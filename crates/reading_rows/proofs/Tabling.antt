@@ -9,6 +9,7 @@ use mir.Syntax.{w64}
 use mir.Val.{Fits}
 use lib.ListN.{length, length-append}
 use lib.Seq.{sets, length-sets, take-all, take-at}
+use Rattle.numbers.specs.Editions.{reld}
 use Rattle.numbers.specs.Limits.{script-limit}
 use Rattle.numbers.specs.Refusals.{no-room, too-long}
 use Rattle.lists.specs.Front.{front}
@@ -70,10 +71,10 @@ pub record Tabled (place : ℕ) (s d l : List ℕ) (n : ℕ) (c : Cursor) : Type
   pub long : length l ≡ length d
   pub list : l ≡ front (event-rows done) d
   pub stands : Standing s c
-  pub events : reading place s .events ≡ done ++ reading-from s c .events
-  pub outcome : reading place s .outcome ≡ reading-from s c .outcome
+  pub events : reading reld place s .events ≡ done ++ reading-from s c .events
+  pub outcome : reading reld place s .outcome ≡ reading-from s c .outcome
 
-pub tabled-start : (place : ℕ) (s d : List ℕ) (c : Cursor) → c ≡ start place s → Tabled place s d d 0 c
+pub tabled-start : (place : ℕ) (s d : List ℕ) (c : Cursor) → c ≡ start reld place s → Tabled place s d d 0 c
 unfolding event-rows reading
 tabled-start place s d c e = record {
   done = [];
@@ -82,7 +83,7 @@ tabled-start place s d c e = record {
   few = omega arith;
   long = refl;
   list = front-nil d;
-  stands = rw e (start-stands place s);
+  stands = rw e (start-stands reld place s);
   events = rw e;
   outcome = rw e;
 }
@@ -94,13 +95,13 @@ module _ (place : ℕ) (s d l : List ℕ) (n : ℕ) (c : Cursor) (z : Tabled pla
 
   -- all events are written
   module _ (o : Outcome) (e : reading-from s c ≡ ends o) where
-    all : reading place s .events ≡ z .done
+    all : reading reld place s .events ≡ z .done
     all = z .events ∙ rw (e, append-nil)
 
     room-enough : length (z .done) ≤ length d / 5
     room-enough = omega (arith, z .count, z .fits)
 
-    all-told : outcome-told o (n / 5) ≡ reading-told (reading place s) (length d / 5)
+    all-told : outcome-told o (n / 5) ≡ reading-told (reading reld place s) (length d / 5)
     unfolding reading-told
     all-told =
         let k : n / 5 ≡ length (z .done) = omega (arith, z .count) in
@@ -111,7 +112,7 @@ module _ (place : ℕ) (s d l : List ℕ) (n : ℕ) (c : Cursor) (z : Tabled pla
     all-rows = rw (all, take-all (length d / 5) (z .done) room-enough) (z .list)
 
   module _ (h : t ≡ End) where
-    pub end-told : 256 * (n / 5) ≡ reading-told (reading place s) (length d / 5)
+    pub end-told : 256 * (n / 5) ≡ reading-told (reading reld place s) (length d / 5)
     unfolding outcome-told
     end-told = all-told accepted (step ∙ rw h)
 
@@ -122,7 +123,7 @@ module _ (place : ℕ) (s d l : List ℕ) (n : ℕ) (c : Cursor) (z : Tabled pla
     end-fits m = omega (arith, z .count, z .few, z .stands .within)
 
   module _ (x p : ℕ) (h : t ≡ Refused x p) where
-    pub refused-told : x + 256 * p ≡ reading-told (reading place s) (length d / 5)
+    pub refused-told : x + 256 * p ≡ reading-told (reading reld place s) (length d / 5)
     unfolding outcome-told
     refused-told = all-told (refused x p) (step ∙ rw h)
 
@@ -140,7 +141,7 @@ module _ (place : ℕ) (s d l : List ℕ) (n : ℕ) (c : Cursor) (z : Tabled pla
       refused-fits = omega (arith, bounds)
 
   module _ (e : Event) (k : Cursor) (h : t ≡ Go e k) where
-    goes : reading place s .events ≡ z .done ++ (e ∷ reading-from s k .events)
+    goes : reading reld place s .events ≡ z .done ++ (e ∷ reading-from s k .events)
     goes = z .events ∙ rw (step, h)
 
     -- without room for one more
@@ -148,11 +149,11 @@ module _ (place : ℕ) (s d l : List ℕ) (n : ℕ) (c : Cursor) (z : Tabled pla
       room : length (z .done) ≡ length d / 5
       room = omega (arith, z .count, z .fits, z .long)
 
-      pub room-told : no-room ≡ reading-told (reading place s) (length d / 5)
+      pub room-told : no-room ≡ reading-told (reading reld place s) (length d / 5)
       unfolding reading-told
       room-told =
-          let w : length d / 5 < length (reading place s .events) = rw (goes, length-append) (omega (arith, room)) in
-          rw (lt-leb (length (reading place s .events)) (length d / 5) w)
+          let w : length d / 5 < length (reading reld place s .events) = rw (goes, length-append) (omega (arith, room)) in
+          rw (lt-leb (length (reading reld place s .events)) (length d / 5) w)
 
       pub room-rows : l ≡ front (rows-fitting place s (length d / 5)) d
       unfolding rows-fitting
@@ -192,7 +193,7 @@ module _ (source : ℕ) (s d : List ℕ) where
 
   -- p is what `source_place` answers
   module _ (h : length s ≤ script-limit) (p : ℕ) (e : p ≡ place-of source) where
-    pub within-told : (r : ℕ) → r ≡ reading-told (reading p s) (length d / 5) → r ≡ events-told source s (length d)
+    pub within-told : (r : ℕ) → r ≡ reading-told (reading reld p s) (length d / 5) → r ≡ events-told source s (length d)
     unfolding events-told
     within-told r q = rw (le-ltb script-limit (length s) h, ← e) q
 

@@ -4,6 +4,7 @@ use mathlib.Core.List.{List, [], _∷_, _++_}
 use mathlib.Core.Bool.{cond}
 use lib.Dec.{eqb, leb}
 use lib.ListN.{length, take}
+use Rattle.numbers.specs.Editions.{reld}
 use Rattle.numbers.specs.Limits.{over, script-limit}
 use Rattle.numbers.specs.Refusals.{no-room, too-long}
 use Rattle.lists.specs.Front.{front}
@@ -40,11 +41,11 @@ reading-told r room = cond (leb (length (r .events)) room) (outcome-told (r .out
 
 -- into a buffer of `room` numbers; a text over the largest limit is not looked at
 unfoldable pub events-told : ℕ → List ℕ → ℕ → ℕ
-events-told source s room = cond (over script-limit s) too-long (reading-told (reading (place-of source) s) (room / 5))
+events-told source s room = cond (over script-limit s) too-long (reading-told (reading reld (place-of source) s) (room / 5))
 
 -- the rows that fit, of `room` rows, stand at the front of the buffer
 unfoldable pub rows-fitting : ℕ → List ℕ → ℕ → List ℕ
-rows-fitting place s room = event-rows (take room (reading place s .events))
+rows-fitting place s room = event-rows (take room (reading reld place s .events))
 
 unfoldable pub events-rows : ℕ → List ℕ → List ℕ → List ℕ
 events-rows source s d = cond (over script-limit s) d (front (rows-fitting (place-of source) s (length d / 5)) d)

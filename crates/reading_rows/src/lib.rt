@@ -4,11 +4,13 @@ ghost use mathlib.Core.List.{[], _∷_};
 ghost use Prim.Native.Nat.{_+_, _/_, _≤_};
 ghost use lib.ListN.{length};
 ghost use lib.Seq.{sets};
+ghost use Rattle.numbers.specs.Editions.{reld};
 ghost use Rattle.numbers.specs.Limits.{script-limit};
 ghost use Rattle.lists.specs.Front.{front};
 ghost use Rattle.reading.specs.Events.{reading};
 ghost use Rattle.reading_rows.specs.Rows.{events-rows, events-told, place-of, row, rows-fitting, reading-told};
 use numbers::NO_ROOM;
+use numbers::RELD;
 use numbers::SCRIPT_LIMIT;
 use numbers::TOO_LONG;
 use reading::scripts::next_event;
@@ -79,10 +81,10 @@ fn put_row(rows: &mut [u64], at: usize, e: Event)
 // The events of a text within the largest limit, as rows.
 fn write_events(place: u32, text: &[u8], rows: &mut [u64]) -> u64
     requires { ⌜ length (now text) ≤ script-limit ⌝ }
-    ensures { λ r. ⌜ (r ≡ reading-told (reading place (now (text .entry))) (length (now (rows .entry)) / 5))
+    ensures { λ r. ⌜ (r ≡ reading-told (reading reld place (now (text .entry))) (length (now (rows .entry)) / 5))
         × (now (rows .exit) ≡ front (rows-fitting place (now (text .entry)) (length (now (rows .entry)) / 5)) (now (rows .entry))) ⌝ }
 {
-    let mut c = start_at(place, text);
+    let mut c = start_at(RELD, place, text);
     let mut n = 0;
     loop {
         match next_event(text, c) {

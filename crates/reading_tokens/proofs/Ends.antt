@@ -9,6 +9,7 @@ use native.Mathlib.Omega.{arith}
 use borrow.Author.Tests.{eq-eqb, eqb-true, lt-ltb, le-ltb, ltb-true}
 use lib.Dec.{eqb, ltb}
 use lib.ListN.{getD}
+use Rattle.numbers.specs.declared.Edition.{Edition}
 use Rattle.numbers.specs.Signs.{closing-brace, semicolon}
 use Rattle.linker_script.specs.declared.Found.{Found}
 use Rattle.linker_script.specs.declared.Found.the-variants.{Here, Nowhere}
@@ -56,40 +57,40 @@ module _ (s : List ℕ) (p c q : ℕ) (close : First closes s p c) (end : First 
           rw (lt-ltb p q l, z, closing .0, lt-ltb c q h)
       go (no h) = fails (brace-before s p (Here q)) (not-before (omega arith)) ∙ sym (le-ltb c q (omega arith))
 
-module _ (s : List ℕ) (p : ℕ) where
-  none-left : last-close s ≤ p → extern-end (last-close s) s p ≡ to-either s p
+module _ (x : Edition) (s : List ℕ) (p : ℕ) where
+  none-left : last-close s ≤ p → extern-end x (last-close s) s p ≡ to-either x s p
   unfolding extern-end to-either
   none-left h = rw (le-ltb p (last-close s) h, last-close-none s p h)
 
   one-left : p < last-close s → (c : ℕ) → first-from closes s p ≡ Here c → (f : Found) → first-from (is semicolon) s p ≡ f
-      → extern-end (last-close s) s p ≡ to-either s p
+      → extern-end x (last-close s) s p ≡ to-either x s p
   unfolding extern-end to-either
   one-left h c e (Here q) g =
       rw (lt-ltb p (last-close s) h, e, g, same-end s p c q (first-within closes s p c e) (first-within (is semicolon) s p q g))
   one-left h c e Nowhere g = rw (lt-ltb p (last-close s) h, e, g)
 
-  pub extern-end-01 : extern-end (last-close s) s p ≡ to-either s p
+  pub extern-end-01 : extern-end x (last-close s) s p ≡ to-either x s p
   extern-end-01 = go (decLt p (last-close s))
     where
-      go : Dec (p < last-close s) → extern-end (last-close s) s p ≡ to-either s p
+      go : Dec (p < last-close s) → extern-end x (last-close s) s p ≡ to-either x s p
       go (yes h) =
           let c = last-close-some s p h in
           one-left h (c .0) (c .1) (first-from (is semicolon) s p) refl
       go (no h) = none-left (omega arith)
 
 -- "An extern block there differs in one point: with no `};` left, tokens go to `;`": f is the first `};` from p on
-abbrev pub bare-either : List ℕ → ℕ → Found → TokenEnd
-bare-either s p (Here c) = to-either s p
-bare-either s p Nowhere = to-semicolon s p
+abbrev pub bare-either : Edition → List ℕ → ℕ → Found → TokenEnd
+bare-either x s p (Here c) = to-either x s p
+bare-either x s p Nowhere = to-semicolon x s p
 
-pub bare-extern-01 : (s : List ℕ) (p : ℕ) → bare-extern-end (last-close s) s p ≡ bare-either s p (first-from closes s p)
+pub bare-extern-01 : (x : Edition) (s : List ℕ) (p : ℕ) → bare-extern-end x (last-close s) s p ≡ bare-either x s p (first-from closes s p)
 unfolding bare-extern-end
-bare-extern-01 s p = go (decLt p (last-close s))
+bare-extern-01 x s p = go (decLt p (last-close s))
   where
-    go : Dec (p < last-close s) → bare-extern-end (last-close s) s p ≡ bare-either s p (first-from closes s p)
+    go : Dec (p < last-close s) → bare-extern-end x (last-close s) s p ≡ bare-either x s p (first-from closes s p)
     go (yes h) =
         let c = last-close-some s p h in
-        rw (lt-ltb p (last-close s) h, c .1) (extern-end-01 s p)
+        rw (lt-ltb p (last-close s) h, c .1) (extern-end-01 x s p)
     go (no h) =
         let l : last-close s ≤ p = omega arith in
         rw (le-ltb p (last-close s) l, last-close-none s p l)

@@ -4,6 +4,7 @@ use mathlib.Core.List.{List, [], _∷_}
 use mathlib.Core.Bool.{Bool, true, false, not, cond, _&&_, _||_}
 use lib.Dec.{eqb, ltb}
 use lib.ListN.{length, getD, drop}
+use Rattle.numbers.specs.declared.Edition.{Edition}
 use Rattle.numbers.specs.Refusals.{unclosed, unreadable}
 use Rattle.numbers.specs.Signs.{closing-brace, closing-paren, line-feed, opening-brace, opening-paren, semicolon, space, tab}
 use Rattle.linker_script.specs.declared.Found.{Found}
@@ -42,19 +43,19 @@ name-in p (b ∷ l) = longer (named b) p (name-in (p + 1) l)
 abbrev pub name-end : List ℕ → ℕ → ℕ
 name-end s p = name-in p (drop p s)
 
--- ---- where a token ends that starts at the place p
+-- ---- where a token ends that starts at the place p, in an edition
 -- "at least one byte"; `n` says no where the end is missing
 abbrev pub end-at : ℕ → ℕ → Found → TokenEnd
 end-at p n (Here q) = cond (ltb p q) (To q) (Refused unreadable)
 end-at p n Nowhere = Refused n
 
 -- "the bytes up to the first `;`, at least one"
-unfoldable pub to-semicolon : List ℕ → ℕ → TokenEnd
-to-semicolon s p = end-at p unreadable (first-from (is semicolon) s p)
+unfoldable pub to-semicolon : Edition → List ℕ → ℕ → TokenEnd
+to-semicolon e s p = end-at p unreadable (first-from (is semicolon) s p)
 
 -- "goes instead to the first `}` (at least one byte)"; "an extern token to `}` with no `}` left" is refused 3
-unfoldable pub to-brace : List ℕ → ℕ → TokenEnd
-to-brace s p = end-at p unclosed (first-from (is closing-brace) s p)
+unfoldable pub to-brace : Edition → List ℕ → ℕ → TokenEnd
+to-brace e s p = end-at p unclosed (first-from (is closing-brace) s p)
 
 -- "when the remaining text has no `};`, or has one with no `;` before it"
 abbrev pub no-semicolon-before : Found → Found → Bool
@@ -62,12 +63,12 @@ no-semicolon-before (Here c) (Here q) = ltb c q
 no-semicolon-before (Here c) Nowhere = true
 no-semicolon-before Nowhere q = true
 
-abbrev pub brace-next : List ℕ → ℕ → Bool
-brace-next s p = no-semicolon-before (first-from closes s p) (first-from (is semicolon) s p)
+abbrev pub brace-next : Edition → List ℕ → ℕ → Bool
+brace-next e s p = no-semicolon-before (first-from closes s p) (first-from (is semicolon) s p)
 
 -- (what `next` asks instead, and why the two are the same, stands below)
-unfoldable pub to-either : List ℕ → ℕ → TokenEnd
-to-either s p = cond (brace-next s p) (to-brace s p) (to-semicolon s p)
+unfoldable pub to-either : Edition → List ℕ → ℕ → TokenEnd
+to-either e s p = cond (brace-next e s p) (to-brace e s p) (to-semicolon e s p)
 
 -- whether the first `;` from the place p on is that of a `};`, or there is none
 abbrev pub brace-before : List ℕ → ℕ → Found → Bool
@@ -76,25 +77,25 @@ brace-before s p Nowhere = true
 
 -- the same as `to-either`, by `last`, behind which no `};` is left: asked once of the text, and not anew at each token. The two are the same where `last` is
 -- that of the text (proofs/Ends.antt)
-unfoldable pub extern-end : ℕ → List ℕ → ℕ → TokenEnd
-extern-end last s p =
-    cond (ltb p last) (cond (brace-before s p (first-from (is semicolon) s p)) (to-brace s p) (to-semicolon s p)) (to-brace s p)
+unfoldable pub extern-end : Edition → ℕ → List ℕ → ℕ → TokenEnd
+extern-end e last s p =
+    cond (ltb p last) (cond (brace-before s p (first-from (is semicolon) s p)) (to-brace e s p) (to-semicolon e s p)) (to-brace e s p)
 
 -- "An extern block there differs in one point: with no `};` left, tokens go to `;`."
-unfoldable pub bare-extern-end : ℕ → List ℕ → ℕ → TokenEnd
-bare-extern-end last s p = cond (ltb p last) (extern-end last s p) (to-semicolon s p)
+unfoldable pub bare-extern-end : Edition → ℕ → List ℕ → ℕ → TokenEnd
+bare-extern-end e last s p = cond (ltb p last) (extern-end e last s p) (to-semicolon e s p)
 
 -- "a bare token goes to the first `}` (at least one byte); where there is none it is all the text, empty too"
-unfoldable pub bare-end : List ℕ → TokenEnd
-bare-end s = end-bare (first-from (is closing-brace) s 0)
+unfoldable pub bare-end : Edition → List ℕ → TokenEnd
+bare-end e s = end-bare (first-from (is closing-brace) s 0)
   where
     end-bare : Found → TokenEnd
     end-bare (Here q) = end-at 0 unreadable (Here q)
     end-bare Nowhere = To (length s)
 
 -- "and the skip after it starts at the text's first byte": else it starts at the token's end
-unfoldable pub bare-skip : List ℕ → ℕ
-bare-skip s = from (first-from (is closing-brace) s 0)
+unfoldable pub bare-skip : Edition → List ℕ → ℕ
+bare-skip e s = from (first-from (is closing-brace) s 0)
   where
     from : Found → ℕ
     from (Here q) = q

@@ -1,4 +1,5 @@
-// Words, names and the ends of tokens: the leaves of the reader. Definitions: specs/Tokens.antt, from document 01, 'Reading'.
+// Words, names and the ends of tokens, which are a matter of the edition: the leaves of the reader. Definitions: specs/Tokens.antt, from document 01,
+// 'Reading'.
 ghost use mathlib.Core.Path.{_≡_};
 ghost use Prim.Native.Nat.{_+_, _<_};
 ghost use Rattle.reading_tokens.specs.Tokens.{stands-at, name-end, to-semicolon, to-brace, extern-end, bare-extern-end, bare-end, bare-skip};
@@ -6,6 +7,7 @@ use crate::names::is_named;
 use linker_script::Found;
 use linker_script::byte_at;
 use linker_script::searching::find;
+use numbers::Edition;
 use numbers::UNCLOSED;
 use numbers::UNREADABLE;
 
@@ -51,8 +53,8 @@ pub fn parse_token(s: &[u8], at: usize) -> usize
 }
 
 // Up to the first `;`.
-pub fn to_semicolon(s: &[u8], at: usize) -> TokenEnd
-    ensures { λ r. ⌜ r ≡ to-semicolon (now (s .entry)) at ⌝ }
+pub fn to_semicolon(edition: Edition, s: &[u8], at: usize) -> TokenEnd
+    ensures { λ r. ⌜ r ≡ to-semicolon edition (now (s .entry)) at ⌝ }
 {
     match find(s, b';', at) {
         Found::Here(semicolon) => {
@@ -66,8 +68,8 @@ pub fn to_semicolon(s: &[u8], at: usize) -> TokenEnd
 }
 
 // Up to the first `}`.
-fn to_brace(s: &[u8], at: usize) -> TokenEnd
-    ensures { λ r. ⌜ r ≡ to-brace (now (s .entry)) at ⌝ }
+fn to_brace(edition: Edition, s: &[u8], at: usize) -> TokenEnd
+    ensures { λ r. ⌜ r ≡ to-brace edition (now (s .entry)) at ⌝ }
 {
     match find(s, b'}', at) {
         Found::Here(q) => {
@@ -81,39 +83,39 @@ fn to_brace(s: &[u8], at: usize) -> TokenEnd
 }
 
 // In an extern block: up to `}` where no `};` is left, or none with a `;` before it. `last` is the place from which on the text has no `};`.
-pub fn extern_end(last: usize, s: &[u8], at: usize) -> TokenEnd
-    ensures { λ r. ⌜ r ≡ extern-end last (now (s .entry)) at ⌝ }
+pub fn extern_end(edition: Edition, last: usize, s: &[u8], at: usize) -> TokenEnd
+    ensures { λ r. ⌜ r ≡ extern-end edition last (now (s .entry)) at ⌝ }
 {
     if last <= at {
-        return to_brace(s, at);
+        return to_brace(edition, s, at);
     }
     match find(s, b';', at) {
-        Found::Nowhere => to_brace(s, at),
+        Found::Nowhere => to_brace(edition, s, at),
         Found::Here(q) => {
             if q <= at {
-                return to_semicolon(s, at);
+                return to_semicolon(edition, s, at);
             }
             if byte_at(s, q - 1) == b'}' {
-                return to_brace(s, at);
+                return to_brace(edition, s, at);
             }
-            to_semicolon(s, at)
+            to_semicolon(edition, s, at)
         }
     }
 }
 
 // In an extern block of an `add_symbol` text without semicolon.
-pub fn bare_extern_end(last: usize, s: &[u8], at: usize) -> TokenEnd
-    ensures { λ r. ⌜ r ≡ bare-extern-end last (now (s .entry)) at ⌝ }
+pub fn bare_extern_end(edition: Edition, last: usize, s: &[u8], at: usize) -> TokenEnd
+    ensures { λ r. ⌜ r ≡ bare-extern-end edition last (now (s .entry)) at ⌝ }
 {
     if last <= at {
-        return to_semicolon(s, at);
+        return to_semicolon(edition, s, at);
     }
-    extern_end(last, s, at)
+    extern_end(edition, last, s, at)
 }
 
 // A whole `add_symbol` text without semicolon, as a token.
-pub fn bare_end(s: &[u8]) -> TokenEnd
-    ensures { λ r. ⌜ r ≡ bare-end (now (s .entry)) ⌝ }
+pub fn bare_end(edition: Edition, s: &[u8]) -> TokenEnd
+    ensures { λ r. ⌜ r ≡ bare-end edition (now (s .entry)) ⌝ }
 {
     match find(s, b'}', 0) {
         Found::Here(q) => {
@@ -127,8 +129,8 @@ pub fn bare_end(s: &[u8]) -> TokenEnd
 }
 
 // Where the skip behind that token starts.
-pub fn bare_skip(s: &[u8]) -> usize
-    ensures { λ r. ⌜ r ≡ bare-skip (now (s .entry)) ⌝ }
+pub fn bare_skip(edition: Edition, s: &[u8]) -> usize
+    ensures { λ r. ⌜ r ≡ bare-skip edition (now (s .entry)) ⌝ }
 {
     match find(s, b'}', 0) {
         Found::Here(q) => q,

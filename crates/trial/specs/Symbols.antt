@@ -5,6 +5,7 @@ use mathlib.Core.Bool.{Bool, cond}
 use mathlib.Core.Option.{Option, some, none}
 use lib.Dec.{eqb}
 use Rattle.linker_script.specs.Parts.{part}
+use Rattle.numbers.specs.Editions.{reld}
 use Rattle.numbers.specs.Limits.{over, token-limit}
 use Rattle.numbers.specs.Marks.{global}
 use Rattle.numbers.specs.Refusals.{no-book, too-long, wrong-kind}
@@ -52,5 +53,5 @@ unfoldable pub symbol-asked : Buffers → Option Book → List ℕ → Bool → 
 symbol-asked b none s bare = no no-book
 symbol-asked b (some w) s bare =
     cond (eqb (w .kind) export)
-    (cond (over token-limit s) (no too-long) (add-reading b s w (reading (symbol-place bare) s)))
+    (cond (over token-limit s) (no too-long) (add-reading b s w (reading reld (symbol-place bare) s)))
     (no wrong-kind)

@@ -9,6 +9,7 @@ use borrow.Author.Tests.{ne-eqb}
 use lib.Dec.{eqb}
 use lib.ListN.{length}
 use lib.Seq.{paste}
+use Rattle.numbers.specs.Editions.{reld}
 use Rattle.packing.specs.Padding.{zeros}
 use Rattle.reading_cursors.specs.declared.Cursor.{Cursor}
 use Rattle.reading_cursors.specs.declared.Event.{Event}
@@ -60,7 +61,7 @@ pub record Going (c : Counts) (place : ℕ) (s n m l q j l′ q′ j′ : List �
   pub layout : Layout k (five n m l′ q′ j′) book
   pub rooms : Rooms (five n m l′ q′ j′) (five n m l q j)
   pub grown : Grown (book-of c (five n m l q j)) book
-  pub whole : add-reading (five n m l q j) s (book-of c (five n m l q j)) (reading place s) ≡ add-reading (five n m l q j) s book (reading-from s x)
+  pub whole : add-reading (five n m l q j) s (book-of c (five n m l q j)) (reading reld place s) ≡ add-reading (five n m l q j) s book (reading-from s x)
 
 module _ (c : Counts) (place : ℕ) (s n m l q j : List ℕ) (pre : (laid c (five n m l q j) ≡ true) × (0 < c .nodes) × (c .kind ≡ export)) where
   abbrev lent : Buffers
@@ -70,16 +71,16 @@ module _ (c : Counts) (place : ℕ) (s n m l q j : List ℕ) (pre : (laid c (fiv
   held = book-of c (five n m l q j)
 
   abbrev change : Change
-  change = add-reading (five n m l q j) s (book-of c (five n m l q j)) (reading place s)
+  change = add-reading (five n m l q j) s (book-of c (five n m l q j)) (reading reld place s)
 
   layout-held : Layout c lent held
   layout-held = laid-packs c lent (pre .0)
 
-  pub going-starts : (x : Cursor) → x ≡ start place s → Going c place s n m l q j l q j x c
+  pub going-starts : (x : Cursor) → x ≡ start reld place s → Going c place s n m l q j l q j x c
   unfolding reading
   going-starts x z = record {
-    stands = rw z (start-stands place s);
-    marked = rw z (start-marked place s);
+    stands = rw z (start-stands reld place s);
+    marked = rw z (start-marked reld place s);
     book = held;
     layout = layout-held;
     rooms = record { nodes = refl; names = refl; lines = refl; pool = refl; journal = refl };

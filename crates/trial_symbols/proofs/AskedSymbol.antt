@@ -8,6 +8,7 @@ use native.Mathlib.Omega.{arith}
 use borrow.Author.Tests.{eq-eqb, le-ltb, lt-ltb, ne-eqb, not-false}
 use lib.Dec.{eqb}
 use lib.ListN.{length}
+use Rattle.numbers.specs.Editions.{reld}
 use Rattle.numbers.specs.Limits.{token-limit}
 use Rattle.numbers.specs.Refusals.{no-book, too-long, wrong-kind}
 use Rattle.lists.proofs.Tests.{both}
@@ -58,10 +59,10 @@ module _ (c : Counts) (n m l q j s : List ℕ) (bare : Bool) (x : Bool) (e : x �
       kind-held = eq-eqb (c .kind) export k
 
       pub symbol-added : length s ≤ token-limit → (place : ℕ) → place ≡ symbol-place bare → (r : Edited) (b : Buffers)
-          → Answers r (five n m l q j) b (add-reading (five n m l q j) s (book-of c (five n m l q j)) (reading place s))
+          → Answers r (five n m l q j) b (add-reading (five n m l q j) s (book-of c (five n m l q j)) (reading reld place s))
           → Answers r (five n m l q j) b asked
       unfolding symbol-asked
       symbol-added f place z r b t =
-          let o : asked ≡ add-reading (five n m l q j) s (book-of c (five n m l q j)) (reading place s)
+          let o : asked ≡ add-reading (five n m l q j) s (book-of c (five n m l q j)) (reading reld place s)
           = rw (book-held .viewed, kind-held, le-ltb token-limit (length s) f, z) in
           rw o t

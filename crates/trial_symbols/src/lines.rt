@@ -3,6 +3,7 @@
 ghost use mathlib.Core.Path.{_≡_};
 ghost use mathlib.Core.Bool.{true};
 ghost use Prim.Native.Nat.{_<_};
+ghost use Rattle.numbers.specs.Editions.{reld};
 ghost use Rattle.reading.specs.Events.{reading};
 ghost use Rattle.book.specs.Books.{export};
 ghost use Rattle.book.specs.Layout.{five};
@@ -12,6 +13,7 @@ ghost use Rattle.trial.specs.Symbols.{add-reading};
 use crate::clearing::take_back;
 use crate::events::add_event;
 use book::Counts;
+use numbers::RELD;
 use reading::scripts::next_event;
 use reading_cursors::Step;
 use reading_cursors::start_at;
@@ -31,9 +33,9 @@ pub fn add_lines(
     requires { ⌜ (laid c (five (now nodes) (now names) (now lines) (now pool) (now journal)) ≡ true) × (0 < c .nodes) × (c .kind ≡ export) ⌝ }
     ensures { λ r. ⌜ Answers r (five (now (nodes .entry)) (now (names .entry)) (now (lines .entry)) (now (pool .entry)) (now (journal .entry)))
         (five (now (nodes .entry)) (now (names .entry)) (now (lines .exit)) (now (pool .exit)) (now (journal .exit)))
-        (add-reading (five (now (nodes .entry)) (now (names .entry)) (now (lines .entry)) (now (pool .entry)) (now (journal .entry))) (now (s .entry)) (book-of c (five (now (nodes .entry)) (now (names .entry)) (now (lines .entry)) (now (pool .entry)) (now (journal .entry)))) (reading place (now (s .entry)))) ⌝ }
+        (add-reading (five (now (nodes .entry)) (now (names .entry)) (now (lines .entry)) (now (pool .entry)) (now (journal .entry))) (now (s .entry)) (book-of c (five (now (nodes .entry)) (now (names .entry)) (now (lines .entry)) (now (pool .entry)) (now (journal .entry)))) (reading reld place (now (s .entry)))) ⌝ }
 {
-    let mut at = start_at(place, s);
+    let mut at = start_at(RELD, place, s);
     let mut k = c;
     loop {
         match next_event(s, at) {

@@ -9,6 +9,7 @@ use denote.Ref.{now}
 use Rattle.linker_script.specs.Trim.{trim-end}
 use Rattle.uniqueness.specs.Unique.{Unique, Unique-as}
 use Rattle.uniqueness.proofs.Same.{_▹_, same}
+use Rattle.numbers.proofs.edition_by
 use Rattle.linker_script.proofs.byte_at
 use Rattle.linker_script.proofs.last_close
 use Rattle.linker_script.proofs.trimmed_length
@@ -30,6 +31,7 @@ use Rattle.reading_cursors.proofs.start_at
 use Rattle.reading_cursors.proofs.move_to
 use Rattle.reading_cursors.proofs.with_section
 use Rattle.reading_cursors.proofs.with_language
+use Rattle.reading_cursors.proofs.skip_at
 use Rattle.reading_matchers.proofs.in_extern
 use Rattle.reading_matchers.proofs.in_bare
 use Rattle.reading_matchers.proofs.parse_matcher
@@ -48,6 +50,10 @@ use Rattle.desk_commands.proofs.parts.number_at
 use Rattle.desk_commands.proofs.parts.tail
 use Rattle.desk_commands.proofs.parts.line_end
 use Rattle.desk_commands.proofs.command_of
+
+-- ---- numbers
+pub edition-by-unique : Unique edition_by.ended edition_by.Reads.Post
+edition-by-unique κs a x y v w p q = (same p q, refl)
 
 -- ---- linker_script
 pub byte-at-unique : Unique byte_at.ended byte_at.Reads.Post
@@ -122,6 +128,9 @@ with-section-unique κs a x y v w p q = (same p q, refl)
 
 pub with-language-unique : Unique with_language.ended with_language.Reads.Post
 with-language-unique κs a x y v w p q = (same p q, refl)
+
+pub skip-at-unique : Unique skip_at.ended skip_at.Reads.Post
+skip-at-unique κs a x y v w p q = (same p q, refl)
 
 -- ---- matchers
 pub in-extern-unique : Unique in_extern.ended in_extern.Reads.Post

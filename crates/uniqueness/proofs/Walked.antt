@@ -2,6 +2,7 @@
 -- written out here and shown to be what the clauses say. Assumes nothing.
 use mathlib.Core.Path.{_≡_, refl}
 use denote.Ref.{now}
+use Rattle.numbers.specs.Editions.{reld}
 use Rattle.reading_cursors.specs.Moves.{start}
 use Rattle.reading.specs.Scripts.{next as next-of}
 use Rattle.book.specs.Layout.{five}
@@ -45,7 +46,7 @@ pub moved-unique : Unique moved.ended Moved
 moved-unique κs a x y v w p q = (λ i. record { text = same (p .0) (q .0) i; cursor = same (p .1) (q .1) i }, refl)
 
 abbrev First : Promise first.ended
-First κs a r e = r ≡ next-of (now (a .1 .0)) (start (a .0) (now (a .1 .0)))
+First κs a r e = r ≡ next-of (now (a .1 .0)) (start reld (a .0) (now (a .1 .0)))
 
 pub first-says : Says first.ended (λ w. first.clauses (w .𝓤) (w .H) (w .𝓖 .A) (w .𝓜 .mem) (w .𝓡 .run)) First
 first-says w κs a g x e = refl

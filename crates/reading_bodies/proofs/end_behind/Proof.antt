@@ -4,8 +4,8 @@ use Rattle.reading_bodies.proofs.Deciding.{ways}
 use Rattle.reading_bodies.proofs.end_behind.Statement.{statement}
 use Rattle.reading_bodies.proofs.end_behind.Tie as tie
 
-skip-comments-and-whitespace-requires : tie.Need-skip-comments-and-whitespace-requires
-skip-comments-and-whitespace-requires c κs = search needs
+skip-at-requires : tie.Need-skip-at-requires
+skip-at-requires c κs = search needs
 
 enum-known-o : tie.Need-enum-known-o
 enum-known-o c = search needs
@@ -26,7 +26,7 @@ pub end-behind-spec : {M : Type 1} → statement M
 end-behind-spec =
     tie.close
     (tie.spec
-    skip-comments-and-whitespace-requires
+    skip-at-requires
     enum-known-o
     enum-known-q
     returns

@@ -5,8 +5,8 @@ use Rattle.reading_bodies.proofs.Deciding.{parent-section, ways}
 use Rattle.reading_bodies.proofs.node_end.Statement.{statement}
 use Rattle.reading_bodies.proofs.node_end.Tie as tie
 
-skip-comments-and-whitespace-requires : tie.Need-skip-comments-and-whitespace-requires
-skip-comments-and-whitespace-requires c κs = search needs
+skip-at-requires : tie.Need-skip-at-requires
+skip-at-requires c κs = search needs
 
 enum-known-o : tie.Need-enum-known-o
 enum-known-o c = search needs
@@ -32,7 +32,7 @@ pub node-end-spec : {M : Type 1} → statement M
 node-end-spec =
     tie.close
     (tie.spec
-    skip-comments-and-whitespace-requires
+    skip-at-requires
     enum-known-o
     enum-known-q
     with-section-requires

@@ -6,8 +6,8 @@ use Rattle.reading_bodies.proofs.Deciding.{ways}
 use Rattle.reading_bodies.proofs.sole_end.Statement.{statement}
 use Rattle.reading_bodies.proofs.sole_end.Tie as tie
 
-skip-comments-and-whitespace-requires : tie.Need-skip-comments-and-whitespace-requires
-skip-comments-and-whitespace-requires c κs = search needs
+skip-at-requires : tie.Need-skip-at-requires
+skip-at-requires c κs = search needs
 
 enum-known-o : tie.Need-enum-known-o
 enum-known-o c = search needs
@@ -40,7 +40,7 @@ pub sole-end-spec : {M : Type 1} → statement M
 sole-end-spec =
     tie.close
     (tie.spec
-    skip-comments-and-whitespace-requires
+    skip-at-requires
     enum-known-o
     enum-known-q
     byte-at-requires

@@ -10,11 +10,14 @@ enum-known-end c = search needs
 enum-known-end-2 : tie.Need-enum-known-end-2
 enum-known-end-2 c = search needs
 
+edition-by-requires : tie.Need-edition-by-requires
+edition-by-requires c κs = search needs
+
 bare-skip-requires : tie.Need-bare-skip-requires
 bare-skip-requires c κs = search needs
 
-skip-comments-and-whitespace-requires : tie.Need-skip-comments-and-whitespace-requires
-skip-comments-and-whitespace-requires c κs = search needs
+skip-at-requires : tie.Need-skip-at-requires
+skip-at-requires c κs = search needs
 
 enum-known-o : tie.Need-enum-known-o
 enum-known-o c = search needs
@@ -46,8 +49,9 @@ bare-line-spec =
     (tie.spec
     enum-known-end
     enum-known-end-2
+    edition-by-requires
     bare-skip-requires
-    skip-comments-and-whitespace-requires
+    skip-at-requires
     enum-known-o
     enum-told
     line-of-requires

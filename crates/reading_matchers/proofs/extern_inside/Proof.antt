@@ -12,11 +12,11 @@ slice-aggregate-try-take c = search needs
 try-take-requires : tie.Need-try-take-requires
 try-take-requires c κs = search needs
 
-add-skip-comments-and-whitespace : tie.Need-add-skip-comments-and-whitespace
-add-skip-comments-and-whitespace c = search (needs, word-fits)
+add-skip-at : tie.Need-add-skip-at
+add-skip-at c = search (needs, word-fits)
 
-skip-comments-and-whitespace-requires : tie.Need-skip-comments-and-whitespace-requires
-skip-comments-and-whitespace-requires c κs = search needs
+skip-at-requires : tie.Need-skip-at-requires
+skip-at-requires c κs = search needs
 
 enum-known-o : tie.Need-enum-known-o
 enum-known-o c = search needs
@@ -61,8 +61,8 @@ extern-inside-spec =
     (tie.spec
     slice-aggregate-try-take
     try-take-requires
-    add-skip-comments-and-whitespace
-    skip-comments-and-whitespace-requires
+    add-skip-at
+    skip-at-requires
     enum-known-o
     enum-known-r
     with-language-requires

@@ -6,8 +6,8 @@ use Rattle.reading_matchers.proofs.Stepping.{byte-fits, steps}
 use Rattle.reading_matchers.proofs.extern_open.Statement.{statement}
 use Rattle.reading_matchers.proofs.extern_open.Tie as tie
 
-skip-comments-and-whitespace-requires : tie.Need-skip-comments-and-whitespace-requires
-skip-comments-and-whitespace-requires c κs = search needs
+skip-at-requires : tie.Need-skip-at-requires
+skip-at-requires c κs = search needs
 
 enum-known-o : tie.Need-enum-known-o
 enum-known-o c = search needs
@@ -43,7 +43,7 @@ pub extern-open-spec : {M : Type 1} → statement M
 extern-open-spec =
     tie.close
     (tie.spec
-    skip-comments-and-whitespace-requires
+    skip-at-requires
     enum-known-o
     enum-known-r
     byte-at-requires

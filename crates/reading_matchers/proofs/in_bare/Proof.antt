@@ -1,19 +1,22 @@
 -- `in_bare` meets its contract. Assumes nothing.
 use borrow.Author.Needs.{needs}
 use Rattle.reading_matchers.specs.Matchers.{in-bare}
-use Rattle.reading_matchers.proofs.Exits.{inside-with}
+use Rattle.reading_matchers.proofs.Exits.{inside-bare-with}
 use Rattle.reading_matchers.proofs.Stepping.{steps}
 use Rattle.reading_matchers.proofs.in_bare.Statement.{statement}
 use Rattle.reading_matchers.proofs.in_bare.Tie as tie
 
-skip-comments-and-whitespace-requires : tie.Need-skip-comments-and-whitespace-requires
-skip-comments-and-whitespace-requires c κs = search needs
+skip-at-requires : tie.Need-skip-at-requires
+skip-at-requires c κs = search needs
 
 enum-known-o : tie.Need-enum-known-o
 enum-known-o c = search needs
 
 enum-known-p : tie.Need-enum-known-p
 enum-known-p c = search needs
+
+edition-by-requires : tie.Need-edition-by-requires
+edition-by-requires c κs = search needs
 
 bare-extern-end-requires : tie.Need-bare-extern-end-requires
 bare-extern-end-requires c κs = search needs
@@ -27,15 +30,16 @@ returns c = search steps
 
 returns-2 : tie.Need-returns-2
 unfolding in-bare
-returns-2 c = search (steps, inside-with)
+returns-2 c = search (steps, inside-bare-with)
 
 pub in-bare-spec : {M : Type 1} → statement M
 in-bare-spec =
     tie.close
     (tie.spec
-    skip-comments-and-whitespace-requires
+    skip-at-requires
     enum-known-o
     enum-known-p
+    edition-by-requires
     bare-extern-end-requires
     extern-inside-requires
     returns

@@ -6,14 +6,17 @@ use Rattle.reading_matchers.proofs.Stepping.{steps}
 use Rattle.reading_matchers.proofs.in_extern.Statement.{statement}
 use Rattle.reading_matchers.proofs.in_extern.Tie as tie
 
-skip-comments-and-whitespace-requires : tie.Need-skip-comments-and-whitespace-requires
-skip-comments-and-whitespace-requires c κs = search needs
+skip-at-requires : tie.Need-skip-at-requires
+skip-at-requires c κs = search needs
 
 enum-known-o : tie.Need-enum-known-o
 enum-known-o c = search needs
 
 enum-known-p : tie.Need-enum-known-p
 enum-known-p c = search needs
+
+edition-by-requires : tie.Need-edition-by-requires
+edition-by-requires c κs = search needs
 
 extern-end-requires : tie.Need-extern-end-requires
 extern-end-requires c κs = search needs
@@ -33,9 +36,10 @@ pub in-extern-spec : {M : Type 1} → statement M
 in-extern-spec =
     tie.close
     (tie.spec
-    skip-comments-and-whitespace-requires
+    skip-at-requires
     enum-known-o
     enum-known-p
+    edition-by-requires
     extern-end-requires
     extern-inside-requires
     returns

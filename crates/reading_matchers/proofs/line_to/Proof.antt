@@ -10,8 +10,8 @@ enum-known-end c = search needs
 enum-known-end-2 : tie.Need-enum-known-end-2
 enum-known-end-2 c = search needs
 
-skip-comments-and-whitespace-requires : tie.Need-skip-comments-and-whitespace-requires
-skip-comments-and-whitespace-requires c κs = search needs
+skip-at-requires : tie.Need-skip-at-requires
+skip-at-requires c κs = search needs
 
 enum-known-o : tie.Need-enum-known-o
 enum-known-o c = search needs
@@ -43,7 +43,7 @@ line-to-spec =
     (tie.spec
     enum-known-end
     enum-known-end-2
-    skip-comments-and-whitespace-requires
+    skip-at-requires
     enum-known-o
     enum-known-r
     line-of-requires

@@ -19,6 +19,9 @@ returns : tie.Need-returns
 unfolding bare-matcher
 returns c = search steps
 
+edition-by-requires : tie.Need-edition-by-requires
+edition-by-requires c κs = search needs
+
 bare-end-requires : tie.Need-bare-end-requires
 bare-end-requires c κs = search needs
 
@@ -37,6 +40,7 @@ parse-bare-matcher-spec =
     try-take-requires
     extern-at-requires
     returns
+    edition-by-requires
     bare-end-requires
     bare-line-requires
     returns-2)

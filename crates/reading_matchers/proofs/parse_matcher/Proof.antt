@@ -19,6 +19,9 @@ returns : tie.Need-returns
 unfolding matcher
 returns c = search steps
 
+edition-by-requires : tie.Need-edition-by-requires
+edition-by-requires c κs = search needs
+
 to-semicolon-requires : tie.Need-to-semicolon-requires
 to-semicolon-requires c κs = search needs
 
@@ -37,6 +40,7 @@ parse-matcher-spec =
     try-take-requires
     extern-at-requires
     returns
+    edition-by-requires
     to-semicolon-requires
     line-to-requires
     returns-2)

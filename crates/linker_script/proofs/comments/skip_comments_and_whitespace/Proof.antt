@@ -9,10 +9,10 @@ use Rattle.linker_script.proofs.comments.skip_comments_and_whitespace.S
 use Rattle.linker_script.proofs.comments.skip_comments_and_whitespace.Tie as tie
 
 abbrev Inv-loop : tie.InvT-loop
-Inv-loop s at i₀ i = skip s at ≡ skip s i
+Inv-loop edition s at i₀ i = skip edition s at ≡ skip edition s i
 
 abbrev μ-loop : tie.MeasureT-loop
-μ-loop s at i₀ i = length s - i
+μ-loop edition s at i₀ i = length s - i
 
 loop-holds : tie.Need-loop-holds Inv-loop μ-loop
 loop-holds c = refl
@@ -62,11 +62,8 @@ is-pair-requires c κs = search needs
 returns-2 : tie.Need-returns-2 Inv-loop μ-loop
 returns-2 c = search stops
 
-add-find-pair : tie.Need-add-find-pair Inv-loop μ-loop
-add-find-pair c = search needs
-
-find-pair-requires : tie.Need-find-pair-requires Inv-loop μ-loop
-find-pair-requires c κs = search needs
+comment-end-requires : tie.Need-comment-end-requires Inv-loop μ-loop
+comment-end-requires c κs = search needs
 
 enum-known-q-2 : tie.Need-enum-known-q-2 Inv-loop μ-loop
 enum-known-q-2 c = search needs
@@ -84,7 +81,7 @@ enum-told-2 : tie.Need-enum-told-2 Inv-loop μ-loop
 enum-told-2 c = search needs
 
 returns-3 : tie.Need-returns-3 Inv-loop μ-loop
-returns-3 c = search comment-opens
+returns-3 c = search (comment-opens _ _ _ _ (c .before .before .before .before .before .before .before .before .before .before .loop .inv))
 
 returns-4 : tie.Need-returns-4 Inv-loop μ-loop
 returns-4 c = search skip-ends
@@ -111,8 +108,7 @@ skip-comments-and-whitespace-spec =
     returns
     is-pair-requires
     returns-2
-    add-find-pair
-    find-pair-requires
+    comment-end-requires
     enum-known-q-2
     add-i-3
     loop-less-3

@@ -5,8 +5,8 @@ use Rattle.reading.specs.Scripts.{go-body}
 use Rattle.reading.proofs.scripts.go_body.Statement.{statement}
 use Rattle.reading.proofs.scripts.go_body.Tie as tie
 
-skip-comments-and-whitespace-requires : tie.Need-skip-comments-and-whitespace-requires
-skip-comments-and-whitespace-requires c κs = search needs
+skip-at-requires : tie.Need-skip-at-requires
+skip-at-requires c κs = search needs
 
 enum-known-o : tie.Need-enum-known-o
 enum-known-o c = search needs
@@ -29,7 +29,7 @@ pub go-body-spec : {M : Type 1} → statement M
 go-body-spec =
     tie.close
     (tie.spec
-    skip-comments-and-whitespace-requires
+    skip-at-requires
     enum-known-o
     enum-known-p
     body-at-requires

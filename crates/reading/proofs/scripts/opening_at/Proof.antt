@@ -6,8 +6,8 @@ use Rattle.reading.specs.Scripts.{opening-at}
 use Rattle.reading.proofs.scripts.opening_at.Statement.{statement}
 use Rattle.reading.proofs.scripts.opening_at.Tie as tie
 
-skip-comments-and-whitespace-requires : tie.Need-skip-comments-and-whitespace-requires
-skip-comments-and-whitespace-requires c κs = search needs
+skip-at-requires : tie.Need-skip-at-requires
+skip-at-requires c κs = search needs
 
 enum-known-o : tie.Need-enum-known-o
 enum-known-o c = search needs
@@ -40,7 +40,7 @@ pub opening-at-spec : {M : Type 1} → statement M
 opening-at-spec =
     tie.close
     (tie.spec
-    skip-comments-and-whitespace-requires
+    skip-at-requires
     enum-known-o
     enum-known-p
     byte-at-requires

@@ -9,8 +9,8 @@ returns : tie.Need-returns
 unfolding start-script
 returns c = search ways
 
-skip-comments-and-whitespace-requires : tie.Need-skip-comments-and-whitespace-requires
-skip-comments-and-whitespace-requires c κs = search needs
+skip-at-requires : tie.Need-skip-at-requires
+skip-at-requires c κs = search needs
 
 enum-known-o : tie.Need-enum-known-o
 enum-known-o c = search needs
@@ -34,7 +34,7 @@ start-script-spec =
     tie.close
     (tie.spec
     returns
-    skip-comments-and-whitespace-requires
+    skip-at-requires
     enum-known-o
     enum-known-p
     script-at-requires
