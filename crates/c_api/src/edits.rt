@@ -18,7 +18,8 @@ pub extern "C" fn tuno_add(
     language: u32,
     token: &[u8],
 ) -> u32
-    ensures { λ r. ⌜ Edits (now (counts .entry)) (five (now (nodes .entry)) (now (names .entry)) (now (lines .entry)) (now (pool .entry)) (now (journal .entry)))
+    ensures { λ r. ⌜ Edits (now (counts .entry))
+        (five (now (nodes .entry)) (now (names .entry)) (now (lines .entry)) (now (pool .entry)) (now (journal .entry)))
         (λ b w. add-asked b w node section language (now (token .entry)))
         r (now (counts .exit)) (five (now (nodes .entry)) (now (names .entry)) (now (lines .exit)) (now (pool .exit)) (now (journal .exit))) ⌝ }
 {
@@ -47,7 +48,8 @@ pub extern "C" fn tuno_strike(
     journal: &mut [u32],
     line: u32,
 ) -> u32
-    ensures { λ r. ⌜ Edits (now (counts .entry)) (five (now (nodes .entry)) (now (names .entry)) (now (lines .entry)) (now (pool .entry)) (now (journal .entry)))
+    ensures { λ r. ⌜ Edits (now (counts .entry))
+        (five (now (nodes .entry)) (now (names .entry)) (now (lines .entry)) (now (pool .entry)) (now (journal .entry)))
         (λ b w. strike-asked b w line)
         r (now (counts .exit)) (five (now (nodes .entry)) (now (names .entry)) (now (lines .exit)) (now (pool .entry)) (now (journal .exit))) ⌝ }
 {
@@ -64,7 +66,8 @@ pub extern "C" fn tuno_undo(
     pool: &mut [u8],
     journal: &mut [u32],
 ) -> u32
-    ensures { λ r. ⌜ Edits (now (counts .entry)) (five (now (nodes .entry)) (now (names .entry)) (now (lines .entry)) (now (pool .entry)) (now (journal .entry)))
+    ensures { λ r. ⌜ Edits (now (counts .entry))
+        (five (now (nodes .entry)) (now (names .entry)) (now (lines .entry)) (now (pool .entry)) (now (journal .entry)))
         (λ b w. undo-asked w)
         r (now (counts .exit)) (five (now (nodes .entry)) (now (names .entry)) (now (lines .exit)) (now (pool .exit)) (now (journal .exit))) ⌝ }
 {
@@ -81,7 +84,8 @@ pub extern "C" fn tuno_settle(
     pool: &mut [u8],
     journal: &mut [u32],
 ) -> u32
-    ensures { λ r. ⌜ Edits (now (counts .entry)) (five (now (nodes .entry)) (now (names .entry)) (now (lines .entry)) (now (pool .entry)) (now (journal .entry)))
+    ensures { λ r. ⌜ Edits (now (counts .entry))
+        (five (now (nodes .entry)) (now (names .entry)) (now (lines .entry)) (now (pool .entry)) (now (journal .entry)))
         (λ b w. settle-asked w)
         r (now (counts .exit)) (five (now (nodes .entry)) (now (names .entry)) (now (lines .exit)) (now (pool .exit)) (now (journal .exit))) ⌝ }
 {
@@ -100,7 +104,8 @@ pub extern "C" fn tuno_add_symbol(
     text: &[u8],
     without_semicolon: u32,
 ) -> u32
-    ensures { λ r. ⌜ Edits (now (counts .entry)) (five (now (nodes .entry)) (now (names .entry)) (now (lines .entry)) (now (pool .entry)) (now (journal .entry)))
+    ensures { λ r. ⌜ Edits (now (counts .entry))
+        (five (now (nodes .entry)) (now (names .entry)) (now (lines .entry)) (now (pool .entry)) (now (journal .entry)))
         (λ b w. symbol-asked b w (now (text .entry)) (flag «without_semicolon»))
         r (now (counts .exit)) (five (now (nodes .entry)) (now (names .entry)) (now (lines .exit)) (now (pool .exit)) (now (journal .exit))) ⌝ }
 {

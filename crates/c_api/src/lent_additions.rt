@@ -20,7 +20,8 @@ pub fn add(
     language: u32,
     token: &[u8],
 ) -> u32
-    ensures { λ r. ⌜ Edits (now (counts .entry)) (five (now (nodes .entry)) (now (names .entry)) (now (lines .entry)) (now (pool .entry)) (now (journal .entry)))
+    ensures { λ r. ⌜ Edits (now (counts .entry))
+        (five (now (nodes .entry)) (now (names .entry)) (now (lines .entry)) (now (pool .entry)) (now (journal .entry)))
         (λ b w. add-asked b w node section language (now (token .entry)))
         r (now (counts .exit)) (five (now (nodes .entry)) (now (names .entry)) (now (lines .exit)) (now (pool .exit)) (now (journal .exit))) ⌝ }
 {
@@ -51,7 +52,8 @@ pub fn add_symbol(
     text: &[u8],
     without_semicolon: u32,
 ) -> u32
-    ensures { λ r. ⌜ Edits (now (counts .entry)) (five (now (nodes .entry)) (now (names .entry)) (now (lines .entry)) (now (pool .entry)) (now (journal .entry)))
+    ensures { λ r. ⌜ Edits (now (counts .entry))
+        (five (now (nodes .entry)) (now (names .entry)) (now (lines .entry)) (now (pool .entry)) (now (journal .entry)))
         (λ b w. symbol-asked b w (now (text .entry)) (flag «without_semicolon»))
         r (now (counts .exit)) (five (now (nodes .entry)) (now (names .entry)) (now (lines .exit)) (now (pool .exit)) (now (journal .exit))) ⌝ }
 {

@@ -16,7 +16,8 @@ pub fn strike(
     journal: &mut [u32],
     line: u32,
 ) -> u32
-    ensures { λ r. ⌜ Edits (now (counts .entry)) (five (now (nodes .entry)) (now (names .entry)) (now (lines .entry)) (now (pool .entry)) (now (journal .entry)))
+    ensures { λ r. ⌜ Edits (now (counts .entry))
+        (five (now (nodes .entry)) (now (names .entry)) (now (lines .entry)) (now (pool .entry)) (now (journal .entry)))
         (λ b w. strike-asked b w line)
         r (now (counts .exit)) (five (now (nodes .entry)) (now (names .entry)) (now (lines .exit)) (now (pool .entry)) (now (journal .exit))) ⌝ }
 {
@@ -34,7 +35,8 @@ pub fn undo(
     pool: &mut [u8],
     journal: &mut [u32],
 ) -> u32
-    ensures { λ r. ⌜ Edits (now (counts .entry)) (five (now (nodes .entry)) (now (names .entry)) (now (lines .entry)) (now (pool .entry)) (now (journal .entry)))
+    ensures { λ r. ⌜ Edits (now (counts .entry))
+        (five (now (nodes .entry)) (now (names .entry)) (now (lines .entry)) (now (pool .entry)) (now (journal .entry)))
         (λ b w. undo-asked w)
         r (now (counts .exit)) (five (now (nodes .entry)) (now (names .entry)) (now (lines .exit)) (now (pool .exit)) (now (journal .exit))) ⌝ }
 {
@@ -52,7 +54,8 @@ pub fn settle(
     pool: &mut [u8],
     journal: &mut [u32],
 ) -> u32
-    ensures { λ r. ⌜ Edits (now (counts .entry)) (five (now (nodes .entry)) (now (names .entry)) (now (lines .entry)) (now (pool .entry)) (now (journal .entry)))
+    ensures { λ r. ⌜ Edits (now (counts .entry))
+        (five (now (nodes .entry)) (now (names .entry)) (now (lines .entry)) (now (pool .entry)) (now (journal .entry)))
         (λ b w. settle-asked w)
         r (now (counts .exit)) (five (now (nodes .entry)) (now (names .entry)) (now (lines .exit)) (now (pool .exit)) (now (journal .exit))) ⌝ }
 {

@@ -70,8 +70,10 @@ pub fn open_lent(
     pool: &mut [u8],
     journal: &mut [u32],
 ) -> u64
-    ensures { λ r. ⌜ Opens how (now (counts .entry)) (five (now (nodes .entry)) (now (names .entry)) (now (lines .entry)) (now (pool .entry)) (now (journal .entry))) (now (text .entry))
-        r (now (counts .exit)) (five (now (nodes .exit)) (now (names .exit)) (now (lines .exit)) (now (pool .exit)) (now (journal .exit))) ⌝ }
+    ensures { λ r. ⌜ Opens how (now (counts .entry))
+        (five (now (nodes .entry)) (now (names .entry)) (now (lines .entry)) (now (pool .entry)) (now (journal .entry)))
+        (now (text .entry)) r (now (counts .exit))
+        (five (now (nodes .exit)) (now (names .exit)) (now (lines .exit)) (now (pool .exit)) (now (journal .exit))) ⌝ }
 {
     if counts.len() != COUNTS {
         clear_all(counts, nodes, names, lines, pool, journal);

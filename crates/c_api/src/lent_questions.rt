@@ -65,7 +65,9 @@ pub fn version_count(
     journal: &[u32],
     out: &mut [u32],
 ) -> u32
-    ensures { λ r. ⌜ Replies count-refusal count-value (counted version-count (lent (now (counts .entry)) (five (now (nodes .entry)) (now (names .entry)) (now (lines .entry)) (now (pool .entry)) (now (journal .entry)))))
+    ensures { λ r. ⌜ Replies count-refusal count-value
+        (counted version-count (lent (now (counts .entry))
+        (five (now (nodes .entry)) (now (names .entry)) (now (lines .entry)) (now (pool .entry)) (now (journal .entry)))))
         (now (out .entry)) r (now (out .exit)) ⌝ }
 {
     let r = counting::version_count(counts_of(counts), nodes, names, lines, pool, journal);
@@ -81,7 +83,9 @@ pub fn parent_count(
     journal: &[u32],
     out: &mut [u32],
 ) -> u32
-    ensures { λ r. ⌜ Replies count-refusal count-value (counted parent-count (lent (now (counts .entry)) (five (now (nodes .entry)) (now (names .entry)) (now (lines .entry)) (now (pool .entry)) (now (journal .entry)))))
+    ensures { λ r. ⌜ Replies count-refusal count-value
+        (counted parent-count (lent (now (counts .entry))
+        (five (now (nodes .entry)) (now (names .entry)) (now (lines .entry)) (now (pool .entry)) (now (journal .entry)))))
         (now (out .entry)) r (now (out .exit)) ⌝ }
 {
     let r = counting::parent_count(counts_of(counts), nodes, names, lines, pool, journal);
@@ -102,7 +106,9 @@ pub fn version_for_symbol(
     wanted: &[u8],
     out: &mut [u32],
 ) -> u32
-    ensures { λ r. ⌜ Replies version-refusal version-value (version-asked (lent (now (counts .entry)) (five (now (nodes .entry)) (now (names .entry)) (now (lines .entry)) (now (pool .entry)) (now (journal .entry))))
+    ensures { λ r. ⌜ Replies version-refusal version-value
+        (version-asked (lent (now (counts .entry))
+        (five (now (nodes .entry)) (now (names .entry)) (now (lines .entry)) (now (pool .entry)) (now (journal .entry))))
         (name-of (now (raw .entry)) (now (demangled .entry))) (wanted-of (flag «has_wanted») (now (wanted .entry))))
         (now (out .entry)) r (now (out .exit)) ⌝ }
 {
@@ -133,7 +139,10 @@ pub fn locality(
     demangled: &[u8],
     out: &mut [u32],
 ) -> u32
-    ensures { λ r. ⌜ Replies locality-refusal locality-value (locality-asked (lent (now (counts .entry)) (five (now (nodes .entry)) (now (names .entry)) (now (lines .entry)) (now (pool .entry)) (now (journal .entry)))) (name-of (now (raw .entry)) (now (demangled .entry))))
+    ensures { λ r. ⌜ Replies locality-refusal locality-value
+        (locality-asked (lent (now (counts .entry))
+        (five (now (nodes .entry)) (now (names .entry)) (now (lines .entry)) (now (pool .entry)) (now (journal .entry))))
+        (name-of (now (raw .entry)) (now (demangled .entry))))
         (now (out .entry)) r (now (out .exit)) ⌝ }
 {
     let r = lookups::locality_lookup::locality(
@@ -160,7 +169,10 @@ pub fn contains(
     demangled: &[u8],
     out: &mut [u32],
 ) -> u32
-    ensures { λ r. ⌜ Replies membership-refusal membership-value (contains-asked (lent (now (counts .entry)) (five (now (nodes .entry)) (now (names .entry)) (now (lines .entry)) (now (pool .entry)) (now (journal .entry)))) (name-of (now (raw .entry)) (now (demangled .entry))))
+    ensures { λ r. ⌜ Replies membership-refusal membership-value
+        (contains-asked (lent (now (counts .entry))
+        (five (now (nodes .entry)) (now (names .entry)) (now (lines .entry)) (now (pool .entry)) (now (journal .entry))))
+        (name-of (now (raw .entry)) (now (demangled .entry))))
         (now (out .entry)) r (now (out .exit)) ⌝ }
 {
     let r = export_list::lookups::contains(

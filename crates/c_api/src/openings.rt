@@ -14,8 +14,10 @@ pub extern "C" fn tuno_open_version_script(
     pool: &mut [u8],
     journal: &mut [u32],
 ) -> u64
-    ensures { λ r. ⌜ Opens as-script (now (counts .entry)) (five (now (nodes .entry)) (now (names .entry)) (now (lines .entry)) (now (pool .entry)) (now (journal .entry))) (now (text .entry))
-        r (now (counts .exit)) (five (now (nodes .exit)) (now (names .exit)) (now (lines .exit)) (now (pool .exit)) (now (journal .exit))) ⌝ }
+    ensures { λ r. ⌜ Opens as-script (now (counts .entry))
+        (five (now (nodes .entry)) (now (names .entry)) (now (lines .entry)) (now (pool .entry)) (now (journal .entry)))
+        (now (text .entry)) r (now (counts .exit))
+        (five (now (nodes .exit)) (now (names .exit)) (now (lines .exit)) (now (pool .exit)) (now (journal .exit))) ⌝ }
 {
     crate::lent_openings::open_lent(
         How::SCRIPT,
@@ -39,8 +41,10 @@ pub extern "C" fn tuno_open_export_list(
     pool: &mut [u8],
     journal: &mut [u32],
 ) -> u64
-    ensures { λ r. ⌜ Opens as-list (now (counts .entry)) (five (now (nodes .entry)) (now (names .entry)) (now (lines .entry)) (now (pool .entry)) (now (journal .entry))) (now (text .entry))
-        r (now (counts .exit)) (five (now (nodes .exit)) (now (names .exit)) (now (lines .exit)) (now (pool .exit)) (now (journal .exit))) ⌝ }
+    ensures { λ r. ⌜ Opens as-list (now (counts .entry))
+        (five (now (nodes .entry)) (now (names .entry)) (now (lines .entry)) (now (pool .entry)) (now (journal .entry)))
+        (now (text .entry)) r (now (counts .exit))
+        (five (now (nodes .exit)) (now (names .exit)) (now (lines .exit)) (now (pool .exit)) (now (journal .exit))) ⌝ }
 {
     crate::lent_openings::open_lent(How::LIST, text, counts, nodes, names, lines, pool, journal)
 }

@@ -16,7 +16,9 @@ pub extern "C" fn tuno_version_count(
     journal: &[u32],
     out: &mut [u32],
 ) -> u32
-    ensures { λ r. ⌜ Replies count-refusal count-value (counted version-count (lent (now (counts .entry)) (five (now (nodes .entry)) (now (names .entry)) (now (lines .entry)) (now (pool .entry)) (now (journal .entry)))))
+    ensures { λ r. ⌜ Replies count-refusal count-value
+        (counted version-count (lent (now (counts .entry))
+        (five (now (nodes .entry)) (now (names .entry)) (now (lines .entry)) (now (pool .entry)) (now (journal .entry)))))
         (now (out .entry)) r (now (out .exit)) ⌝ }
 {
     crate::lent_questions::version_count(counts, nodes, names, lines, pool, journal, out)
@@ -32,7 +34,9 @@ pub extern "C" fn tuno_parent_count(
     journal: &[u32],
     out: &mut [u32],
 ) -> u32
-    ensures { λ r. ⌜ Replies count-refusal count-value (counted parent-count (lent (now (counts .entry)) (five (now (nodes .entry)) (now (names .entry)) (now (lines .entry)) (now (pool .entry)) (now (journal .entry)))))
+    ensures { λ r. ⌜ Replies count-refusal count-value
+        (counted parent-count (lent (now (counts .entry))
+        (five (now (nodes .entry)) (now (names .entry)) (now (lines .entry)) (now (pool .entry)) (now (journal .entry)))))
         (now (out .entry)) r (now (out .exit)) ⌝ }
 {
     crate::lent_questions::parent_count(counts, nodes, names, lines, pool, journal, out)
@@ -53,7 +57,9 @@ pub extern "C" fn tuno_version_for_symbol(
     wanted: &[u8],
     out: &mut [u32],
 ) -> u32
-    ensures { λ r. ⌜ Replies version-refusal version-value (version-asked (lent (now (counts .entry)) (five (now (nodes .entry)) (now (names .entry)) (now (lines .entry)) (now (pool .entry)) (now (journal .entry))))
+    ensures { λ r. ⌜ Replies version-refusal version-value
+        (version-asked (lent (now (counts .entry))
+        (five (now (nodes .entry)) (now (names .entry)) (now (lines .entry)) (now (pool .entry)) (now (journal .entry))))
         (name-of (now (raw .entry)) (now (demangled .entry))) (wanted-of (flag «has_wanted») (now (wanted .entry))))
         (now (out .entry)) r (now (out .exit)) ⌝ }
 {
@@ -85,7 +91,10 @@ pub extern "C" fn tuno_locality(
     demangled: &[u8],
     out: &mut [u32],
 ) -> u32
-    ensures { λ r. ⌜ Replies locality-refusal locality-value (locality-asked (lent (now (counts .entry)) (five (now (nodes .entry)) (now (names .entry)) (now (lines .entry)) (now (pool .entry)) (now (journal .entry)))) (name-of (now (raw .entry)) (now (demangled .entry))))
+    ensures { λ r. ⌜ Replies locality-refusal locality-value
+        (locality-asked (lent (now (counts .entry))
+        (five (now (nodes .entry)) (now (names .entry)) (now (lines .entry)) (now (pool .entry)) (now (journal .entry))))
+        (name-of (now (raw .entry)) (now (demangled .entry))))
         (now (out .entry)) r (now (out .exit)) ⌝ }
 {
     crate::lent_questions::locality(
@@ -114,7 +123,10 @@ pub extern "C" fn tuno_contains(
     demangled: &[u8],
     out: &mut [u32],
 ) -> u32
-    ensures { λ r. ⌜ Replies membership-refusal membership-value (contains-asked (lent (now (counts .entry)) (five (now (nodes .entry)) (now (names .entry)) (now (lines .entry)) (now (pool .entry)) (now (journal .entry)))) (name-of (now (raw .entry)) (now (demangled .entry))))
+    ensures { λ r. ⌜ Replies membership-refusal membership-value
+        (contains-asked (lent (now (counts .entry))
+        (five (now (nodes .entry)) (now (names .entry)) (now (lines .entry)) (now (pool .entry)) (now (journal .entry))))
+        (name-of (now (raw .entry)) (now (demangled .entry))))
         (now (out .entry)) r (now (out .exit)) ⌝ }
 {
     crate::lent_questions::contains(

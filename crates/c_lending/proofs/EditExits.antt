@@ -39,31 +39,33 @@ module _ (l : List ℕ) (b : Buffers) (c : Counts) (e : c ≡ lent-counts l) (a 
           let q : lent l b ≡ none = rw h in
           rw (q, none-asked) (rw (q, none-asked) at k)
 
-  told : (ask : Buffers → Option Book → Change) → ask b none ≡ no no-book → Answers a b b′ (ask b (view c b)) → Finishes l a r l′ → Edits l b ask r l′ b′
+  told : (ask : Buffers → Option Book → Change) → ask b none ≡ no no-book → Answers c b ask a b′ → Finishes l a r l′ → Edits l b ask r l′ b′
   unfolding Edits
   told ask none-asked y z =
       let q : view c b ≡ lent l b = lent-viewed l b c e in
       let x : a ≡ edited (ask b (lent l b)) = y .0 ∙ ap (λ w. edited (ask b w)) q in
       (z .0 ∙ ap edit-refusal x, counted ask none-asked (z .1 ∙ ap (counts-told l) x), y .1 ∙ ap (λ w. after b (ask b w)) q)
 
-  pub add-told : (node section language : ℕ) (t : List ℕ) → Answers a b b′ (add-asked b (view c b) node section language t) → Finishes l a r l′
-      → Edits l b (λ b w. add-asked b w node section language t) r l′ b′
+  -- of each edit
+  abbrev Tells : (Buffers → Option Book → Change) → Type 0
+  Tells ask = Answers c b ask a b′ → Finishes l a r l′ → Edits l b ask r l′ b′
+
+  pub add-told : (node section language : ℕ) (t : List ℕ) → Tells (λ b w. add-asked b w node section language t)
   unfolding add-asked
   add-told node section language t = told (λ b w. add-asked b w node section language t) refl
 
-  pub strike-told : (i : ℕ) → Answers a b b′ (strike-asked b (view c b) i) → Finishes l a r l′ → Edits l b (λ b w. strike-asked b w i) r l′ b′
+  pub strike-told : (i : ℕ) → Tells (λ b w. strike-asked b w i)
   unfolding strike-asked
   strike-told i = told (λ b w. strike-asked b w i) refl
 
-  pub undo-told : Answers a b b′ (undo-asked (view c b)) → Finishes l a r l′ → Edits l b (λ b w. undo-asked w) r l′ b′
+  pub undo-told : Tells (λ b w. undo-asked w)
   unfolding undo-asked
   undo-told = told (λ b w. undo-asked w) refl
 
-  pub settle-told : Answers a b b′ (settle-asked (view c b)) → Finishes l a r l′ → Edits l b (λ b w. settle-asked w) r l′ b′
+  pub settle-told : Tells (λ b w. settle-asked w)
   unfolding settle-asked
   settle-told = told (λ b w. settle-asked w) refl
 
-  pub symbol-told : (s : List ℕ) (bare : Bool) → Answers a b b′ (symbol-asked b (view c b) s bare) → Finishes l a r l′
-      → Edits l b (λ b w. symbol-asked b w s bare) r l′ b′
+  pub symbol-told : (s : List ℕ) (bare : Bool) → Tells (λ b w. symbol-asked b w s bare)
   unfolding symbol-asked
   symbol-told s bare = told (λ b w. symbol-asked b w s bare) refl

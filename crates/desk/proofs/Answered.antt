@@ -8,7 +8,7 @@ use Rattle.book.specs.declared.Counts.{Counts}
 use Rattle.book.specs.Layout.{Buffers}
 use Rattle.trial.specs.declared.Edited.{Edited}
 use Rattle.trial.specs.declared.Edited.the-variants as answer
-use Rattle.trial.specs.Changes.{Answers, Change, counts-after, edited, no, to}
+use Rattle.trial.specs.Changes.{Change, Leaves, counts-after, edited, no, to}
 use Rattle.printing.proofs.Pieces.{Begins, begins-front}
 use Rattle.desk.specs.declared.answering.Ran.{Ran}
 use Rattle.desk.specs.Answers.{Finishes, Runs, edit-ran, editing, ran, ran-with}
@@ -23,7 +23,7 @@ module _ (c : Counts) (say : Edited → List ℕ) (a : Edited) (d l : List ℕ) 
 
 -- ---- an edit x that answers a and leaves b′, and what is told of the answer
 pub edit-runs : (c : Counts) (b b′ : Buffers) (say : Edited → List ℕ) (x : Change) (a : Edited) (d l : List ℕ) (r : Ran)
-    → Answers a b b′ x → Finishes c say a d l r → Runs (editing c b say x) d r l b′
+    → Leaves b x a b′ → Finishes c say a d l r → Runs (editing c b say x) d r l b′
 unfolding Runs edited counts-after
 edit-runs c b b′ say x a d l r y z = (rw (y .0) at (z .0) ∙ counted x, rw (y .0) at (z .1), y .1)
   where

@@ -35,9 +35,9 @@ fn make_edit(
     line: &[u8],
     e: Edit,
 ) -> Edited
-    ensures { λ r. ⌜ Answers r (five (now (nodes .entry)) (now (names .entry)) (now (lines .entry)) (now (pool .entry)) (now (journal .entry)))
-        (five (now (nodes .entry)) (now (names .entry)) (now (lines .exit)) (now (pool .exit)) (now (journal .exit)))
-        (edit-asked (five (now (nodes .entry)) (now (names .entry)) (now (lines .entry)) (now (pool .entry)) (now (journal .entry))) (view c (five (now (nodes .entry)) (now (names .entry)) (now (lines .entry)) (now (pool .entry)) (now (journal .entry)))) (now (line .entry)) e) ⌝ }
+    ensures { λ r. ⌜ Answers c (five (now (nodes .entry)) (now (names .entry)) (now (lines .entry)) (now (pool .entry)) (now (journal .entry)))
+        (λ b w. edit-asked b w (now (line .entry)) e)
+        r (five (now (nodes .entry)) (now (names .entry)) (now (lines .exit)) (now (pool .exit)) (now (journal .exit))) ⌝ }
 {
     match e {
         Edit::Add {

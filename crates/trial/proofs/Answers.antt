@@ -3,7 +3,7 @@
 use Prim.Native.Nat.{ℕ}
 use mathlib.Core.Path.{_≡_, refl, sym, ap, _∙_}
 use mathlib.Core.Bool.{Bool, true, false, not}
-use mathlib.Core.Option.{some}
+use mathlib.Core.Option.{Option, some}
 use native.Mathlib.Omega.{arith}
 use borrow.Author.Tests.{not-false}
 use Rattle.lists.proofs.Tests.{both}
@@ -17,13 +17,13 @@ use Rattle.book.proofs.Asking.{held-book}
 use Rattle.book.proofs.Views.{Layout, Rooms, laid-out-same, laid-packs, layout-buffers, layout-counts}
 use Rattle.trial.specs.declared.Edited.{Edited}
 use Rattle.trial.specs.declared.Edited.the-variants as answer
-use Rattle.trial.specs.Changes.{Change, Answers, after, counts-after, edit-refusal, edited, no, to}
+use Rattle.trial.specs.Changes.{Answers, Change, Leaves, Updates, after, counts-after, edit-refusal, edited, no, to}
 
-pub refusal-answers : (b : Buffers) (x : Change) (n : ℕ) → x ≡ no n → Answers (answer.Refused n) b b x
+pub refusal-answers : (b : Buffers) (x : Change) (n : ℕ) → x ≡ no n → Leaves b x (answer.Refused n) b
 unfolding edited after
 refusal-answers b x n e = (rw e, rw e)
 
-pub layout-answers : (c : Counts) (b b′ : Buffers) (w : Book) (x : Change) → x ≡ to w → Layout c b′ w → Rooms b′ b → Answers (answer.Done c) b b′ x
+pub layout-answers : (c : Counts) (b b′ : Buffers) (w : Book) (x : Change) → x ≡ to w → Layout c b′ w → Rooms b′ b → Leaves b x (answer.Done c) b′
 unfolding edited after
 layout-answers c b b′ w x e t r = (
   rw e (ap answer.Done (layout-counts c b′ w t)),
@@ -42,11 +42,12 @@ module _ (c : Counts) (b b′ : Buffers) (r : Edited) where
   refused-number (to w) n e = let z : _≡_ {A = ℕ} 0 1 = cc in absurd (omega arith)
   refused-number (no m) n e = (cc, refl)
 
-  pub done-left : (x : Change) → Answers r b b′ x → (d : Counts) → r ≡ answer.Done d → (0 ≡ edit-refusal (edited x)) × (d ≡ counts-after c x) × (b′ ≡ after b x)
-  done-left x a d e = let k = done-number x d (sym e ∙ a .0) in (k .0, k .1, a .1)
+  module _ (ask : Buffers → Option Book → Change) (a : Answers c b ask r b′) where
+    pub done-left : (d : Counts) → r ≡ answer.Done d → Updates c b ask 0 d b′
+    done-left d e = let k = done-number (ask b (view c b)) d (sym e ∙ a .0) in (k .0, k .1, a .1)
 
-  pub refused-left : (x : Change) → Answers r b b′ x → (n : ℕ) → r ≡ answer.Refused n → (n ≡ edit-refusal (edited x)) × (c ≡ counts-after c x) × (b′ ≡ after b x)
-  refused-left x a n e = let k = refused-number x n (sym e ∙ a .0) in (k .0, k .1, a .1)
+    pub refused-left : (n : ℕ) → r ≡ answer.Refused n → Updates c b ask n c b′
+    refused-left n e = let k = refused-number (ask b (view c b)) n (sym e ∙ a .0) in (k .0, k .1, a .1)
 
 -- the book that is held: it is viewed, it is laid out, and its journal fits
 pub record Shown (c : Counts) (b : Buffers) : Type 0 where

@@ -7,11 +7,10 @@ use mathlib.Core.Bool.{Bool, true, false, cond, _&&_}
 use native.Mathlib.Omega.{arith}
 use lib.Dec.{eqb}
 use lib.ListN.{length, length-append}
-use lib.Seq.{paste}
 use Rattle.linker_script.specs.Parts.{part}
 use Rattle.numbers.specs.Marks.{global}
 use Rattle.lists.proofs.Tests.{both}
-use Rattle.packing.specs.Padding.{pad, zeros}
+use Rattle.packing.specs.Padding.{pad}
 use Rattle.packing.specs.Tables.{Form, packed, rows}
 use Rattle.packing.proofs.PaddingLaws.{pad-unput}
 use Rattle.packing.proofs.TableLaws.{Laws, length-rows, packed-append, rows-append}
@@ -23,13 +22,14 @@ use Rattle.reading_cursors.specs.declared.Event.the-variants.{Node, Body, Secti
 use Rattle.book.specs.declared.Counts.{Counts}
 use Rattle.book.specs.Books.{Book, Edit, add, edition-of, new-line, rust}
 use Rattle.book.specs.Books as book
-use Rattle.book.specs.Layout.{Buffers, edit-form, edit-width, five, line-form, line-width}
+use Rattle.book.specs.Layout.{Buffers, edit-form, five, line-form}
 use Rattle.book.specs.View.{Fits}
 use Rattle.book.proofs.Forms.{edit-laws, line-laws}
 use Rattle.book.proofs.Views.{Layout, Rooms}
 use Rattle.book_rooms.specs.Rooms.{edit-room, line-room}
 use Rattle.book_building.specs.Events.{Lies}
 use Rattle.trial.specs.Changes.{Change, no, to}
+use Rattle.trial.specs.Clearing.{Clears, Reaches, emptied}
 use Rattle.trial.specs.Trial.{append, append-kept, with-line}
 use Rattle.trial.specs.Symbols.{add-event}
 use Rattle.trial.proofs.AddedLines.{added-ok, fits-line}
@@ -122,7 +122,7 @@ module _ {X : Type 0} {ok ok′ : X → Bool} (F : Form X) (W : Laws F ok) (n k 
   fewer-bytes = omega (arith, t .total, u .total, ap length packed-split, length-append (packed F xs) (packed F zs))
 
   pub rows-back : length l′ ≡ length l → (l″ : List ℕ)
-      → l″ ≡ paste l′ (F .width * n) (zeros (F .width * m - F .width * n)) (F .width * m - F .width * n) → l″ ≡ l
+      → l″ ≡ emptied l′ (F .width * n) (F .width * m) → l″ ≡ l
   rows-back h l″ z =
       let r = rows F (0 + length (packed F xs)) zs in
       let a : F .width * n ≡ length (rows F 0 xs) = ap (λ (i : ℕ). F .width * i) (t .count) ∙ sym (length-rows F W 0 xs) in
@@ -134,7 +134,7 @@ module _ {X : Type 0} {ok ok′ : X → Bool} (F : Form X) (W : Laws F ok) (n k 
       ∙ ap (λ (i : ℕ). pad i (rows F 0 xs)) h
       ∙ sym (t .lined)
 
-  pub bytes-back : length p′ ≡ length p → (p″ : List ℕ) → p″ ≡ paste p′ k (zeros (j - k)) (j - k) → p″ ≡ p
+  pub bytes-back : length p′ ≡ length p → (p″ : List ℕ) → p″ ≡ emptied p′ k j → p″ ≡ p
   bytes-back h p″ z =
       let d : j - k ≡ length (packed F zs) = omega (arith, t .total, u .total, ap length packed-split, length-append (packed F xs) (packed F zs)) in
       z
@@ -146,8 +146,7 @@ module _ {X : Type 0} {ok ok′ : X → Bool} (F : Form X) (W : Laws F ok) (n k 
 module _ (c k : Counts) (n m l q j l′ q′ j′ : List ℕ) (w v : Book) (t : Layout c (five n m l q j) w) (u : Layout k (five n m l′ q′ j′) v)
     (g : Grown w v) where
   -- there is as much as there was, and it lies within the buffers
-  pub back-asks : (c .lines ≤ k .lines) × (line-width * k .lines ≤ length l′) × (c .pool ≤ k .pool) × (k .pool ≤ length q′) × (c .edits ≤ k .edits)
-      × (edit-width * k .edits ≤ length j′)
+  pub back-asks : Reaches c k l′ q′ j′
   unfolding line-form edit-form
   back-asks =
       let a = fewer-rows line-form (line-laws (c .kind) (c .nodes)) (c .lines) (c .pool) (k .lines) (k .pool) l q l′ q′
@@ -158,17 +157,13 @@ module _ (c k : Counts) (n m l q j l′ q′ j′ : List ℕ) (w v : Book) (t : 
       (omega (arith, a), u .lines .rowroom, b, u .lines .byteroom, omega (arith, d), u .edits .rowroom)
 
   -- the zeros are put there: l″ q″ j″ are the buffers behind that
-  pub taken-back : Rooms (five n m l′ q′ j′) (five n m l q j) → (l″ q″ j″ : List ℕ)
-      → l″ ≡ paste l′ (line-width * c .lines) (zeros (line-width * k .lines - line-width * c .lines)) (line-width * k .lines - line-width * c .lines)
-      → q″ ≡ paste q′ (c .pool) (zeros (k .pool - c .pool)) (k .pool - c .pool)
-      → j″ ≡ paste j′ (edit-width * c .edits) (zeros (edit-width * k .edits - edit-width * c .edits)) (edit-width * k .edits - edit-width * c .edits)
-      → five n m l″ q″ j″ ≡ five n m l q j
+  pub taken-back : Rooms (five n m l′ q′ j′) (five n m l q j) → (l″ q″ j″ : List ℕ) → Clears c k l′ q′ j′ l″ q″ j″ → five n m l″ q″ j″ ≡ five n m l q j
   unfolding line-form edit-form
-  taken-back r l″ q″ j″ a b d =
+  taken-back r l″ q″ j″ a =
       let x = rows-back line-form (line-laws (c .kind) (c .nodes)) (c .lines) (c .pool) (k .lines) (k .pool) l q l′ q′
-      (w .lines) (v .lines) (g .more) (t .lines) (u .lines) (g .lines) (r .lines) l″ a in
+      (w .lines) (v .lines) (g .more) (t .lines) (u .lines) (g .lines) (r .lines) l″ (a .0) in
       let y = bytes-back line-form (line-laws (c .kind) (c .nodes)) (c .lines) (c .pool) (k .lines) (k .pool) l q l′ q′
-      (w .lines) (v .lines) (g .more) (t .lines) (u .lines) (g .lines) (r .pool) q″ b in
+      (w .lines) (v .lines) (g .more) (t .lines) (u .lines) (g .lines) (r .pool) q″ (a .1) in
       let z = rows-back edit-form edit-laws (c .edits) 0 (k .edits) 0 j [] j′ []
-      (w .edits) (v .edits) (g .done) (t .edits) (u .edits) (g .edits) (r .journal) j″ d in
+      (w .edits) (v .edits) (g .done) (t .edits) (u .edits) (g .edits) (r .journal) j″ (a .2) in
       λ i. five n m (x i) (y i) (z i)

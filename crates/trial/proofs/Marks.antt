@@ -10,7 +10,7 @@ use Rattle.packing.proofs.Packings.{row-cell}
 use Rattle.book.specs.declared.Counts.{Counts}
 use Rattle.book.specs.Books.{Book, no-line}
 use Rattle.book.specs.Edits.{line-at, stands}
-use Rattle.book.specs.Layout.{Buffers, code-of, line-form}
+use Rattle.book.specs.Layout.{Buffers, code-of, line-form, line-width, struck-mark}
 use Rattle.book.specs.Sanity.{line-ok}
 use Rattle.book.proofs.Forms.{Ranged, line-laws, ranged}
 use Rattle.book.proofs.LineRows.{line-in-range}
@@ -21,7 +21,7 @@ module _ (c : Counts) (b : Buffers) (w : Book) (t : Layout c b w) (i : ℕ) (h :
   pub line-within : i < length (w .lines)
   line-within = omega (arith, t .lines .count)
 
-  pub line-code : getD (b .lines) (4 * i + 1) 0 ≡ code-of (line-at (w .lines) i)
+  pub line-code : getD (b .lines) (line-width * i + 1) 0 ≡ code-of (line-at (w .lines) i)
   unfolding line-form
   line-code = row-cell line-form (line-laws (c .kind) (c .nodes)) (c .lines) (c .pool) (b .lines) (b .pool) (w .lines) (t .lines) i no-line line-within 1 (omega arith)
 
@@ -31,16 +31,16 @@ module _ (c : Counts) (b : Buffers) (w : Book) (t : Layout c b w) (i : ℕ) (h :
   pub line-ranged : Ranged (c .nodes) (line-at (w .lines) i)
   line-ranged = ranged (c .nodes) _ (line-in-range (c .kind) (c .nodes) _ line-right)
 
-  pub line-room : 4 * i + 4 ≤ length (b .lines)
+  pub line-room : line-width * i + line-width ≤ length (b .lines)
   unfolding line-form
   line-room = omega (arith, t .lines .rowroom)
 
   -- "32 is added to a struck line's code"
-  pub code-struck : 32 ≤ getD (b .lines) (4 * i + 1) 0 → stands (line-at (w .lines) i) ≡ false
+  pub code-struck : struck-mark ≤ getD (b .lines) (line-width * i + 1) 0 → stands (line-at (w .lines) i) ≡ false
   code-struck g =
       let r = line-ranged in
       let z : line-at (w .lines) i .struck ≡ 0 → ⊥ = λ s. omega (arith, line-code, r .class, r .section, r .language, s, g) in
       ne-eqb _ _ z
 
-  pub code-stands : getD (b .lines) (4 * i + 1) 0 < 32 → line-at (w .lines) i .struck ≡ 0
+  pub code-stands : getD (b .lines) (line-width * i + 1) 0 < struck-mark → line-at (w .lines) i .struck ≡ 0
   code-stands g = omega (arith, line-code, g)

@@ -1,3 +1,4 @@
 pub mod Changes
+pub mod Clearing
 pub mod Trial
 pub mod Symbols

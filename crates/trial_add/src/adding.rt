@@ -2,22 +2,23 @@
 ghost use mathlib.Core.Path.{_≡_};
 ghost use mathlib.Core.Bool.{true};
 ghost use Prim.Native.Nat.{_≤_, _<_};
+ghost use Rattle.numbers.specs.Marks.{cxx, local};
 ghost use Rattle.storing.specs.Keeping.{keep};
 ghost use Rattle.book.specs.Books.{edition-of};
 ghost use Rattle.book.specs.Layout.{five};
-ghost use Rattle.book.specs.View.{book-of, laid};
-ghost use Rattle.trial.specs.declared.Edited.the-variants as answer;
-ghost use Rattle.trial.specs.Changes.{Answers};
+ghost use Rattle.book.specs.View.{laid};
+ghost use Rattle.trial.specs.Changes.{Makes};
 ghost use Rattle.trial.specs.Trial.{append, unplaced};
 use book::Counts;
 use book::EDIT_WIDTH;
-use book::LINE_WIDTH;
+use book::codes::code_of;
+use book::counts_with;
 use book::editions::edition_of;
+use book::rows::put_line;
 use book_rooms::has_edit;
 use book_rooms::has_row;
 use book_rooms::put_token;
 use classes::class_number;
-use copying::put_four;
 use copying::put_two;
 use numbers::NO_ROOM;
 use storing::Stored;
@@ -49,10 +50,11 @@ pub fn append(
     language: u32,
     token: &[u8],
 ) -> Edited
-    requires { ⌜ (laid c (five (now nodes) (now names) (now lines) (now pool) (now journal)) ≡ true) × (node < c .nodes) × (section ≤ 1) × (language ≤ 1) ⌝ }
-    ensures { λ r. ⌜ Answers r (five (now (nodes .entry)) (now (names .entry)) (now (lines .entry)) (now (pool .entry)) (now (journal .entry)))
-        (five (now (nodes .entry)) (now (names .entry)) (now (lines .exit)) (now (pool .exit)) (now (journal .exit)))
-        (append (five (now (nodes .entry)) (now (names .entry)) (now (lines .entry)) (now (pool .entry)) (now (journal .entry))) (book-of c (five (now (nodes .entry)) (now (names .entry)) (now (lines .entry)) (now (pool .entry)) (now (journal .entry)))) node section language (now (token .entry))) ⌝ }
+    requires { ⌜ (laid c (five (now nodes) (now names) (now lines) (now pool) (now journal)) ≡ true)
+        × (node < c .nodes) × (section ≤ local) × (language ≤ cxx) ⌝ }
+    ensures { λ r. ⌜ Makes c (five (now (nodes .entry)) (now (names .entry)) (now (lines .entry)) (now (pool .entry)) (now (journal .entry)))
+        (λ b w. append b w node section language (now (token .entry)))
+        r (five (now (nodes .entry)) (now (names .entry)) (now (lines .exit)) (now (pool .exit)) (now (journal .exit))) ⌝ }
 {
     let n = c.lines as usize;
     let e = c.edits as usize;
@@ -65,17 +67,10 @@ pub fn append(
     match put_token(edition_of(c.kind), token, c.pool as usize, pool) {
         Stored::Refused(no) => Edited::Refused(no),
         Stored::As(class, size) => {
-            let code = class_number(class) * 4 + section * 2 + language;
-            put_four(lines, LINE_WIDTH * n, node, code, c.pool, size as u32);
+            let code = code_of(class_number(class), section, language);
+            put_line(lines, n, node, code, c.pool, size as u32);
             put_two(journal, EDIT_WIDTH * e, ADD, c.lines);
-            Edited::Done(Counts {
-                kind: c.kind,
-                nodes: c.nodes,
-                names: c.names,
-                lines: c.lines + 1,
-                pool: c.pool + (size as u32),
-                edits: c.edits + 1,
-            })
+            Edited::Done(counts_with(c, c.lines + 1, c.pool + (size as u32), c.edits + 1))
         }
     }
 }

@@ -2,7 +2,6 @@
 // 'The book'. It asks first whether the buffers hold a book (14); what it does then stands in `adding`.
 ghost use mathlib.Core.Path.{_≡_};
 ghost use Rattle.book.specs.Layout.{five};
-ghost use Rattle.book.specs.View.{view};
 ghost use Rattle.trial.specs.Changes.{Answers};
 ghost use Rattle.trial.specs.Trial.{add-asked, may-stand-in};
 use crate::adding::append;
@@ -11,6 +10,9 @@ use book::EXPORT;
 use book::RUST;
 use book_check::is_book;
 use linker_script::trim_ascii_end;
+use numbers::CXX;
+use numbers::GLOBAL;
+use numbers::LOCAL;
 use numbers::NO_BOOK;
 use numbers::NO_SUCH;
 use numbers::WRONG_KIND;
@@ -25,16 +27,16 @@ fn may_stand(kind: u32, nodes: u32, node: u32, section: u32, language: u32) -> b
     if nodes <= node {
         return false;
     }
-    if 1 < section {
+    if LOCAL < section {
         return false;
     }
-    if 1 < language {
+    if CXX < language {
         return false;
     }
     if kind != EXPORT {
         return true;
     }
-    if section != 0 {
+    if section != GLOBAL {
         return false;
     }
     node == 0
@@ -53,9 +55,9 @@ pub fn add(
     language: u32,
     token: &[u8],
 ) -> Edited
-    ensures { λ r. ⌜ Answers r (five (now (nodes .entry)) (now (names .entry)) (now (lines .entry)) (now (pool .entry)) (now (journal .entry)))
-        (five (now (nodes .entry)) (now (names .entry)) (now (lines .exit)) (now (pool .exit)) (now (journal .exit)))
-        (add-asked (five (now (nodes .entry)) (now (names .entry)) (now (lines .entry)) (now (pool .entry)) (now (journal .entry))) (view c (five (now (nodes .entry)) (now (names .entry)) (now (lines .entry)) (now (pool .entry)) (now (journal .entry)))) node section language (now (token .entry))) ⌝ }
+    ensures { λ r. ⌜ Answers c (five (now (nodes .entry)) (now (names .entry)) (now (lines .entry)) (now (pool .entry)) (now (journal .entry)))
+        (λ b w. add-asked b w node section language (now (token .entry)))
+        r (five (now (nodes .entry)) (now (names .entry)) (now (lines .exit)) (now (pool .exit)) (now (journal .exit))) ⌝ }
 {
     if !is_book(c, nodes, names, lines, pool, journal) {
         return Edited::Refused(NO_BOOK);

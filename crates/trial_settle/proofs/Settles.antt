@@ -13,10 +13,12 @@ use Rattle.packing.proofs.TableLaws.{length-rows}
 use Rattle.packing.proofs.Packings.{is-packs}
 use Rattle.book.specs.declared.Counts.{Counts}
 use Rattle.book.specs.Edits.{stands}
-use Rattle.book.specs.Layout.{Buffers, counts-of, edit-form, edit-width, five, laid-out, line-form, line-width}
+use Rattle.book.specs.Layout.{Buffers, counts-of, counts-with, edit-form, edit-width, five, laid-out, line-form, line-width}
 use Rattle.book.specs.View.{book-of, laid}
 use Rattle.book.proofs.Forms.{edit-laws, line-laws}
 use Rattle.book.proofs.Views.{laid-buffers, laid-counts, laid-packs}
+use Rattle.trial.specs.declared.Edited.the-variants as answer
+use Rattle.trial.specs.Changes.{Makes, after, edited, to}
 use Rattle.trial.specs.Trial.{settled}
 use Rattle.trial_settle.specs.Lines.{Packed, Settled}
 use Rattle.trial_settle.specs.declared.settling.Standing.{Standing}
@@ -48,11 +50,11 @@ module _ (c : Counts) (b : Buffers) (g : laid c b ≡ true) where
 
   -- none is struck, and nothing is changed
   pub settle-none : (x : Bool) → x ≡ every stands (things line-form (c .lines) (b .lines) (b .pool)) → x ≡ true
-      → (c ≡ counts-of (settled (book-of c b))) × (b ≡ laid-out b (settled (book-of c b)))
-  unfolding settled book-of
+      → Makes c b (λ b w. to (settled w)) (answer.Done c) b
+  unfolding settled book-of edited after
   settle-none x e s =
       let q : settled (book-of c b) ≡ book-of c b = rw (← e, s) in
-      (laid-counts c b g ∙ ap counts-of (sym q), laid-buffers c b g ∙ ap (laid-out b) (sym q))
+      (ap answer.Done (laid-counts c b g ∙ ap counts-of (sym q)), laid-buffers c b g ∙ ap (laid-out b) (sym q))
 
   journal-zero : all-zero (drop (edit-width * c .edits) (b .journal)) ≡ true
   unfolding edit-form
@@ -66,16 +68,16 @@ module _ (c : Counts) (b : Buffers) (g : laid c b ≡ true) where
       ∙ pad-rest (length (b .journal)) (rows edit-form 0 es)
 
   -- the lines that stand are packed, and the journal, whose edits' rows ys are cleared, is empty
-  pub settle-done : (x : Bool) (r : Standing) (l′ p′ ys : List ℕ)
+  pub settle-done : (x : Bool) (r : Standing) (d : Counts) (l′ p′ ys : List ℕ)
       → x ≡ every stands (things line-form (c .lines) (b .lines) (b .pool)) → x ≡ false
       → Settled (c .lines) (b .lines) (b .pool) l′ p′ r → ys ≡ zeros (length (take (edit-width * c .edits) (b .journal)))
-      → (record { kind = c .kind; nodes = c .nodes; names = c .names; lines = r .lines; pool = r .pool; edits = 0 } ≡ counts-of (settled (book-of c b)))
-      × (five (b .nodes) (b .names) l′ p′ (ys ++ drop (edit-width * c .edits) (b .journal)) ≡ laid-out b (settled (book-of c b)))
-  unfolding settled book-of counts-of laid-out rows
-  settle-done x r l′ p′ ys e s d q =
+      → d ≡ counts-with c (r .lines) (r .pool) 0
+      → Makes c b (λ b w. to (settled w)) (answer.Done d) (five (b .nodes) (b .names) l′ p′ (ys ++ drop (edit-width * c .edits) (b .journal)))
+  unfolding settled book-of counts-of laid-out rows edited after
+  settle-done x r d l′ p′ ys e s a q k =
       let t = laid-packs c b g in
       let j = front-cleared (b .journal) ys (edit-width * c .edits) journal-room journal-zero q in
-      rw (← e, s) (
-        λ i. record { kind = c .kind; nodes = t .nodes .count i; names = t .nodes .total i; lines = d .lines i; pool = d .pool i; edits = 0 },
-        λ i. record { nodes = t .nodes .lined i; names = t .nodes .pooled i; lines = d .lined i; pool = d .pooled i; journal = j i },
+      rw (← e, s, k) (
+        λ i. answer.Done (record { kind = c .kind; nodes = t .nodes .count i; names = t .nodes .total i; lines = a .lines i; pool = a .pool i; edits = 0 }),
+        λ i. record { nodes = t .nodes .lined i; names = t .nodes .pooled i; lines = a .lined i; pool = a .pooled i; journal = j i },
       )

@@ -1,9 +1,10 @@
 -- The lines that stand, packed in place, turn by turn: the first i are read, and those of them that stand are packed at the front. Assumes nothing.
 use Prim.Native.Nat.{ℕ, _+_, _-_, _*_, _≤_, _<_}
-use mathlib.Core.Path.{_≡_, ap, _∙_}
+use mathlib.Core.Path.{_≡_, sym, ap, _∙_}
 use mathlib.Core.List.{List, [], _∷_, _++_}
+use mathlib.Core.Bool.{Bool, true, false}
 use native.Mathlib.Omega.{arith}
-use borrow.Author.Tests.{eq-eqb, ne-eqb}
+use borrow.Author.Tests.{eq-eqb, leb-false, leb-true, ne-eqb}
 use lib.ListN.{length, take, drop, getD}
 use lib.Seq.{paste, take-all}
 use Rattle.packing.specs.Padding.{pad, zeros}
@@ -13,7 +14,7 @@ use Rattle.packing.proofs.Packings.{Packs}
 use Rattle.packing.proofs.Windows.{Midway, midway-start, midway-cell, midway-bytes, midway-within, midway-skip, midway-keep, midway-rows, midway-packed}
 use Rattle.book.specs.Books.{Line, no-line}
 use Rattle.book.specs.Edits.{line-at}
-use Rattle.book.specs.Layout.{code-of, line-form}
+use Rattle.book.specs.Layout.{code-of, has-mark, line-form, line-width, row-of-line, struck-mark}
 use Rattle.book.specs.Sanity.{line-ok}
 use Rattle.book.proofs.Forms.{Ranged, line-laws, ranged}
 use Rattle.book.proofs.LineRows.{line-in-range, lines-packed}
@@ -28,7 +29,7 @@ pub record Sifting (n : ℕ) (l₀ p₀ l p : List ℕ) (i read j written : ℕ)
   pub fewer : j ≤ i
   pub order : written ≤ read
   pub upto : read ≤ asked .total
-  pub rowroom : 4 * n ≤ length l
+  pub rowroom : line-width * n ≤ length l
   pub byteroom : asked .total ≤ length p
   pub midway : Midway line-form (things line-form n l₀ p₀) (standing (take i (things line-form n l₀ p₀))) l₀ p₀ l p i read j written
 
@@ -66,22 +67,22 @@ module _ (n : ℕ) (l₀ p₀ : List ℕ) where
       below = omega (arith, packing (s .asked) .count)
 
       -- the numbers of row i are those of line i, and so are the bytes from `read` on
-      cell-now : (v : ℕ) → v < 4 → getD l (4 * i + v) 0 ≡ getD (line-form .row read (line-at lines i)) v 0
+      cell-now : (v : ℕ) → v < line-width → getD l (line-width * i + v) 0 ≡ getD (line-form .row read (line-at lines i)) v 0
       unfolding line-form
       cell-now v g =
           let a = s .asked in
           midway-cell line-form (line-laws (a .kind) (a .nodes)) n (a .total) l₀ p₀ lines (packing a) _
           l p i read j written (s .midway) no-line below v g
 
-      node-now : getD l (4 * i) 0 ≡ line-at lines i .node
+      node-now : getD l (line-width * i) 0 ≡ line-at lines i .node
       unfolding line-form
-      node-now = let z : 4 * i + 0 ≡ 4 * i = omega arith in rw z at (cell-now 0 (omega arith))
+      node-now = let z : line-width * i + 0 ≡ line-width * i = omega arith in rw z at (cell-now 0 (omega arith))
 
-      code-now : getD l (4 * i + 1) 0 ≡ code-of (line-at lines i)
+      code-now : getD l (line-width * i + 1) 0 ≡ code-of (line-at lines i)
       unfolding line-form
       code-now = cell-now 1 (omega arith)
 
-      size-now : getD l (4 * i + 3) 0 ≡ length (line-at lines i .bytes)
+      size-now : getD l (line-width * i + 3) 0 ≡ length (line-at lines i .bytes)
       unfolding line-form
       size-now = cell-now 3 (omega arith)
 
@@ -98,7 +99,7 @@ module _ (n : ℕ) (l₀ p₀ : List ℕ) where
           (line-in-range (a .kind) (a .nodes) (line-at lines i) (every-at (line-ok (a .kind) (a .nodes)) lines i no-line (packing a .all) below))
 
       -- its bytes end within those of all
-      pub sift-fits : read + getD l (4 * i + 3) 0 ≤ s .asked .total
+      pub sift-fits : read + getD l (line-width * i + 3) 0 ≤ s .asked .total
       unfolding line-form
       sift-fits =
           let a = s .asked in
@@ -108,43 +109,46 @@ module _ (n : ℕ) (l₀ p₀ : List ℕ) where
           omega (arith, size-now)
 
       -- a struck line is left out
-      pub sift-skips : 32 ≤ getD l (4 * i + 1) 0 → Sifting n l₀ p₀ l p (i + 1) (read + getD l (4 * i + 3) 0) j written
+      pub sift-skips : (x : Bool) → x ≡ has-mark (getD l (line-width * i + 1) 0) → x ≡ true
+          → Sifting n l₀ p₀ l p (i + 1) (read + getD l (line-width * i + 3) 0) j written
       unfolding line-form
-      sift-skips g =
+      sift-skips x v t =
           let a = s .asked in
+          let g = leb-true struck-mark (getD l (line-width * i + 1) 0) (sym v ∙ t) in
           let f : line-at lines i .struck ≡ 0 → ⊥ = λ z. omega (arith, code-now, line-ranged) in
           let e : standing (take (i + 1) lines) ≡ standing (take i lines) = standing-struck lines i below (ne-eqb (line-at lines i .struck) 0 f) in
-          sifting a l p (i + 1) (read + getD l (4 * i + 3) 0) j written sift-fits
+          sifting a l p (i + 1) (read + getD l (line-width * i + 3) 0) j written sift-fits
           (rw (e, size-now)
           (midway-skip line-form (line-laws (a .kind) (a .nodes)) n (a .total) l₀ p₀ lines (packing a) _ l p i read j written (s .midway) no-line below))
 
       -- a line that stands is packed
-      pub sift-keeps : (l′ p′ : List ℕ) → getD l (4 * i + 1) 0 < 32
-          → l′ ≡ paste l (4 * j) (getD l (4 * i) 0 ∷ getD l (4 * i + 1) 0 ∷ written ∷ getD l (4 * i + 3) 0 ∷ []) 4
-          → p′ ≡ paste p written (take (getD l (4 * i + 3) 0) (drop read p)) (getD l (4 * i + 3) 0)
-          → Sifting n l₀ p₀ l′ p′ (i + 1) (read + getD l (4 * i + 3) 0) (j + 1) (written + getD l (4 * i + 3) 0)
+      pub sift-keeps : (l′ p′ : List ℕ) (u : Bool) → u ≡ has-mark (getD l (line-width * i + 1) 0) → u ≡ false
+          → l′ ≡ paste l (line-width * j) (row-of-line (getD l (line-width * i) 0) (getD l (line-width * i + 1) 0) written (getD l (line-width * i + 3) 0)) line-width
+          → p′ ≡ paste p written (take (getD l (line-width * i + 3) 0) (drop read p)) (getD l (line-width * i + 3) 0)
+          → Sifting n l₀ p₀ l′ p′ (i + 1) (read + getD l (line-width * i + 3) 0) (j + 1) (written + getD l (line-width * i + 3) 0)
       unfolding line-form
-      sift-keeps l′ p′ g el ep =
+      sift-keeps l′ p′ u v t el ep =
           let a = s .asked in
+          let g = leb-false struck-mark (getD l (line-width * i + 1) 0) (sym v ∙ t) in
           let x : Line = line-at lines i in
           let z : line-at lines i .struck ≡ 0 = omega (arith, code-now) in
           let e : standing (take (i + 1) lines) ≡ standing (take i lines) ++ line-at lines i ∷ []
           = standing-kept lines i below (eq-eqb (line-at lines i .struck) 0 z) in
-          let el′ : l′ ≡ paste l (4 * j) (line-form .row written x) 4 = rw (← node-now, ← code-now, ← size-now) el in
+          let el′ : l′ ≡ paste l (line-width * j) (line-form .row written x) line-width = rw (← node-now, ← code-now, ← size-now) el in
           let ep′ : p′ ≡ paste p written (x .bytes) (length (x .bytes))
           = ep
           ∙ ap (λ (k : ℕ). paste p written (take k (drop read p)) k) size-now
           ∙ ap (λ (b : List ℕ). paste p written b (length (x .bytes))) bytes-now in
-          sifting a l′ p′ (i + 1) (read + getD l (4 * i + 3) 0) (j + 1) (written + getD l (4 * i + 3) 0) sift-fits
+          sifting a l′ p′ (i + 1) (read + getD l (line-width * i + 3) 0) (j + 1) (written + getD l (line-width * i + 3) 0) sift-fits
           (rw (e, size-now)
           (midway-keep line-form (line-laws (a .kind) (a .nodes)) n (a .total) l₀ p₀ lines (packing a) (standing (take i lines))
           l p i read j written (s .midway) no-line below l′ p′ el′ ep′))
 
     -- all are read: ys and zs are what the cleared parts hold
     pub sift-ends : (ys zs : List ℕ) → n ≤ i
-        → ys ≡ zeros (length (take (4 * n - 4 * j) (drop (4 * j) l)))
+        → ys ≡ zeros (length (take (line-width * n - line-width * j) (drop (line-width * j) l)))
         → zs ≡ zeros (length (take (read - written) (drop written p)))
-        → Settled n l₀ p₀ (take (4 * j) l ++ (ys ++ drop (4 * n - 4 * j) (drop (4 * j) l)))
+        → Settled n l₀ p₀ (take (line-width * j) l ++ (ys ++ drop (line-width * n - line-width * j) (drop (line-width * j) l)))
         (take written p ++ (zs ++ drop (read - written) (drop written p)))
         (record { lines = j; pool = written })
     unfolding line-form

@@ -1,7 +1,6 @@
 // Settle, of the trial book. A refusal changes nothing. Definitions: trial/specs/Trial.antt (`settle-asked`), from document 01, 'The book'. It asks first
 // whether the buffers hold a book (14); what it does then stands in `settling`.
 ghost use Rattle.book.specs.Layout.{five};
-ghost use Rattle.book.specs.View.{view};
 ghost use Rattle.trial.specs.Changes.{Answers};
 ghost use Rattle.trial.specs.Trial.{settle-asked};
 use crate::settling::settle_lines;
@@ -21,9 +20,9 @@ pub fn settle(
     pool: &mut [u8],
     journal: &mut [u32],
 ) -> Edited
-    ensures { λ r. ⌜ Answers r (five (now (nodes .entry)) (now (names .entry)) (now (lines .entry)) (now (pool .entry)) (now (journal .entry)))
-        (five (now (nodes .entry)) (now (names .entry)) (now (lines .exit)) (now (pool .exit)) (now (journal .exit)))
-        (settle-asked (view c (five (now (nodes .entry)) (now (names .entry)) (now (lines .entry)) (now (pool .entry)) (now (journal .entry))))) ⌝ }
+    ensures { λ r. ⌜ Answers c (five (now (nodes .entry)) (now (names .entry)) (now (lines .entry)) (now (pool .entry)) (now (journal .entry)))
+        (λ b w. settle-asked w)
+        r (five (now (nodes .entry)) (now (names .entry)) (now (lines .exit)) (now (pool .exit)) (now (journal .exit))) ⌝ }
 {
     if !is_book(c, nodes, names, lines, pool, journal) {
         return Edited::Refused(NO_BOOK);

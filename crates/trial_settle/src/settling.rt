@@ -6,16 +6,19 @@ ghost use lib.ListN.{length};
 ghost use Rattle.lists.specs.Each.{every};
 ghost use Rattle.packing.specs.Tables.{things};
 ghost use Rattle.book.specs.Edits.{stands};
-ghost use Rattle.book.specs.Layout.{counts-of, five, laid-out, line-form, line-width};
-ghost use Rattle.book.specs.View.{book-of, laid};
+ghost use Rattle.book.specs.Layout.{five, line-form, line-width};
+ghost use Rattle.book.specs.View.{laid};
+ghost use Rattle.trial.specs.declared.Edited.the-variants as answer;
+ghost use Rattle.trial.specs.Changes.{Makes, to};
 ghost use Rattle.trial.specs.Trial.{settled};
 ghost use Rattle.trial_settle.specs.Lines.{Packed, Settled};
 use book::Counts;
 use book::EDIT_WIDTH;
 use book::LINE_WIDTH;
-use book::STRUCK;
+use book::codes::is_struck;
+use book::counts_with;
+use book::rows::put_line;
 use copying::move_down;
-use copying::put_four;
 use packing::clear_bytes;
 use packing::clear_numbers;
 
@@ -26,7 +29,7 @@ fn none_struck(lines: &[u32], pool: &[u8], n: usize) -> bool
 {
     let mut i = 0;
     while i < n {
-        if STRUCK <= lines[LINE_WIDTH * i + 1] {
+        if is_struck(lines[LINE_WIDTH * i + 1]) {
             return false;
         }
         i += 1;
@@ -57,17 +60,10 @@ fn pack_standing(lines: &mut [u32], pool: &mut [u8], n: usize) -> Standing
         let size = lines[here + 3] as usize;
         read += size;
         i += 1;
-        if STRUCK <= code {
+        if is_struck(code) {
             continue;
         }
-        put_four(
-            lines,
-            LINE_WIDTH * j,
-            node,
-            code,
-            written as u32,
-            size as u32,
-        );
+        put_line(lines, j, node, code, written as u32, size as u32);
         move_down(pool, from, written, size);
         j += 1;
         written += size;
@@ -92,9 +88,9 @@ pub fn settle_lines(
     journal: &mut [u32],
 ) -> Counts
     requires { ⌜ laid c (five (now nodes) (now names) (now lines) (now pool) (now journal)) ≡ true ⌝ }
-    ensures { λ r. ⌜ (r ≡ counts-of (settled (book-of c (five (now (nodes .entry)) (now (names .entry)) (now (lines .entry)) (now (pool .entry)) (now (journal .entry))))))
-        × (five (now (nodes .entry)) (now (names .entry)) (now (lines .exit)) (now (pool .exit)) (now (journal .exit))
-        ≡ laid-out (five (now (nodes .entry)) (now (names .entry)) (now (lines .entry)) (now (pool .entry)) (now (journal .entry))) (settled (book-of c (five (now (nodes .entry)) (now (names .entry)) (now (lines .entry)) (now (pool .entry)) (now (journal .entry)))))) ⌝ }
+    ensures { λ r. ⌜ Makes c (five (now (nodes .entry)) (now (names .entry)) (now (lines .entry)) (now (pool .entry)) (now (journal .entry)))
+        (λ b w. to (settled w))
+        (answer.Done r) (five (now (nodes .entry)) (now (names .entry)) (now (lines .exit)) (now (pool .exit)) (now (journal .exit))) ⌝ }
 {
     let n = c.lines as usize;
     if none_struck(lines, pool, n) {
@@ -103,12 +99,5 @@ pub fn settle_lines(
     let left = pack_standing(lines, pool, n);
     let edits = EDIT_WIDTH * (c.edits as usize);
     clear_numbers(&mut journal[..edits]);
-    Counts {
-        kind: c.kind,
-        nodes: c.nodes,
-        names: c.names,
-        lines: left.lines,
-        pool: left.pool,
-        edits: 0,
-    }
+    counts_with(c, left.lines, left.pool, 0)
 }

@@ -1,7 +1,6 @@
 // Strike, of the trial book. A refusal changes nothing. Definitions: trial/specs/Trial.antt (`strike-asked`), from document 01, 'The book'. It asks first
 // whether the buffers hold a book (14).
 ghost use Rattle.book.specs.Layout.{five};
-ghost use Rattle.book.specs.View.{view};
 ghost use Rattle.trial.specs.Changes.{Answers};
 ghost use Rattle.trial.specs.Trial.{strike-asked};
 use book::Counts;
@@ -9,6 +8,8 @@ use book::EDIT_WIDTH;
 use book::LINE_WIDTH;
 use book::RUST;
 use book::STRUCK;
+use book::codes::is_struck;
+use book::counts_with;
 use book_check::is_book;
 use book_rooms::has_edit;
 use copying::put_two;
@@ -29,9 +30,9 @@ pub fn strike(
     journal: &mut [u32],
     line: u32,
 ) -> Edited
-    ensures { λ r. ⌜ Answers r (five (now (nodes .entry)) (now (names .entry)) (now (lines .entry)) (now (pool .entry)) (now (journal .entry)))
-        (five (now (nodes .entry)) (now (names .entry)) (now (lines .exit)) (now (pool .entry)) (now (journal .exit)))
-        (strike-asked (five (now (nodes .entry)) (now (names .entry)) (now (lines .entry)) (now (pool .entry)) (now (journal .entry))) (view c (five (now (nodes .entry)) (now (names .entry)) (now (lines .entry)) (now (pool .entry)) (now (journal .entry)))) line) ⌝ }
+    ensures { λ r. ⌜ Answers c (five (now (nodes .entry)) (now (names .entry)) (now (lines .entry)) (now (pool .entry)) (now (journal .entry)))
+        (λ b w. strike-asked b w line)
+        r (five (now (nodes .entry)) (now (names .entry)) (now (lines .exit)) (now (pool .entry)) (now (journal .exit))) ⌝ }
 {
     if !is_book(c, nodes, names, lines, pool, journal) {
         return Edited::Refused(NO_BOOK);
@@ -44,7 +45,7 @@ pub fn strike(
     }
     let at = LINE_WIDTH * (line as usize) + 1;
     let code = lines[at];
-    if STRUCK <= code {
+    if is_struck(code) {
         return Edited::Refused(NO_SUCH);
     }
     let e = c.edits as usize;
@@ -53,12 +54,5 @@ pub fn strike(
     }
     lines[at] = code + STRUCK;
     put_two(journal, EDIT_WIDTH * e, STRIKE, line);
-    Edited::Done(Counts {
-        kind: c.kind,
-        nodes: c.nodes,
-        names: c.names,
-        lines: c.lines,
-        pool: c.pool,
-        edits: c.edits + 1,
-    })
+    Edited::Done(counts_with(c, c.lines, c.pool, c.edits + 1))
 }

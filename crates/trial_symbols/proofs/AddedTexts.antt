@@ -8,9 +8,7 @@ use native.Mathlib.Omega.{arith}
 use borrow.Author.Tests.{ne-eqb}
 use lib.Dec.{eqb}
 use lib.ListN.{length}
-use lib.Seq.{paste}
 use Rattle.numbers.specs.Editions.{reld}
-use Rattle.packing.specs.Padding.{zeros}
 use Rattle.reading_cursors.specs.declared.Cursor.{Cursor}
 use Rattle.reading_cursors.specs.declared.Event.{Event}
 use Rattle.reading_cursors.specs.declared.Step.{Step}
@@ -22,14 +20,15 @@ use Rattle.reading.proofs.Onward.{Standing, next-onward, next-stands, reading-s
 use Rattle.reading.proofs.Parts.{Marked, next-parts, start-marked}
 use Rattle.book.specs.declared.Counts.{Counts}
 use Rattle.book.specs.Books.{Book, Node, export, rust}
-use Rattle.book.specs.Layout.{Buffers, counts-of, edit-width, five, laid-out, line-width}
+use Rattle.book.specs.Layout.{Buffers, counts-of, five, laid-out}
 use Rattle.book.specs.View.{book-of, laid}
 use Rattle.book.proofs.Views.{Layout, Rooms, fits-layout, fits-same, laid-from, laid-out-rooms, laid-out-same, laid-packs, layout-fits}
 use Rattle.book_building.specs.Events.{Lies}
 use Rattle.book_opening.proofs.EachEvent.{parts-lie}
 use Rattle.trial.specs.declared.Edited.{Edited}
 use Rattle.trial.specs.declared.Edited.the-variants as answer
-use Rattle.trial.specs.Changes.{Answers, Change, after, edited, no, to}
+use Rattle.trial.specs.Changes.{Change, Leaves, Makes, after, edited, no, to}
+use Rattle.trial.specs.Clearing.{Clears, Reaches}
 use Rattle.trial.specs.Symbols.{add-event, add-events, add-reading, on-change}
 use Rattle.trial.proofs.Answers.{layout-answers, refusal-answers}
 use Rattle.trial.proofs.Growth.{Grown, back-asks, event-grows, grown-none, taken-back}
@@ -42,13 +41,13 @@ record Made (b b′ : Buffers) (d : Counts) (x : Change) : Type 0 where
   counts : d ≡ counts-of book
   laid : b′ ≡ laid-out b book
 
-made : (b b′ : Buffers) (r : Edited) (d : Counts) → r ≡ answer.Done d → (x : Change) → Answers r b b′ x → Made b b′ d x
+made : (b b′ : Buffers) (r : Edited) (d : Counts) → r ≡ answer.Done d → (x : Change) → Leaves b x r b′ → Made b b′ d x
 unfolding edited after
 made b b′ r d z (to w) h = let e = h .0 in record { book = w; is = refl; counts = cc; laid = h .1 }
 made b b′ r d z (no n) h = let e = h .0 in absurd (true≢false (cc))
 
 -- and one that was refused
-refused : (b b′ : Buffers) (r : Edited) (n : ℕ) → r ≡ answer.Refused n → (x : Change) → Answers r b b′ x → (x ≡ no n) × (b′ ≡ b)
+refused : (b b′ : Buffers) (r : Edited) (n : ℕ) → r ≡ answer.Refused n → (x : Change) → Leaves b x r b′ → (x ≡ no n) × (b′ ≡ b)
 unfolding edited after
 refused b b′ r n z (to w) h = let e = h .0 in absurd (true≢false (cc))
 refused b b′ r n z (no i) h = let e = h .0 in (cc, h .1)
@@ -69,6 +68,9 @@ module _ (c : Counts) (place : ℕ) (s n m l q j : List ℕ) (pre : (laid c (fiv
 
   abbrev held : Book
   held = book-of c (five n m l q j)
+
+  abbrev Adds : Edited → Buffers → Type 0
+  Adds = Makes c lent (λ b w. add-reading b s w (reading reld place s))
 
   abbrev change : Change
   change = add-reading (five n m l q j) s (book-of c (five n m l q j)) (reading reld place s)
@@ -97,30 +99,23 @@ module _ (c : Counts) (place : ℕ) (s n m l q j : List ℕ) (pre : (laid c (fiv
     left-to-read z w = i .whole ∙ ap (add-reading lent s (i .book)) (reading-step s x (i .stands) ∙ rw (← e, w))
 
     -- the text has ended
-    pub going-ends : y ≡ End → Answers (answer.Done k) lent lent-now change
+    pub going-ends : y ≡ End → Adds (answer.Done k) lent-now
     unfolding add-reading add-events
     going-ends z = layout-answers k lent lent-now (i .book) change (left-to-read End z) (i .layout) (i .rooms)
 
     -- what `take_back` asks, and what it leaves
-    pub going-back : (c .lines ≤ k .lines) × (line-width * k .lines ≤ length l′) × (c .pool ≤ k .pool) × (k .pool ≤ length q′) × (c .edits ≤ k .edits)
-        × (edit-width * k .edits ≤ length j′)
+    pub going-back : Reaches c k l′ q′ j′
     going-back = back-asks c k n m l q j l′ q′ j′ held (i .book) layout-held (i .layout) (i .grown)
 
-    abbrev Back : List ℕ → List ℕ → List ℕ → Type 0
-    Back l″ q″ j″ =
-        (l″ ≡ paste l′ (line-width * c .lines) (zeros (line-width * k .lines - line-width * c .lines)) (line-width * k .lines - line-width * c .lines))
-        × (q″ ≡ paste q′ (c .pool) (zeros (k .pool - c .pool)) (k .pool - c .pool))
-        × (j″ ≡ paste j′ (edit-width * c .edits) (zeros (edit-width * k .edits - edit-width * c .edits)) (edit-width * k .edits - edit-width * c .edits))
+    back-same : (l″ q″ j″ : List ℕ) → Clears c k l′ q′ j′ l″ q″ j″ → five n m l″ q″ j″ ≡ lent
+    back-same = taken-back c k n m l q j l′ q′ j′ held (i .book) layout-held (i .layout) (i .grown) (i .rooms)
 
-    back-same : (l″ q″ j″ : List ℕ) → Back l″ q″ j″ → five n m l″ q″ j″ ≡ lent
-    back-same l″ q″ j″ t = taken-back c k n m l q j l′ q′ j′ held (i .book) layout-held (i .layout) (i .grown) (i .rooms) l″ q″ j″ (t .0) (t .1) (t .2)
-
-    declines : (a : ℕ) (l″ q″ j″ : List ℕ) → change ≡ no a → Back l″ q″ j″ → Answers (answer.Refused a) lent (five n m l″ q″ j″) change
+    declines : (a : ℕ) (l″ q″ j″ : List ℕ) → change ≡ no a → Clears c k l′ q′ j′ l″ q″ j″ → Adds (answer.Refused a) (five n m l″ q″ j″)
     declines a l″ q″ j″ z t =
-        subst (λ (b : Buffers). Answers (answer.Refused a) lent b change) (sym (back-same l″ q″ j″ t)) (refusal-answers lent change a z)
+        subst (λ (b : Buffers). Adds (answer.Refused a) b) (sym (back-same l″ q″ j″ t)) (refusal-answers lent change a z)
 
     -- the reading is refused
-    pub going-refused : (a p : ℕ) (l″ q″ j″ : List ℕ) → y ≡ Refused a p → Back l″ q″ j″ → Answers (answer.Refused a) lent (five n m l″ q″ j″) change
+    pub going-refused : (a p : ℕ) (l″ q″ j″ : List ℕ) → y ≡ Refused a p → Clears c k l′ q′ j′ l″ q″ j″ → Adds (answer.Refused a) (five n m l″ q″ j″)
     unfolding add-reading add-events
     going-refused a p l″ q″ j″ z t = declines a l″ q″ j″ (left-to-read (Refused a p) z) t
 
@@ -144,7 +139,7 @@ module _ (c : Counts) (place : ℕ) (s n m l q j : List ℕ) (pre : (laid c (fiv
       event-asks = (laid-from k lent-now (i .book) (i .layout) .0, some-nodes, event-lies)
 
       -- r is what it answers, and l₁ q₁ j₁ are the buffers behind it
-      module _ (r : Edited) (l₁ q₁ j₁ : List ℕ) (h : Answers r lent-now (five n m l₁ q₁ j₁) (add-event lent-now s (book-of k lent-now) v)) where
+      module _ (r : Edited) (l₁ q₁ j₁ : List ℕ) (h : Makes k lent-now (λ b w. add-event b s w v) r (five n m l₁ q₁ j₁)) where
         event-now : add-event lent-now s (book-of k lent-now) v ≡ add-event lent s (i .book) v
         event-now =
             ap (λ (w : Book). add-event lent-now s w v) (laid-from k lent-now (i .book) (i .layout) .1)
@@ -170,18 +165,12 @@ module _ (c : Counts) (place : ℕ) (s n m l q j : List ℕ) (pre : (laid c (fiv
           same-journal : j₁ ≡ j′
           same-journal = ap (λ (b : Buffers). b .journal) (says-no .1)
 
-          pub event-back : (c .lines ≤ k .lines) × (line-width * k .lines ≤ length l₁) × (c .pool ≤ k .pool) × (k .pool ≤ length q₁)
-              × (c .edits ≤ k .edits) × (edit-width * k .edits ≤ length j₁)
+          pub event-back : Reaches c k l₁ q₁ j₁
           event-back = rw (same-lines, same-pool, same-journal) going-back
 
           -- what `take_back` leaves then
-          module _ (l″ q″ j″ : List ℕ)
-              (t : (l″
-              ≡ paste l₁ (line-width * c .lines) (zeros (line-width * k .lines - line-width * c .lines)) (line-width * k .lines - line-width * c .lines))
-              × (q″ ≡ paste q₁ (c .pool) (zeros (k .pool - c .pool)) (k .pool - c .pool))
-              × (j″
-              ≡ paste j₁ (edit-width * c .edits) (zeros (edit-width * k .edits - edit-width * c .edits)) (edit-width * k .edits - edit-width * c .edits))) where
-            back-now : Back l″ q″ j″
+          module _ (l″ q″ j″ : List ℕ) (t : Clears c k l₁ q₁ j₁ l″ q″ j″) where
+            back-now : Clears c k l′ q′ j′ l″ q″ j″
             back-now = rw (same-lines, same-pool, same-journal) at t
 
             pub same-lengths : (length l″ ≡ length l) × (length q″ ≡ length q) × (length j″ ≡ length j)
@@ -189,7 +178,7 @@ module _ (c : Counts) (place : ℕ) (s n m l q j : List ℕ) (pre : (laid c (fiv
                 let w = back-same l″ q″ j″ back-now in
                 (ap (λ (b : Buffers). length (b .lines)) w, ap (λ (b : Buffers). length (b .pool)) w, ap (λ (b : Buffers). length (b .journal)) w)
 
-            pub going-no : Answers (answer.Refused a) lent (five n m l″ q″ j″) change
+            pub going-no : Adds (answer.Refused a) (five n m l″ q″ j″)
             going-no = declines a l″ q″ j″ (onward (no a) (sym event-now ∙ says-no .0)) back-now
 
         -- it is added

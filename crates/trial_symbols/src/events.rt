@@ -4,11 +4,12 @@ ghost use mathlib.Core.Path.{_≡_};
 ghost use mathlib.Core.Bool.{true};
 ghost use Prim.Native.Nat.{_<_};
 ghost use Rattle.book.specs.Layout.{five};
-ghost use Rattle.book.specs.View.{book-of, laid};
+ghost use Rattle.book.specs.View.{laid};
 ghost use Rattle.book_building.specs.Events.{Lies};
-ghost use Rattle.trial.specs.Changes.{Answers};
+ghost use Rattle.trial.specs.Changes.{Makes};
 ghost use Rattle.trial.specs.Symbols.{add-event};
 use book::Counts;
+use numbers::GLOBAL;
 use reading_cursors::Event;
 use trial::Edited;
 use trial_add::adding::append;
@@ -24,10 +25,11 @@ pub fn add_event(
     s: &[u8],
     e: Event,
 ) -> Edited
-    requires { ⌜ (laid c (five (now nodes) (now names) (now lines) (now pool) (now journal)) ≡ true) × (0 < c .nodes) × Lies (now s) e ⌝ }
-    ensures { λ r. ⌜ Answers r (five (now (nodes .entry)) (now (names .entry)) (now (lines .entry)) (now (pool .entry)) (now (journal .entry)))
-        (five (now (nodes .entry)) (now (names .entry)) (now (lines .exit)) (now (pool .exit)) (now (journal .exit)))
-        (add-event (five (now (nodes .entry)) (now (names .entry)) (now (lines .entry)) (now (pool .entry)) (now (journal .entry))) (now (s .entry)) (book-of c (five (now (nodes .entry)) (now (names .entry)) (now (lines .entry)) (now (pool .entry)) (now (journal .entry)))) e) ⌝ }
+    requires { ⌜ (laid c (five (now nodes) (now names) (now lines) (now pool) (now journal)) ≡ true)
+        × (0 < c .nodes) × Lies (now s) e ⌝ }
+    ensures { λ r. ⌜ Makes c (five (now (nodes .entry)) (now (names .entry)) (now (lines .entry)) (now (pool .entry)) (now (journal .entry)))
+        (λ b w. add-event b (now (s .entry)) w e)
+        r (five (now (nodes .entry)) (now (names .entry)) (now (lines .exit)) (now (pool .exit)) (now (journal .exit))) ⌝ }
 {
     match e {
         Event::Node { start: _, len: _ } => Edited::Done(c),
@@ -53,7 +55,7 @@ pub fn add_event(
                 pool,
                 journal,
                 0,
-                0,
+                GLOBAL,
                 language,
                 &s[start..end],
             )

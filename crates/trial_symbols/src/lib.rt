@@ -2,7 +2,6 @@
 // 'The book'. It asks first whether the buffers hold a book (14); what it does then stands in `lines`.
 ghost use mathlib.Core.Path.{_≡_};
 ghost use Rattle.book.specs.Layout.{five};
-ghost use Rattle.book.specs.View.{view};
 ghost use Rattle.trial.specs.Changes.{Answers};
 ghost use Rattle.trial.specs.Symbols.{symbol-asked, symbol-place};
 use crate::lines::add_lines;
@@ -42,9 +41,9 @@ pub fn add_symbol(
     text: &[u8],
     without_semicolon: bool,
 ) -> Edited
-    ensures { λ r. ⌜ Answers r (five (now (nodes .entry)) (now (names .entry)) (now (lines .entry)) (now (pool .entry)) (now (journal .entry)))
-        (five (now (nodes .entry)) (now (names .entry)) (now (lines .exit)) (now (pool .exit)) (now (journal .exit)))
-        (symbol-asked (five (now (nodes .entry)) (now (names .entry)) (now (lines .entry)) (now (pool .entry)) (now (journal .entry))) (view c (five (now (nodes .entry)) (now (names .entry)) (now (lines .entry)) (now (pool .entry)) (now (journal .entry)))) (now (text .entry)) «without_semicolon») ⌝ }
+    ensures { λ r. ⌜ Answers c (five (now (nodes .entry)) (now (names .entry)) (now (lines .entry)) (now (pool .entry)) (now (journal .entry)))
+        (λ b w. symbol-asked b w (now (text .entry)) «without_semicolon»)
+        r (five (now (nodes .entry)) (now (names .entry)) (now (lines .exit)) (now (pool .exit)) (now (journal .exit))) ⌝ }
 {
     if !is_book(c, nodes, names, lines, pool, journal) {
         return Edited::Refused(NO_BOOK);

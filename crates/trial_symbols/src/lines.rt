@@ -7,8 +7,8 @@ ghost use Rattle.numbers.specs.Editions.{reld};
 ghost use Rattle.reading.specs.Events.{reading};
 ghost use Rattle.book.specs.Books.{export};
 ghost use Rattle.book.specs.Layout.{five};
-ghost use Rattle.book.specs.View.{book-of, laid};
-ghost use Rattle.trial.specs.Changes.{Answers};
+ghost use Rattle.book.specs.View.{laid};
+ghost use Rattle.trial.specs.Changes.{Makes};
 ghost use Rattle.trial.specs.Symbols.{add-reading};
 use crate::clearing::take_back;
 use crate::events::add_event;
@@ -30,10 +30,11 @@ pub fn add_lines(
     s: &[u8],
     place: u32,
 ) -> Edited
-    requires { ⌜ (laid c (five (now nodes) (now names) (now lines) (now pool) (now journal)) ≡ true) × (0 < c .nodes) × (c .kind ≡ export) ⌝ }
-    ensures { λ r. ⌜ Answers r (five (now (nodes .entry)) (now (names .entry)) (now (lines .entry)) (now (pool .entry)) (now (journal .entry)))
-        (five (now (nodes .entry)) (now (names .entry)) (now (lines .exit)) (now (pool .exit)) (now (journal .exit)))
-        (add-reading (five (now (nodes .entry)) (now (names .entry)) (now (lines .entry)) (now (pool .entry)) (now (journal .entry))) (now (s .entry)) (book-of c (five (now (nodes .entry)) (now (names .entry)) (now (lines .entry)) (now (pool .entry)) (now (journal .entry)))) (reading reld place (now (s .entry)))) ⌝ }
+    requires { ⌜ (laid c (five (now nodes) (now names) (now lines) (now pool) (now journal)) ≡ true)
+        × (0 < c .nodes) × (c .kind ≡ export) ⌝ }
+    ensures { λ r. ⌜ Makes c (five (now (nodes .entry)) (now (names .entry)) (now (lines .entry)) (now (pool .entry)) (now (journal .entry)))
+        (λ b w. add-reading b (now (s .entry)) w (reading reld place (now (s .entry))))
+        r (five (now (nodes .entry)) (now (names .entry)) (now (lines .exit)) (now (pool .exit)) (now (journal .exit))) ⌝ }
 {
     let mut at = start_at(RELD, place, s);
     let mut k = c;

@@ -18,16 +18,30 @@ use Rattle.packing.proofs.Packings.{Packs, packed-next, row-cell, set-thing, un
 use Rattle.book.specs.declared.Counts.{Counts}
 use Rattle.book.specs.Books.{Book, Edit, Line, add, no-line}
 use Rattle.book.specs.Edits.{add-back, all-back, all-stand, journal-fits, line-at, marked, stands, strike-back, take-back, then-back}
-use Rattle.book.specs.Layout.{Buffers, code-of, edit-form, five, line-form}
+use Rattle.book.specs.Layout.{Buffers, code-of, counts-with, edit-form, edit-width, five, line-form, line-width, row-of-line, struck-mark}
 use Rattle.book.specs.Sanity.{edit-ok}
 use Rattle.book.specs.View.{book-of, holds, view}
 use Rattle.book.proofs.Asking.{asked-none}
 use Rattle.book.proofs.Forms.{edit-laws, line-laws}
 use Rattle.book.proofs.Views.{Layout, no-bytes}
+use Rattle.trial.specs.declared.Edited.{Edited}
 use Rattle.trial.specs.declared.Edited.the-variants as answer
 use Rattle.trial.specs.Changes.{Answers, to}
 use Rattle.trial.specs.Trial.{latest, undo-asked, without-latest}
-use Rattle.trial_undo.specs.Latest.{Undoable, counts-back, journal-back, line-told, lines-back, pool-back, start-of, what-told}
+use Rattle.trial.specs.Clearing.{emptied}
+use Rattle.trial_undo.specs.Latest.{
+  Undoable,
+  code-told,
+  counts-back,
+  journal-back,
+  line-told,
+  lines-back,
+  pool-back,
+  row-back,
+  start-of,
+  unstruck,
+  what-told,
+}
 use Rattle.trial.proofs.Answers.{Shown, layout-answers, refusal-answers, shown}
 use Rattle.trial.proofs.Marking.{marked-ok}
 use Rattle.trial.proofs.Marks.{line-code, line-ranged, line-right, line-room, line-within}
@@ -89,18 +103,18 @@ module _ (c : Counts) (b : Buffers) (w : Book) (t : Layout c b w) (f : journal-f
   last-edit : w .edits ≡ take behind (w .edits) ++ (latest (w .edits) ∷ [])
   last-edit = last-apart (w .edits) behind _ some-edits
 
-  row-there : 2 * (c .edits - 1) + 2 ≤ length (b .journal)
+  row-there : edit-width * (c .edits - 1) + edit-width ≤ length (b .journal)
   unfolding edit-form
   row-there = omega (arith, t .edits .rowroom, z)
 
-  edit-cell : (k : ℕ) → k < 2 → getD (b .journal) (2 * (c .edits - 1) + k) 0 ≡ getD (latest (w .edits) .what ∷ latest (w .edits) .line ∷ []) k 0
+  edit-cell : (k : ℕ) → k < edit-width → getD (b .journal) (edit-width * (c .edits - 1) + k) 0 ≡ getD (latest (w .edits) .what ∷ latest (w .edits) .line ∷ []) k 0
   unfolding edit-form
   edit-cell k h =
-      ap (λ (m : ℕ). getD (b .journal) (2 * m + k) 0) (sym behind-is)
+      ap (λ (m : ℕ). getD (b .journal) (edit-width * m + k) 0) (sym behind-is)
       ∙ row-cell edit-form edit-laws (c .edits) 0 (b .journal) [] (w .edits) (t .edits) behind _ (omega (arith, some-edits)) k h
 
-  edit-what : getD (b .journal) (2 * (c .edits - 1)) 0 ≡ latest (w .edits) .what
-  edit-what = let a : 2 * (c .edits - 1) ≡ 2 * (c .edits - 1) + 0 = omega arith in ap (λ (m : ℕ). getD (b .journal) m 0) a ∙ edit-cell 0 (omega arith)
+  edit-what : getD (b .journal) (edit-width * (c .edits - 1)) 0 ≡ latest (w .edits) .what
+  edit-what = let a : edit-width * (c .edits - 1) ≡ edit-width * (c .edits - 1) + 0 = omega arith in ap (λ (m : ℕ). getD (b .journal) m 0) a ∙ edit-cell 0 (omega arith)
 
   taken : take-back (latest (w .edits)) (w .lines) ≡ none → ⊥
   taken = latest-fits (take behind (w .edits)) (latest (w .edits)) (w .lines) (ap (λ (es : List Edit). journal-fits es (w .lines)) (sym last-edit) ∙ f)
@@ -110,7 +124,7 @@ module _ (c : Counts) (b : Buffers) (w : Book) (t : Layout c b w) (f : journal-f
   unfolding undo-asked without-latest
   undone ls e = let n : length (w .edits) ≡ 0 → ⊥ = λ q. omega (arith, q, some-edits) in rw (ne-eqb _ _ n, e)
 
-  edits-behind : (j′ : List ℕ) → j′ ≡ paste (b .journal) (2 * (c .edits - 1)) (0 ∷ 0 ∷ []) 2
+  edits-behind : (j′ : List ℕ) → j′ ≡ paste (b .journal) (edit-width * (c .edits - 1)) (0 ∷ 0 ∷ []) edit-width
       → Packs edit-form edit-ok (c .edits - 1) 0 j′ [] (take behind (w .edits))
   unfolding edit-form
   edits-behind j′ e =
@@ -118,23 +132,23 @@ module _ (c : Counts) (b : Buffers) (w : Book) (t : Layout c b w) (f : journal-f
       last-edit (sym behind-is ∙ sym (length-take-le behind (w .edits) (omega (arith, some-edits)))) (ap length (sym (no-bytes (take behind (w .edits))))) e refl
 
   -- the line that the edit tells
-  module _ (i : ℕ) (e : i ≡ getD (b .journal) (2 * (c .edits - 1) + 1) 0) where
+  module _ (i : ℕ) (e : i ≡ getD (b .journal) (edit-width * (c .edits - 1) + 1) 0) where
     told : i ≡ latest (w .edits) .line
     told = e ∙ edit-cell 1 (omega arith)
 
     -- ---- an add
-    module _ (h : getD (b .journal) (2 * (c .edits - 1)) 0 ≡ add) where
+    module _ (h : getD (b .journal) (edit-width * (c .edits - 1)) 0 ≡ add) where
       last-line : (length (w .lines) ≡ i + 1) × (take-back (latest (w .edits)) (w .lines) ≡ some (take i (w .lines)))
       last-line = rw told (added-last (latest (w .edits)) (w .lines) taken (sym edit-what ∙ h))
 
       added-at : i < c .lines
       added-at = omega (arith, t .lines .count, last-line .0)
 
-      start-told : getD (b .lines) (4 * i + 2) 0 ≡ length (packed line-form (take i (w .lines)))
+      start-told : getD (b .lines) (line-width * i + 2) 0 ≡ length (packed line-form (take i (w .lines)))
       unfolding line-form
       start-told = row-cell line-form (line-laws (c .kind) (c .nodes)) (c .lines) (c .pool) (b .lines) (b .pool) (w .lines) (t .lines) i no-line (line-within c b w t i added-at) 2 (omega arith)
 
-      ends-told : c .pool ≡ getD (b .lines) (4 * i + 2) 0 + length (line-at (w .lines) i .bytes)
+      ends-told : c .pool ≡ getD (b .lines) (line-width * i + 2) 0 + length (line-at (w .lines) i .bytes)
       unfolding line-form
       ends-told =
           let k = packed-next line-form (line-laws (c .kind) (c .nodes)) (w .lines) i no-line (line-within c b w t i added-at) in
@@ -142,12 +156,12 @@ module _ (c : Counts) (b : Buffers) (w : Book) (t : Layout c b w) (f : journal-f
           let n = ap (λ (xs : List Line). length (packed line-form xs)) a in
           omega (arith, t .lines .total, k, n, start-told)
 
-      pub add-room : (4 * i + 4 ≤ length (b .lines)) × (getD (b .lines) (4 * i + 2) 0 ≤ c .pool) × (c .pool ≤ length (b .pool))
+      pub add-room : (line-width * i + line-width ≤ length (b .lines)) × (getD (b .lines) (line-width * i + 2) 0 ≤ c .pool) × (c .pool ≤ length (b .pool))
       add-room = (line-room c b w t i added-at, omega (arith, ends-told), t .lines .byteroom)
 
-      module _ (s : ℕ) (v : s ≡ getD (b .lines) (4 * i + 2) 0) (l′ p′ j′ : List ℕ) (el : l′ ≡ paste (b .lines) (4 * i) (zeros 4) 4)
-          (ep : p′ ≡ paste (b .pool) s (zeros (c .pool - s)) (c .pool - s)) (ej : j′ ≡ paste (b .journal) (2 * (c .edits - 1)) (0 ∷ 0 ∷ []) 2) where
-        added-layout : Layout (record { kind = c .kind; nodes = c .nodes; names = c .names; lines = c .lines - 1; pool = s; edits = c .edits - 1 })
+      module _ (s : ℕ) (v : s ≡ getD (b .lines) (line-width * i + 2) 0) (l′ p′ j′ : List ℕ) (el : l′ ≡ paste (b .lines) (line-width * i) (zeros line-width) line-width)
+          (ep : p′ ≡ paste (b .pool) s (zeros (c .pool - s)) (c .pool - s)) (ej : j′ ≡ paste (b .journal) (edit-width * (c .edits - 1)) (0 ∷ 0 ∷ []) edit-width) where
+        added-layout : Layout (counts-with c (c .lines - 1) s (c .edits - 1))
             (five (b .nodes) (b .names) l′ p′ j′) (record { kind = w .kind; nodes = w .nodes; lines = take i (w .lines); edits = take behind (w .edits) })
         unfolding line-form
         added-layout =
@@ -165,12 +179,12 @@ module _ (c : Counts) (b : Buffers) (w : Book) (t : Layout c b w) (f : journal-f
               lines = unput-thing line-form (line-laws (c .kind) (c .nodes)) (c .lines) (c .pool) (b .lines) (b .pool) (w .lines) (t .lines) (line-at (w .lines) i) (c .lines - 1) s
                   (take i (w .lines)) l′ p′ (last-apart (w .lines) i no-line (last-line .0))
                   (sym q ∙ sym (length-take-le i (w .lines) (omega (arith, last-line .0)))) (v ∙ start-told)
-                  (el ∙ ap (λ (m : ℕ). paste (b .lines) (4 * m) (zeros 4) 4) q) (ep ∙ ap (λ (m : ℕ). paste (b .pool) s (zeros m) m) k);
+                  (el ∙ ap (λ (m : ℕ). paste (b .lines) (line-width * m) (zeros line-width) line-width) q) (ep ∙ ap (λ (m : ℕ). paste (b .pool) s (zeros m) m) k);
               edits = edits-behind j′ ej;
             }
 
     -- ---- a strike
-    module _ (h : getD (b .journal) (2 * (c .edits - 1)) 0 ≡ add → ⊥) where
+    module _ (h : getD (b .journal) (edit-width * (c .edits - 1)) 0 ≡ add → ⊥) where
       struck-line : (i < length (w .lines)) × (line-at (w .lines) i .struck ≡ 0 → ⊥)
           × (take-back (latest (w .edits)) (w .lines) ≡ some (set (w .lines) i (marked 0 (line-at (w .lines) i))))
       struck-line = rw told (struck-back (latest (w .edits)) (w .lines) taken (λ q. h (edit-what ∙ q)))
@@ -178,97 +192,101 @@ module _ (c : Counts) (b : Buffers) (w : Book) (t : Layout c b w) (f : journal-f
       struck-at : i < c .lines
       struck-at = omega (arith, t .lines .count, struck-line .0)
 
-      struck-code : getD (b .lines) (4 * i + 1) 0 ≡ code-of (marked 0 (line-at (w .lines) i)) + 32
+      struck-code : getD (b .lines) (line-width * i + 1) 0 ≡ code-of (marked 0 (line-at (w .lines) i)) + struck-mark
       struck-code =
           let r = line-ranged c b w t i struck-at in
           let s : line-at (w .lines) i .struck ≡ 1 = omega (arith, r .struck, struck-line .1) in
           omega (arith, line-code c b w t i struck-at, s)
 
-      pub strike-room : (4 * i + 4 ≤ length (b .lines)) × (32 ≤ getD (b .lines) (4 * i + 1) 0)
+      pub strike-room : (line-width * i + line-width ≤ length (b .lines)) × (struck-mark ≤ getD (b .lines) (line-width * i + 1) 0)
       strike-room = (line-room c b w t i struck-at, omega (arith, struck-code))
 
-      module _ (l′ j′ : List ℕ) (el : l′ ≡ set (b .lines) (4 * i + 1) (getD (b .lines) (4 * i + 1) 0 - 32)) (ej : j′ ≡ paste (b .journal) (2 * (c .edits - 1)) (0 ∷ 0 ∷ []) 2) where
-        stood-layout : Layout (record { kind = c .kind; nodes = c .nodes; names = c .names; lines = c .lines; pool = c .pool; edits = c .edits - 1 })
+      module _ (l′ j′ : List ℕ) (el : l′ ≡ set (b .lines) (line-width * i + 1) (getD (b .lines) (line-width * i + 1) 0 - struck-mark)) (ej : j′ ≡ paste (b .journal) (edit-width * (c .edits - 1)) (0 ∷ 0 ∷ []) edit-width) where
+        stood-layout : Layout (counts-with c (c .lines) (c .pool) (c .edits - 1))
             (five (b .nodes) (b .names) l′ (b .pool) j′)
             (record { kind = w .kind; nodes = w .nodes; lines = set (w .lines) i (marked 0 (line-at (w .lines) i)); edits = take behind (w .edits) })
         unfolding line-form
         stood-layout =
             let x = line-at (w .lines) i in
-            let s : getD (b .lines) (4 * i + 1) 0 - 32 ≡ code-of (marked 0 x) = omega (arith, struck-code) in
+            let s : getD (b .lines) (line-width * i + 1) 0 - struck-mark ≡ code-of (marked 0 x) = omega (arith, struck-code) in
             record {
               kind = t .kind;
               limits = record { nodes = t .limits .nodes; lines = t .limits .lines; pool = t .limits .pool; edits = omega (arith, t .limits .edits) };
               nodes = t .nodes;
               lines = set-thing line-form (line-laws (c .kind) (c .nodes)) (c .lines) (c .pool) (b .lines) (b .pool) (w .lines) (t .lines) i no-line (struck-line .0) 1 _
                   (marked 0 x) l′ (omega arith) (marked-ok (c .kind) (c .nodes) 0 x (omega arith) (line-right c b w t i struck-at)) refl
-                  (λ o. ap (λ (k : ℕ). x .node ∷ k ∷ o ∷ length (x .bytes) ∷ []) s) el;
+                  (λ o. ap (λ (k : ℕ). row-of-line (x .node) k o (length (x .bytes))) s) el;
               edits = edits-behind j′ ej;
             }
 
 -- ---- undo_latest
 module _ (c : Counts) (n m l p j : List ℕ) (x : Bool) (e : x ≡ holds c (five n m l p j)) where
-  pub undo-no-book : not x ≡ true → Answers (answer.Refused no-book) (five n m l p j) (five n m l p j) (undo-asked (view c (five n m l p j)))
+  abbrev lent : Buffers
+  lent = five n m l p j
+
+  abbrev Undoes : Edited → Buffers → Type 0
+  Undoes = Answers c lent (λ b w. undo-asked w)
+
+  pub undo-no-book : not x ≡ true → Undoes (answer.Refused no-book) lent
   unfolding undo-asked
-  undo-no-book h = refusal-answers (five n m l p j) _ no-book (rw (asked-none c (five n m l p j) x e h))
+  undo-no-book h = refusal-answers lent _ no-book (rw (asked-none c lent x e h))
 
   module _ (h : not x ≡ false) where
-    here : Shown c (five n m l p j)
-    here = shown c (five n m l p j) x e h
+    here : Shown c lent
+    here = shown c lent x e h
 
-    pub undo-nothing : c .edits ≡ 0 → Answers (answer.Refused nothing-to-undo) (five n m l p j) (five n m l p j) (undo-asked (view c (five n m l p j)))
+    pub undo-nothing : c .edits ≡ 0 → Undoes (answer.Refused nothing-to-undo) lent
     unfolding undo-asked
     undo-nothing z =
-        let q : length (book-of c (five n m l p j) .edits) ≡ 0 = sym (here .layout .edits .count) ∙ z in
-        refusal-answers (five n m l p j) _ nothing-to-undo (rw (here .viewed, eq-eqb _ _ q))
+        let q : length (book-of c lent .edits) ≡ 0 = sym (here .layout .edits .count) ∙ z in
+        refusal-answers lent _ nothing-to-undo (rw (here .viewed, eq-eqb _ _ q))
 
     module _ (z : c .edits ≡ 0 → ⊥) where
-      undo-row : 2 * (c .edits - 1) + 2 ≤ length j
-      undo-row = row-there c (five n m l p j) _ (here .layout) (here .fitting) z
+      undo-row : edit-width * (c .edits - 1) + edit-width ≤ length j
+      undo-row = row-there c lent _ (here .layout) (here .fitting) z
 
-      module _ (i : ℕ) (k : i ≡ getD j (2 * (c .edits - 1) + 1) 0) where
-        module _ (g : getD j (2 * (c .edits - 1)) 0 ≡ add) where
-          undo-add-room : (4 * i + 4 ≤ length l) × (getD l (4 * i + 2) 0 ≤ c .pool) × (c .pool ≤ length p)
-          undo-add-room = add-room c (five n m l p j) _ (here .layout) (here .fitting) z i k g
+      module _ (i : ℕ) (k : i ≡ getD j (edit-width * (c .edits - 1) + 1) 0) where
+        module _ (g : getD j (edit-width * (c .edits - 1)) 0 ≡ add) where
+          undo-add-room : (line-width * i + line-width ≤ length l) × (start-of l i ≤ c .pool) × (c .pool ≤ length p)
+          undo-add-room = add-room c lent _ (here .layout) (here .fitting) z i k g
 
           undo-add-some : 1 ≤ c .lines
-          undo-add-some = omega (arith, added-at c (five n m l p j) _ (here .layout) (here .fitting) z i k g)
+          undo-add-some = omega (arith, added-at c lent _ (here .layout) (here .fitting) z i k g)
 
-          undo-added : (s : ℕ) (l′ p′ j′ : List ℕ) → j′ ≡ paste j (2 * (c .edits - 1)) (0 ∷ 0 ∷ []) 2
-              → (s ≡ getD l (4 * i + 2) 0) × (l′ ≡ paste l (4 * i) (zeros 4) 4) × (p′ ≡ paste p s (zeros (c .pool - s)) (c .pool - s))
-              → Answers (answer.Done (record { kind = c .kind; nodes = c .nodes; names = c .names; lines = c .lines - 1; pool = s; edits = c .edits - 1 }))
-              (five n m l p j) (five n m l′ p′ j′) (undo-asked (view c (five n m l p j)))
+          undo-added : (s : ℕ) (l′ p′ j′ : List ℕ) → j′ ≡ paste j (edit-width * (c .edits - 1)) (0 ∷ 0 ∷ []) edit-width
+              → (s ≡ start-of l i) × (l′ ≡ row-back l i) × (p′ ≡ emptied p s (c .pool))
+              → Undoes (answer.Done (counts-with c (c .lines - 1) s (c .edits - 1))) (five n m l′ p′ j′)
           undo-added s l′ p′ j′ ej a =
               let r = undo-add-room in
               let q : s + (c .pool - s) ≤ length p = omega (arith, a .0, r) in
               let o : length (zeros (c .pool - s)) ≡ c .pool - s = length-replicate (c .pool - s) 0 in
-              layout-answers _ (five n m l p j) (five n m l′ p′ j′) _ _
-              (ap undo-asked (here .viewed) ∙ undone c (five n m l p j) _ (here .layout) (here .fitting) z _ (last-line c (five n m l p j) _ (here .layout) (here .fitting) z i k g .1))
-              (added-layout c (five n m l p j) _ (here .layout) (here .fitting) z i k g s (a .0) l′ p′ j′ (a .1) (a .2) ej)
+              layout-answers _ lent (five n m l′ p′ j′) _ _
+              (ap undo-asked (here .viewed) ∙ undone c lent _ (here .layout) (here .fitting) z _ (last-line c lent _ (here .layout) (here .fitting) z i k g .1))
+              (added-layout c lent _ (here .layout) (here .fitting) z i k g s (a .0) l′ p′ j′ (a .1) (a .2) ej)
               (record {
                 nodes = refl;
                 names = refl;
-                lines = ap length (a .1) ∙ length-paste l (4 * i) (zeros 4) 4 (r .0) (omega arith);
+                lines = ap length (a .1) ∙ length-paste l (line-width * i) (zeros line-width) line-width (r .0) (omega arith);
                 pool = ap length (a .2) ∙ length-paste p s (zeros (c .pool - s)) (c .pool - s) q (omega (arith, o));
-                journal = ap length ej ∙ length-paste j (2 * (c .edits - 1)) (0 ∷ 0 ∷ []) 2 undo-row (omega arith);
+                journal = ap length ej ∙ length-paste j (edit-width * (c .edits - 1)) (0 ∷ 0 ∷ []) edit-width undo-row (omega arith);
               })
 
-        module _ (g : getD j (2 * (c .edits - 1)) 0 ≡ add → ⊥) where
-          undo-strike-room : (4 * i + 4 ≤ length l) × (32 ≤ getD l (4 * i + 1) 0)
-          undo-strike-room = strike-room c (five n m l p j) _ (here .layout) (here .fitting) z i k g
+        module _ (g : getD j (edit-width * (c .edits - 1)) 0 ≡ add → ⊥) where
+          undo-strike-room : (line-width * i + line-width ≤ length l) × (struck-mark ≤ code-told l i)
+          undo-strike-room = strike-room c lent _ (here .layout) (here .fitting) z i k g
 
-          undo-struck : (l′ j′ : List ℕ) → j′ ≡ paste j (2 * (c .edits - 1)) (0 ∷ 0 ∷ []) 2 → l′ ≡ set l (4 * i + 1) (getD l (4 * i + 1) 0 - 32)
-              → Answers (answer.Done (record { kind = c .kind; nodes = c .nodes; names = c .names; lines = c .lines; pool = c .pool; edits = c .edits - 1 }))
-              (five n m l p j) (five n m l′ p j′) (undo-asked (view c (five n m l p j)))
+          undo-struck : (l′ j′ : List ℕ) → j′ ≡ paste j (edit-width * (c .edits - 1)) (0 ∷ 0 ∷ []) edit-width → l′ ≡ unstruck l i
+              → Undoes (answer.Done (counts-with c (c .lines) (c .pool) (c .edits - 1))) (five n m l′ p j′)
           undo-struck l′ j′ ej el =
-              layout-answers _ (five n m l p j) (five n m l′ p j′) _ _
-              (ap undo-asked (here .viewed) ∙ undone c (five n m l p j) _ (here .layout) (here .fitting) z _ (struck-line c (five n m l p j) _ (here .layout) (here .fitting) z i k g .2))
-              (stood-layout c (five n m l p j) _ (here .layout) (here .fitting) z i k g l′ j′ el ej)
+              layout-answers _ lent (five n m l′ p j′) _ _
+              (ap undo-asked (here .viewed) ∙ undone c lent _ (here .layout) (here .fitting) z _ (struck-line c lent _ (here .layout) (here .fitting) z i k g .2))
+              (stood-layout c lent _ (here .layout) (here .fitting) z i k g l′ j′ el ej)
               (record {
                 nodes = refl;
                 names = refl;
-                lines = ap length el ∙ length-set l (4 * i + 1) _;
+                lines = ap length el ∙ length-set l (line-width * i + 1) _;
                 pool = refl;
-                journal = ap length ej ∙ length-paste j (2 * (c .edits - 1)) (0 ∷ 0 ∷ []) 2 undo-row (omega arith);
+                journal = ap length ej ∙ length-paste j (edit-width * (c .edits - 1)) (0 ∷ 0 ∷ []) edit-width undo-row (omega arith);
               })
 
       -- what takes it back
@@ -282,7 +300,7 @@ module _ (c : Counts) (n m l p j : List ℕ) (x : Bool) (e : x ≡ holds c (five
 
       -- and what that comes to
       module _ (r : Counts) (l′ p′ j′ : List ℕ) (a : (r ≡ counts-back c l j) × (l′ ≡ lines-back c l j) × (p′ ≡ pool-back c l p j) × (j′ ≡ journal-back c j)) where
-        undo-by : (t : Bool) → eqb (what-told c j) add ≡ t → Answers (answer.Done r) (five n m l p j) (five n m l′ p′ j′) (undo-asked (view c (five n m l p j)))
+        undo-by : (t : Bool) → eqb (what-told c j) add ≡ t → Undoes (answer.Done r) (five n m l′ p′ j′)
         unfolding counts-back lines-back pool-back journal-back
         undo-by true k =
             let q = undo-added (line-told c j) refl (eqb-true _ _ k) (start-of l (line-told c j)) l′ p′ j′ (a .3) (refl, a .1 ∙ rw k refl, a .2 ∙ rw k refl) in
@@ -291,5 +309,5 @@ module _ (c : Counts) (n m l p j : List ℕ) (x : Bool) (e : x ≡ holds c (five
             let q = undo-struck (line-told c j) refl (eqb-false _ _ k) l′ j′ (a .3) (a .1 ∙ rw k refl) in
             (ap answer.Done (a .0 ∙ rw k refl) ∙ q .0, ap (λ (b : List ℕ). five n m l′ b j′) (a .2 ∙ rw k refl) ∙ q .1)
 
-        pub undo-done : Answers (answer.Done r) (five n m l p j) (five n m l′ p′ j′) (undo-asked (view c (five n m l p j)))
+        pub undo-done : Undoes (answer.Done r) (five n m l′ p′ j′)
         undo-done = undo-by (eqb (what-told c j) add) refl

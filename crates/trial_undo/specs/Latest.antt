@@ -10,7 +10,8 @@ use lib.Seq.{paste}
 use Rattle.packing.specs.Padding.{zeros}
 use Rattle.book.specs.declared.Counts.{Counts}
 use Rattle.book.specs.Books.{add}
-use Rattle.book.specs.Layout.{edit-width, line-width, struck-mark}
+use Rattle.book.specs.Layout.{counts-with, edit-width, line-width, struck-mark}
+use Rattle.trial.specs.Clearing.{emptied}
 
 -- "journal (u32, two per edit: 1 add or 2 strike; line)": the two numbers of the latest
 abbrev pub what-told : Counts → List ℕ → ℕ
@@ -26,16 +27,12 @@ start-of l i = getD l (line-width * i + 2) 0
 abbrev pub code-told : List ℕ → ℕ → ℕ
 code-told l i = getD l (line-width * i + 1) 0
 
--- numbers or bytes from p up to q become zero
-abbrev pub emptied : List ℕ → ℕ → ℕ → List ℕ
-emptied l p q = paste l p (zeros (q - p)) (q - p)
-
 -- the counts: an add's line goes with its bytes
 unfoldable pub counts-back : Counts → List ℕ → List ℕ → Counts
 counts-back c l j =
     cond (eqb (what-told c j) add)
-    (record { kind = c .kind; nodes = c .nodes; names = c .names; lines = c .lines - 1; pool = start-of l (line-told c j); edits = c .edits - 1 })
-    (record { kind = c .kind; nodes = c .nodes; names = c .names; lines = c .lines; pool = c .pool; edits = c .edits - 1 })
+    (counts-with c (c .lines - 1) (start-of l (line-told c j)) (c .edits - 1))
+    (counts-with c (c .lines) (c .pool) (c .edits - 1))
 
 -- the rows: an add's is zero; of a struck line's code what was added ("32 is added to a struck line's code") is taken off again
 abbrev pub row-back : List ℕ → ℕ → List ℕ

@@ -1,9 +1,8 @@
 // "undo takes back the latest edit not yet undone": a core that takes the counts by value, and `undo`, to which they are lent. A refusal changes nothing.
-// Definitions: trial/specs/Trial.antt, from document 01, 'The book'. Both ask first whether the buffers hold a book (14); what they do then stands in `taking_back`.
-ghost use mathlib.Core.Path.{_≡_};
+// Definitions: trial/specs/Trial.antt, from document 01, 'The book'. Both ask first whether the buffers hold a book (14); what they do then stands in
+// `taking_back`.
 ghost use Rattle.book.specs.Layout.{five};
-ghost use Rattle.book.specs.View.{view};
-ghost use Rattle.trial.specs.Changes.{Answers, after, counts-after, edit-refusal, edited};
+ghost use Rattle.trial.specs.Changes.{Answers, Updates};
 ghost use Rattle.trial.specs.Trial.{undo-asked};
 use crate::taking_back::take_back_latest;
 use book::Counts;
@@ -23,9 +22,9 @@ pub fn undo_latest(
     pool: &mut [u8],
     journal: &mut [u32],
 ) -> Edited
-    ensures { λ r. ⌜ Answers r (five (now (nodes .entry)) (now (names .entry)) (now (lines .entry)) (now (pool .entry)) (now (journal .entry)))
-        (five (now (nodes .entry)) (now (names .entry)) (now (lines .exit)) (now (pool .exit)) (now (journal .exit)))
-        (undo-asked (view c (five (now (nodes .entry)) (now (names .entry)) (now (lines .entry)) (now (pool .entry)) (now (journal .entry))))) ⌝ }
+    ensures { λ r. ⌜ Answers c (five (now (nodes .entry)) (now (names .entry)) (now (lines .entry)) (now (pool .entry)) (now (journal .entry)))
+        (λ b w. undo-asked w)
+        r (five (now (nodes .entry)) (now (names .entry)) (now (lines .exit)) (now (pool .exit)) (now (journal .exit))) ⌝ }
 {
     if !is_book(c, nodes, names, lines, pool, journal) {
         return Edited::Refused(NO_BOOK);
@@ -51,10 +50,9 @@ fn undo_by_value(
     pool: &mut [u8],
     journal: &mut [u32],
 ) -> Undone
-    ensures { λ r. ⌜ (r .number ≡ edit-refusal (edited (undo-asked (view c (five (now (nodes .entry)) (now (names .entry)) (now (lines .entry)) (now (pool .entry)) (now (journal .entry)))))))
-        × (r .counts ≡ counts-after c (undo-asked (view c (five (now (nodes .entry)) (now (names .entry)) (now (lines .entry)) (now (pool .entry)) (now (journal .entry))))))
-        × (five (now (nodes .entry)) (now (names .entry)) (now (lines .exit)) (now (pool .exit)) (now (journal .exit))
-        ≡ after (five (now (nodes .entry)) (now (names .entry)) (now (lines .entry)) (now (pool .entry)) (now (journal .entry))) (undo-asked (view c (five (now (nodes .entry)) (now (names .entry)) (now (lines .entry)) (now (pool .entry)) (now (journal .entry)))))) ⌝ }
+    ensures { λ r. ⌜ Updates c (five (now (nodes .entry)) (now (names .entry)) (now (lines .entry)) (now (pool .entry)) (now (journal .entry)))
+        (λ b w. undo-asked w)
+        (r .number) (r .counts) (five (now (nodes .entry)) (now (names .entry)) (now (lines .exit)) (now (pool .exit)) (now (journal .exit))) ⌝ }
 {
     match undo_latest(c, nodes, names, lines, pool, journal) {
         Edited::Refused(no) => Undone {
@@ -77,10 +75,10 @@ pub fn undo(
     pool: &mut [u8],
     journal: &mut [u32],
 ) -> u32
-    ensures { λ r. ⌜ (r ≡ edit-refusal (edited (undo-asked (view (now (counts .entry)) (five (now (nodes .entry)) (now (names .entry)) (now (lines .entry)) (now (pool .entry)) (now (journal .entry)))))))
-        × (now (counts .exit) ≡ counts-after (now (counts .entry)) (undo-asked (view (now (counts .entry)) (five (now (nodes .entry)) (now (names .entry)) (now (lines .entry)) (now (pool .entry)) (now (journal .entry))))))
-        × (five (now (nodes .entry)) (now (names .entry)) (now (lines .exit)) (now (pool .exit)) (now (journal .exit))
-        ≡ after (five (now (nodes .entry)) (now (names .entry)) (now (lines .entry)) (now (pool .entry)) (now (journal .entry))) (undo-asked (view (now (counts .entry)) (five (now (nodes .entry)) (now (names .entry)) (now (lines .entry)) (now (pool .entry)) (now (journal .entry)))))) ⌝ }
+    ensures { λ r. ⌜ Updates (now (counts .entry))
+        (five (now (nodes .entry)) (now (names .entry)) (now (lines .entry)) (now (pool .entry)) (now (journal .entry)))
+        (λ b w. undo-asked w)
+        r (now (counts .exit)) (five (now (nodes .entry)) (now (names .entry)) (now (lines .exit)) (now (pool .exit)) (now (journal .exit))) ⌝ }
 {
     let c = *counts;
     let u = undo_by_value(c, nodes, names, lines, pool, journal);

@@ -3,12 +3,14 @@
 ghost use mathlib.Core.Path.{_≡_};
 ghost use Prim.Native.Nat.{_+_, _*_, _≤_};
 ghost use lib.ListN.{length};
-ghost use Rattle.trial_undo.specs.Latest.{Undoable, code-told, counts-back, emptied, journal-back, lines-back, pool-back, row-back, start-of, unstruck};
 ghost use Rattle.book.specs.Layout.{line-width, struck-mark};
+ghost use Rattle.trial.specs.Clearing.{emptied};
+ghost use Rattle.trial_undo.specs.Latest.{Undoable, code-told, counts-back, journal-back, lines-back, pool-back, row-back, start-of, unstruck};
 use book::Counts;
 use book::EDIT_WIDTH;
 use book::LINE_WIDTH;
 use book::STRUCK;
+use book::counts_with;
 use copying::put_two;
 use packing::clear_bytes;
 use packing::clear_numbers;
@@ -57,22 +59,8 @@ pub fn take_back_latest(
     put_two(journal, at, 0, 0);
     if what == ADD {
         let start = undo_add(lines, pool, line, c.pool as usize);
-        return Counts {
-            kind: c.kind,
-            nodes: c.nodes,
-            names: c.names,
-            lines: c.lines - 1,
-            pool: start,
-            edits: c.edits - 1,
-        };
+        return counts_with(c, c.lines - 1, start, c.edits - 1);
     }
     undo_strike(lines, line);
-    Counts {
-        kind: c.kind,
-        nodes: c.nodes,
-        names: c.names,
-        lines: c.lines,
-        pool: c.pool,
-        edits: c.edits - 1,
-    }
+    counts_with(c, c.lines, c.pool, c.edits - 1)
 }

@@ -1,4 +1,4 @@
--- What changes a trial book leaves one answer and one end state: adding, settling, clearing, symbol_events, symbol_lines, symbols, taking_back, undoing, trial_adds, trial_strikes, trial_settles. Assumes nothing.
+-- What changes a trial book leaves one answer and one end state: trial_add, trial_settle, trial_symbols, trial_undo, trial_strike. Assumes nothing.
 use mathlib.Core.Path.{refl}
 use Rattle.uniqueness.specs.Unique.{Unique}
 use Rattle.uniqueness.proofs.Same.{_▹_, same}
@@ -14,19 +14,20 @@ use Rattle.trial_add.proofs.add
 use Rattle.trial_strike.proofs.strike
 use Rattle.trial_settle.proofs.settle
 
--- ---- adding
+-- ---- trial_add: what it does to a known book
 pub append-unique : Unique append.ended append.Reads.Post
 append-unique κs a x y v w p q =
     let b = same (p .1) (q .1) in
     (same (p .0) (q .0), λ i. tt ▹ tt ▹ tt ▹ b i .lines ▹ b i .pool ▹ b i .journal ▹ tt ▹ tt ▹ tt ▹ tt ▹ tt)
 
--- ---- settling
+-- ---- trial_settle: the same
 pub settle-lines-unique : Unique settle_lines.ended settle_lines.Reads.Post
 settle-lines-unique κs a x y v w p q =
+    let e = same (p .0) (q .0) in
     let b = same (p .1) (q .1) in
-    (same (p .0) (q .0), λ i. tt ▹ tt ▹ tt ▹ b i .lines ▹ b i .pool ▹ b i .journal ▹ tt)
+    (cc, λ i. tt ▹ tt ▹ tt ▹ b i .lines ▹ b i .pool ▹ b i .journal ▹ tt)
 
--- ---- clearing, symbol_events, symbol_lines, symbols
+-- ---- trial_symbols
 pub add-event-unique : Unique add_event.ended add_event.Reads.Post
 add-event-unique κs a x y v w p q =
     let b = same (p .1) (q .1) in
@@ -45,18 +46,17 @@ add-symbol-unique κs a x y v w p q =
     let b = same (p .1) (q .1) in
     (same (p .0) (q .0), λ i. tt ▹ tt ▹ tt ▹ b i .lines ▹ b i .pool ▹ b i .journal ▹ tt ▹ tt ▹ tt)
 
--- ---- taking_back
+-- ---- trial_undo
 pub take-back-latest-unique : Unique take_back_latest.ended take_back_latest.Reads.Post
 take-back-latest-unique κs a x y v w p q =
     (same (p .0) (q .0), λ i. tt ▹ same (p .1) (q .1) i ▹ same (p .2) (q .2) i ▹ same (p .3) (q .3) i ▹ tt)
 
--- ---- undoing
 pub undo-latest-unique : Unique undo_latest.ended undo_latest.Reads.Post
 undo-latest-unique κs a x y v w p q =
     let b = same (p .1) (q .1) in
     (same (p .0) (q .0), λ i. tt ▹ tt ▹ tt ▹ b i .lines ▹ b i .pool ▹ b i .journal ▹ tt)
 
--- ---- trial_adds, trial_strikes, trial_settles
+-- ---- trial_add, trial_strike, trial_settle
 pub add-unique : Unique add.ended add.Reads.Post
 add-unique κs a x y v w p q =
     let b = same (p .1) (q .1) in

@@ -1,5 +1,6 @@
 -- `undo_by_value` meets its contract, by the laws of Answers. Assumes nothing.
 use borrow.Author.Needs.{needs}
+use Rattle.trial.specs.Trial.{undo-asked}
 use Rattle.trial.proofs.Answers.{done-left, refused-left}
 use Rattle.trial_undo.proofs.undo_by_value.Statement.{statement}
 use Rattle.trial_undo.proofs.undo_by_value.Tie as tie
@@ -23,7 +24,7 @@ same-length-3 : tie.Need-same-length-3
 same-length-3 c = search needs
 
 returns : tie.Need-returns
-returns c = refused-left _ _ _ _ _ (c .before .before .before .before .before .before .before .before .before .undo-latest .ensures) _ (c .before .no .given .1)
+returns c = refused-left _ _ _ _ (λ b w. undo-asked w) (c .before .before .before .before .before .before .before .before .before .undo-latest .ensures) _ (c .before .no .given .1)
 
 same-length-4 : tie.Need-same-length-4
 same-length-4 c = search needs
@@ -35,7 +36,7 @@ same-length-6 : tie.Need-same-length-6
 same-length-6 c = search needs
 
 returns-2 : tie.Need-returns-2
-returns-2 c = done-left _ _ _ _ _ (c .before .before .before .before .before .before .before .before .before .undo-latest .ensures) _ (c .before .d .given .1)
+returns-2 c = done-left _ _ _ _ (λ b w. undo-asked w) (c .before .before .before .before .before .before .before .before .before .undo-latest .ensures) _ (c .before .d .given .1)
 
 pub undo-by-value-spec : {M : Type 1} → statement M
 undo-by-value-spec =

@@ -1,13 +1,58 @@
 -- `append` meets its contract: no row or no edit is left, the token is refused, or the line is there with its edit. Assumes nothing.
 use borrow.Author.Needs.{needs}
 use native.Mathlib.Omega.{arith}
-use mathlib.Core.Path.{refl, sym, _∙_}
+use Prim.Native.Nat.{_+_, _≤_}
+use mathlib.Core.Path.{_≡_, sym, _∙_}
+use mathlib.Core.Bool.{true}
 use borrow.Author.Tests.{not-true, not-false}
+use Rattle.numbers.specs.Limits.{pool-limit}
+use Rattle.storing.specs.Keeping.{keep}
+use Rattle.book.specs.Layout.{Buffers, five}
+use Rattle.book.specs.View.{book-of}
+use Rattle.book.proofs.Views.{Layout, laid-packs}
+use Rattle.book_rooms.specs.Rooms.{edit-row, fits-row}
 use Rattle.book_rooms.proofs.Rows.{edit-refusal, edit-within, row-number, row-within}
 use Rattle.book_building.proofs.Kept.{class-few}
 use Rattle.trial_add.proofs.Appending.{append-editless, append-ends, append-made, append-refused, append-rowless, pool-asked}
 use Rattle.trial_add.proofs.adding.append.Statement.{statement}
 use Rattle.trial_add.proofs.adding.append.Tie as tie
+
+-- the entry, whose book is laid out
+abbrev entry : tie.After-has-row → tie.Start
+entry c = c .before .before .before .before .before .before .before .before .before .before
+
+abbrev lent : tie.Start → Buffers
+lent s = let a = s .args in five (a .nodes .now) (a .names .now) (a .lines .now) (a .pool .now) (a .journal .now)
+
+layout : (s : tie.Start) → Layout (s .args .c) (lent s) (book-of (s .args .c) (lent s))
+layout s = laid-packs (s .args .c) (lent s) (s .pre .0)
+
+-- there is a row for the line
+row : (c : tie.Else1) → let a = entry (c .before) .args in fits-row (a .lines .now) (a .c .lines) ≡ true
+row c = sym (c .before .has-row .ensures) ∙ not-false _ (c .if1 .left)
+
+-- and one for its edit
+abbrev rowed : tie.Else2 → tie.Else1
+rowed c = c .before .before .before
+
+abbrev edited : tie.Else2 → tie.Start
+edited c = entry (rowed c .before)
+
+edit : (c : tie.Else2) → let a = edited c .args in edit-row (a .journal .now) (a .c .edits) ≡ true
+edit c = sym (c .before .has-edit .ensures) ∙ not-false _ (c .if2 .left)
+
+-- and its bytes are put
+abbrev roomy : tie.After-put-token → tie.Else2
+roomy c = c .before .before .before .before
+
+abbrev put : tie.After-class → tie.After-put-token
+put c = c .before .before .before .before
+
+ends : (c : tie.After-class) → edited (roomy (put c)) .args .c .pool + c .class .given .0 .1 .0 ≤ pool-limit
+ends c =
+    let p = put c in
+    let s = edited (roomy p) in
+    append-ends (layout s) (keep (p .before .before .before .edition-of .result) (s .args .token .now)) (p .put-token .result) _ (p .put-token .ensures) _ _ (c .class .given .1)
 
 cast-n : tie.Need-cast-n
 cast-n c = search needs
@@ -27,11 +72,8 @@ same-length c = search needs
 returns : tie.Need-returns
 returns c =
     let i = c .before in
-    let s = i .before .before .before .before .before .before .before .before .before .before .before in
-    let a = s .args in
-    append-rowless (a .c) (a .nodes .now) (a .names .now) (a .lines .now) (a .pool .now) (a .journal .now)
-    (a .node) (a .section) (a .language) (a .token .now) (s .pre)
-    _ (c .refusal-without-row .ensures) (sym (i .before .has-row .ensures) ∙ not-true _ (i .if1 .taken)) _ refl
+    append-rowless (layout (entry (i .before))) _ _ _ _
+    _ (c .refusal-without-row .ensures) (sym (i .before .has-row .ensures) ∙ not-true _ (i .if1 .taken))
 
 has-edit-requires : tie.Need-has-edit-requires
 has-edit-requires c κs = search needs
@@ -48,11 +90,8 @@ same-length-3 c = search needs
 returns-2 : tie.Need-returns-2
 returns-2 c =
     let k = c .before in
-    let s = k .before .before .before .before .before .before .before .before .before .before .before .before .before .before in
-    let a = s .args in
-    append-editless (a .c) (a .nodes .now) (a .names .now) (a .lines .now) (a .pool .now) (a .journal .now)
-    (a .node) (a .section) (a .language) (a .token .now) (s .pre)
-    _ (c .refusal-without-row2 .ensures) (sym (k .before .has-edit .ensures) ∙ not-true _ (k .if2 .taken)) _ refl
+    append-editless (layout (entry (k .before .before .before .before))) _ _ _ _
+    _ (c .refusal-without-row2 .ensures) (sym (k .before .has-edit .ensures) ∙ not-true _ (k .if2 .taken))
 
 edition-of-requires : tie.Need-edition-of-requires
 edition-of-requires c κs = search needs
@@ -61,11 +100,7 @@ cast-put-token : tie.Need-cast-put-token
 cast-put-token c = search needs
 
 put-token-requires : tie.Need-put-token-requires
-put-token-requires c κs =
-    let s = c .before .before .before .before .before .before .before .before .before .before .before .before .before .before .before .before .before in
-    let a = s .args in
-    pool-asked (a .c) (a .nodes .now) (a .names .now) (a .lines .now) (a .pool .now) (a .journal .now)
-    (a .node) (a .section) (a .language) (a .token .now) (s .pre)
+put-token-requires c κs = pool-asked (layout (edited (c .before .before .before)))
 
 enum-known-no : tie.Need-enum-known-no
 enum-known-no c = search needs
@@ -76,93 +111,49 @@ enum-known-class c = search needs
 class-number-requires : tie.Need-class-number-requires
 class-number-requires c κs = search needs
 
-mul-code : tie.Need-mul-code
-mul-code c = omega (arith, c .class-number .ensures, class-few (c .before .before .class .given .0 .0))
+code-of-requires : tie.Need-code-of-requires
+code-of-requires c κs =
+    let s = edited (roomy (put (c .before .before))) in
+    (omega (arith, c .class-number .ensures, class-few (c .before .before .class .given .0 .0)), s .pre .2, s .pre .3)
 
-mul-code-2 : tie.Need-mul-code-2
-mul-code-2 c = search needs
+cast-put-line : tie.Need-cast-put-line
+cast-put-line c = omega (arith, ends (c .before .before .before .before))
 
-add-code : tie.Need-add-code
-add-code c = omega (arith, c .class-number .ensures, class-few (c .before .before .class .given .0 .0))
-
-add-code-2 : tie.Need-add-code-2
-add-code-2 c = omega (arith, c .class-number .ensures, class-few (c .before .before .class .given .0 .0))
-
-mul-put-four : tie.Need-mul-put-four
-mul-put-four c = search needs
-
-cast-put-four : tie.Need-cast-put-four
-cast-put-four c =
-    let p = c .before .before .before .before .before .before .before in
-    let s = p .before .before .before .before .before .before .before .before .before .before .before .before .before .before .before .before .before .before in
-    let a = s .args in
-    let e = append-ends (a .c) (a .nodes .now) (a .names .now) (a .lines .now) (a .pool .now) (a .journal .now)
-    (a .node) (a .section) (a .language) (a .token .now) (s .pre)
-    (p .before .before .before .edition-of .result) (p .before .before .before .edition-of .ensures) (p .put-token .result) _ (p .put-token .ensures) _ _ (c .before .before .before .class .given .1) in
-    omega arith
-
-put-four-requires : tie.Need-put-four-requires
-put-four-requires c κs =
-    let p = c .before .before .before .before .before .before .before in
-    let k = p .before .before .before .before in
-    let i = k .before .before .before in
-    let s = i .before .before .before .before .before .before .before .before .before .before .before in
-    let a = s .args in
-    let e = row-within (a .lines .now) (a .c .lines) (sym (i .before .has-row .ensures) ∙ not-false _ (i .if1 .left)) in
-    omega arith
+put-line-requires : tie.Need-put-line-requires
+put-line-requires c κs =
+    let r = roomy (put (c .before .before .before .before)) in
+    let a = edited r .args in
+    omega (arith, row-within (a .lines .now) (a .c .lines) (row (rowed r)))
 
 mul-put-two : tie.Need-mul-put-two
 mul-put-two c = search needs
 
 put-two-requires : tie.Need-put-two-requires
 put-two-requires c κs =
-    let p = c .before .before .before .before .before .before .before .before .before .before .before in
-    let k = p .before .before .before .before in
-    let i = k .before .before .before in
-    let s = i .before .before .before .before .before .before .before .before .before .before .before in
-    let a = s .args in
-    let e = edit-within (a .journal .now) (a .c .edits) (sym (k .before .has-edit .ensures) ∙ not-false _ (k .if2 .left)) in
-    omega arith
+    let r = roomy (put (c .before .before .before .before .before .before .before .before)) in
+    let a = edited r .args in
+    omega (arith, edit-within (a .journal .now) (a .c .edits) (edit r))
 
-add-t34 : tie.Need-add-t34
-add-t34 c =
-    let p = c .before .before .before .before .before .before .before .before .before .before .before .before .before .before .before in
-    let k = p .before .before .before .before in
-    let i = k .before .before .before in
-    let s = i .before .before .before .before .before .before .before .before .before .before .before in
-    let a = s .args in
-    let e = row-number (a .lines .now) (a .c .lines) (sym (i .before .has-row .ensures) ∙ not-false _ (i .if1 .left)) in
-    omega arith
+add-counts-with : tie.Need-add-counts-with
+add-counts-with c =
+    let r = roomy (put (c .before .before .before .before .before .before .before .before .before .before .before .before)) in
+    let a = edited r .args in
+    omega (arith, row-number (a .lines .now) (a .c .lines) (row (rowed r)))
 
-cast-t32 : tie.Need-cast-t32
-cast-t32 c =
-    let p = c .before .before .before .before .before .before .before .before .before .before .before .before .before .before .before in
-    let s = p .before .before .before .before .before .before .before .before .before .before .before .before .before .before .before .before .before .before in
-    let a = s .args in
-    let e = append-ends (a .c) (a .nodes .now) (a .names .now) (a .lines .now) (a .pool .now) (a .journal .now)
-    (a .node) (a .section) (a .language) (a .token .now) (s .pre)
-    (p .before .before .before .edition-of .result) (p .before .before .before .edition-of .ensures) (p .put-token .result) _ (p .put-token .ensures) _ _ (c .before .before .before .before .before .before .before .before .before .before .before .class .given .1) in
-    omega arith
+cast-counts-with : tie.Need-cast-counts-with
+cast-counts-with c = omega (arith, ends (c .before .before .before .before .before .before .before .before .before .before .before .before))
 
-add-t33 : tie.Need-add-t33
-add-t33 c =
-    let p = c .before .before .before .before .before .before .before .before .before .before .before .before .before .before .before .before in
-    let s = p .before .before .before .before .before .before .before .before .before .before .before .before .before .before .before .before .before .before in
-    let a = s .args in
-    let e = append-ends (a .c) (a .nodes .now) (a .names .now) (a .lines .now) (a .pool .now) (a .journal .now)
-    (a .node) (a .section) (a .language) (a .token .now) (s .pre)
-    (p .before .before .before .edition-of .result) (p .before .before .before .edition-of .ensures) (p .put-token .result) _ (p .put-token .ensures) _ _ (c .before .before .before .before .before .before .before .before .before .before .before .before .class .given .1) in
-    omega arith
+add-counts-with-2 : tie.Need-add-counts-with-2
+add-counts-with-2 c = omega (arith, ends (c .before .before .before .before .before .before .before .before .before .before .before .before .before))
 
-add-t31 : tie.Need-add-t31
-add-t31 c =
-    let p = c .before .before .before .before .before .before .before .before .before .before .before .before .before .before .before .before .before in
-    let k = p .before .before .before .before in
-    let i = k .before .before .before in
-    let s = i .before .before .before .before .before .before .before .before .before .before .before in
-    let a = s .args in
-    let e = edit-refusal (a .journal .now) (a .c .edits) (sym (k .before .has-edit .ensures) ∙ not-false _ (k .if2 .left)) in
-    omega arith
+add-counts-with-3 : tie.Need-add-counts-with-3
+add-counts-with-3 c =
+    let r = roomy (put (c .before .before .before .before .before .before .before .before .before .before .before .before .before .before)) in
+    let a = edited r .args in
+    omega (arith, edit-refusal (a .journal .now) (a .c .edits) (edit r))
+
+counts-with-requires : tie.Need-counts-with-requires
+counts-with-requires c κs = search needs
 
 same-length-4 : tie.Need-same-length-4
 same-length-4 c = search needs
@@ -176,35 +167,31 @@ same-length-6 c = search needs
 returns-3 : tie.Need-returns-3
 returns-3 c =
     let p = c .before .before .before .before .before in
-    let s = p .before .before .before .before .before .before .before .before .before .before .before .before .before .before .before .before .before .before in
-    let a = s .args in
-    append-refused (a .c) (a .nodes .now) (a .names .now) (a .lines .now) (a .pool .now) (a .journal .now)
-    (a .node) (a .section) (a .language) (a .token .now) (s .pre)
-    (p .before .before .before .edition-of .result) (p .before .before .before .edition-of .ensures) (p .put-token .result) _ (p .put-token .ensures) _ (c .before .no .given .1) _ refl
+    append-refused (layout (edited (roomy p))) _ _ _ _
+    (p .before .before .before .edition-of .result) (p .before .before .before .edition-of .ensures) (p .put-token .result) _ (p .put-token .ensures) _
+    (c .before .no .given .1)
 
 same-length-7 : tie.Need-same-length-7
 same-length-7 c = search needs
 
 same-length-8 : tie.Need-same-length-8
-same-length-8 c = search needs
+same-length-8 c =
+    let p = c .before .before .before .before .before .before .before .before .before .before .before .before .before .before .before .before .before .before .pool in
+    search needs
 
 same-length-9 : tie.Need-same-length-9
 same-length-9 c = search needs
 
 returns-4 : tie.Need-returns-4
 returns-4 c =
-    let d = c .before .before .before .before .before .before .before .before .before in
-    let p = c .before .before .before .before .before .before .before .before .before .before .before .before .before .before .before .before .before in
-    let k = p .before .before .before .before in
-    let i = k .before .before .before in
-    let s = i .before .before .before .before .before .before .before .before .before .before .before in
-    let a = s .args in
-    append-made (a .c) (a .nodes .now) (a .names .now) (a .lines .now) (a .pool .now) (a .journal .now)
-    (a .node) (a .section) (a .language) (a .token .now) (s .pre)
+    let d = c .before .before .before .before .before .before .before .before .before .before in
+    let k = d .before .before .before .before .before in
+    let p = put k in
+    append-made (layout (edited (roomy p))) _ _ _ _
     (p .before .before .before .edition-of .result) (p .before .before .before .edition-of .ensures) (p .put-token .result) _ (p .put-token .ensures)
-    (sym (i .before .has-row .ensures) ∙ not-false _ (i .if1 .left))
-    (sym (k .before .has-edit .ensures) ∙ not-false _ (k .if2 .left)) _ _ _ _ _
-    (d .before .before .before .before .class .given .1) (d .before .before .class-number .ensures) (d .put-four .ensures) (c .before .before .before .before .before .put-two .ensures) _ refl
+    (row (rowed (roomy p))) (edit (roomy p)) _ _ _ _ _ _
+    (k .class .given .1) (d .before .before .before .class-number .ensures) (d .before .before .code-of .ensures) (d .put-line .ensures)
+    (c .before .before .before .before .before .before .put-two .ensures) _ (c .counts-with .ensures)
 
 pub append-spec : {M : Type 1} → statement M
 append-spec =
@@ -227,19 +214,16 @@ append-spec =
     enum-known-no
     enum-known-class
     class-number-requires
-    mul-code
-    mul-code-2
-    add-code
-    add-code-2
-    mul-put-four
-    cast-put-four
-    put-four-requires
+    code-of-requires
+    cast-put-line
+    put-line-requires
     mul-put-two
     put-two-requires
-    add-t34
-    cast-t32
-    add-t33
-    add-t31
+    add-counts-with
+    cast-counts-with
+    add-counts-with-2
+    add-counts-with-3
+    counts-with-requires
     same-length-4
     same-length-5
     same-length-6

@@ -14,17 +14,20 @@ abbrev μ-loop : tie.MeasureT-loop
 loop-holds : tie.Need-loop-holds Inv-loop μ-loop
 loop-holds c = search none-starts
 
-mul-if1 : tie.Need-mul-if1 Inv-loop μ-loop
-mul-if1 c = search needs
+mul-is-struck : tie.Need-mul-is-struck Inv-loop μ-loop
+mul-is-struck c = search needs
 
-add-if1 : tie.Need-add-if1 Inv-loop μ-loop
-add-if1 c = search needs
+add-is-struck : tie.Need-add-is-struck Inv-loop μ-loop
+add-is-struck c = search needs
 
-mul-if1-2 : tie.Need-mul-if1-2 Inv-loop μ-loop
-mul-if1-2 c = search needs
+mul-is-struck-2 : tie.Need-mul-is-struck-2 Inv-loop μ-loop
+mul-is-struck-2 c = search needs
 
-shared-slice-read-if1 : tie.Need-shared-slice-read-if1 Inv-loop μ-loop
-shared-slice-read-if1 c = search needs
+shared-slice-read-is-struck : tie.Need-shared-slice-read-is-struck Inv-loop μ-loop
+shared-slice-read-is-struck c = search needs
+
+is-struck-requires : tie.Need-is-struck-requires Inv-loop μ-loop
+is-struck-requires c κs = search needs
 
 returns : tie.Need-returns Inv-loop μ-loop
 returns c = search none-stops
@@ -48,10 +51,11 @@ none-struck-spec =
     Inv-loop
     μ-loop
     loop-holds
-    mul-if1
-    add-if1
-    mul-if1-2
-    shared-slice-read-if1
+    mul-is-struck
+    add-is-struck
+    mul-is-struck-2
+    shared-slice-read-is-struck
+    is-struck-requires
     returns
     add-i
     loop-less

@@ -2,6 +2,7 @@
 use Prim.Native.Nat.{_+_, _-_, _*_, _≤_}
 use native.Mathlib.Omega.{arith}
 use lib.ListN.{getD}
+use Rattle.book.specs.Layout.{line-width}
 use Rattle.trial_settle.proofs.Sifting.{Sifting, sift-starts, sift-fits, sift-skips, sift-keeps, sift-ends}
 use Rattle.trial_settle.proofs.settling.pack_standing.Statement.{statement}
 use Rattle.trial_settle.proofs.settling.pack_standing.Tie as tie
@@ -13,8 +14,12 @@ abbrev μ-loop : tie.MeasureT-loop
 μ-loop lines₀ pool₀ n i₀ read₀ j₀ written₀ lines pool i read j written = n - i
 
 -- in a turn the bytes of the line end within those of all
-turn : (c : tie.In-loop Inv-loop μ-loop) → let t = c .before .loop in t .read + getD (t .lines) (4 * t .i + 3) 0 ≤ t .inv .asked .total
-turn c = let t = c .before .loop in sift-fits _ _ _ (t .lines) (t .pool) (t .i) (t .read) (t .j) (t .written) (t .inv) (c .loop-test .taken)
+turn : (c : tie.After-slice-known5 Inv-loop μ-loop)
+    → let t = c .before .before .before .before .loop in t .read + getD (t .lines) (line-width * t .i + 3) 0 ≤ t .inv .asked .total
+turn c =
+    let u = c .before .before .before in
+    let t = u .before .loop in
+    sift-fits _ _ _ (t .lines) (t .pool) (t .i) (t .read) (t .j) (t .written) (t .inv) (u .loop-test .taken)
 
 loop-holds : tie.Need-loop-holds Inv-loop μ-loop
 loop-holds c = search sift-starts
@@ -47,40 +52,43 @@ slice-read-size : tie.Need-slice-read-size Inv-loop μ-loop
 slice-read-size c = omega arith
 
 cast-size : tie.Need-cast-size Inv-loop μ-loop
-cast-size c = omega (arith, turn (c .before .before .before))
+cast-size c = omega (arith, turn c)
 
 add-read : tie.Need-add-read Inv-loop μ-loop
-add-read c = omega (arith, turn (c .before .before .before))
+add-read c = omega (arith, turn c)
 
 add-i : tie.Need-add-i Inv-loop μ-loop
 add-i c = omega arith
+
+is-struck-requires : tie.Need-is-struck-requires Inv-loop μ-loop
+is-struck-requires c κs = omega arith
 
 loop-less : tie.Need-loop-less Inv-loop μ-loop
 loop-less c = omega arith
 
 loop-again : tie.Need-loop-again Inv-loop μ-loop
-loop-again c = search sift-skips
+loop-again c =
+    let u = c .before .before .before .before .before in
+    let t = u .before .loop in
+    sift-skips _ _ _ (t .lines) (t .pool) (t .i) (t .read) (t .j) (t .written) (t .inv) (u .loop-test .taken) _ (c .before .is-struck .ensures) (c .if1 .taken)
 
-mul-put-four : tie.Need-mul-put-four Inv-loop μ-loop
-mul-put-four c = omega arith
+cast-put-line : tie.Need-cast-put-line Inv-loop μ-loop
+cast-put-line c = omega arith
 
-cast-put-four : tie.Need-cast-put-four Inv-loop μ-loop
-cast-put-four c = omega arith
+cast-put-line-2 : tie.Need-cast-put-line-2 Inv-loop μ-loop
+cast-put-line-2 c = omega (arith, turn (c .before .before .before))
 
-cast-put-four-2 : tie.Need-cast-put-four-2 Inv-loop μ-loop
-cast-put-four-2 c = omega (arith, turn (c .before .before .before .before .before))
-
-put-four-requires : tie.Need-put-four-requires Inv-loop μ-loop
-put-four-requires c κs = omega arith
+put-line-requires : tie.Need-put-line-requires Inv-loop μ-loop
+put-line-requires c κs = omega arith
 
 move-down-requires : tie.Need-move-down-requires Inv-loop μ-loop
-move-down-requires c κs = omega (arith, turn (c .before .before .before .before .before .before .before .before .before))
+move-down-requires c κs = omega (arith, turn (c .before .before .before .before .before .before .before))
 
 add-j : tie.Need-add-j Inv-loop μ-loop
 add-j c = omega arith
 
 add-written : tie.Need-add-written Inv-loop μ-loop
-add-written c = omega (arith, turn (c .before .before .before .before .before .before .before .before .before .before .before .before))
+add-written c = omega (arith, turn (c .before .before .before .before .before .before .before .before .before .before))
 
 loop-less-2 : tie.Need-loop-less-2 Inv-loop μ-loop
 loop-less-2 c = omega arith
@@ -88,10 +96,11 @@ loop-less-2 c = omega arith
 loop-again-2 : tie.Need-loop-again-2 Inv-loop μ-loop
 loop-again-2 c =
     let r = c .before .before .before .before .before .before in
-    let u = r .before .before .before .before .before .before in
+    let k = r .before .before in
+    let u = k .before .before .before .before .before in
     let t = u .before .loop in
-    sift-keeps _ _ _ (t .lines) (t .pool) (t .i) (t .read) (t .j) (t .written) (t .inv) (u .loop-test .taken) _ _ (r .before .before .if1 .left)
-    (r .put-four .ensures) (c .before .before .move-down .ensures)
+    sift-keeps _ _ _ (t .lines) (t .pool) (t .i) (t .read) (t .j) (t .written) (t .inv) (u .loop-test .taken) _ _
+    _ (k .before .is-struck .ensures) (k .if1 .left) (r .put-line .ensures) (c .before .before .move-down .ensures)
 
 mul-left : tie.Need-mul-left Inv-loop μ-loop
 mul-left c = omega arith
@@ -126,11 +135,11 @@ part-clear-bytes-end c = omega arith
 clear-bytes-requires : tie.Need-clear-bytes-requires Inv-loop μ-loop
 clear-bytes-requires c κs = omega arith
 
-cast-t37 : tie.Need-cast-t37 Inv-loop μ-loop
-cast-t37 c = omega arith
-
 cast-t38 : tie.Need-cast-t38 Inv-loop μ-loop
 cast-t38 c = omega arith
+
+cast-t39 : tie.Need-cast-t39 Inv-loop μ-loop
+cast-t39 c = omega arith
 
 same-length : tie.Need-same-length Inv-loop μ-loop
 same-length c = omega arith
@@ -164,12 +173,12 @@ pack-standing-spec =
     cast-size
     add-read
     add-i
+    is-struck-requires
     loop-less
     loop-again
-    mul-put-four
-    cast-put-four
-    cast-put-four-2
-    put-four-requires
+    cast-put-line
+    cast-put-line-2
+    put-line-requires
     move-down-requires
     add-j
     add-written
@@ -186,8 +195,8 @@ pack-standing-spec =
     part-clear-bytes-start
     part-clear-bytes-end
     clear-bytes-requires
-    cast-t37
     cast-t38
+    cast-t39
     same-length
     same-length-2
     returns)

@@ -1,9 +1,16 @@
 -- `settle_lines` meets its contract: nothing is changed where none is struck, or the lines that stand are packed. Assumes nothing.
 use borrow.Author.Needs.{needs}
-use Rattle.book.specs.Layout.{five}
+use Rattle.book.specs.Layout.{Buffers, five}
 use Rattle.trial_settle.proofs.Settles.{journal-part, journal-room, lines-asked, lines-room, settle-done, settle-none}
 use Rattle.trial_settle.proofs.settling.settle_lines.Statement.{statement}
 use Rattle.trial_settle.proofs.settling.settle_lines.Tie as tie
+
+-- the entry
+abbrev entry : tie.After-none-struck → tie.Start
+entry c = c .before .before .before .before .before .before .before .before .before
+
+abbrev lent : tie.Start → Buffers
+lent s = let a = s .args in five (a .nodes .now) (a .names .now) (a .lines .now) (a .pool .now) (a .journal .now)
 
 cast-n : tie.Need-cast-n
 cast-n c = search needs
@@ -19,9 +26,9 @@ same-length-2 c = search needs
 
 returns : tie.Need-returns
 returns c =
-    let k = c .before .before .before .before .before .before .before .before .before .before in
-    settle-none (k .args .c) (five (k .args .nodes .now) (k .args .names .now) (k .args .lines .now) (k .args .pool .now) (k .args .journal .now)) (k .pre)
-    (c .before .none-struck .result) (c .before .none-struck .ensures) (c .if1 .taken)
+    let n = c .before in
+    let k = entry n in
+    settle-none (k .args .c) (lent k) (k .pre) _ (n .none-struck .ensures) (c .if1 .taken)
 
 pack-standing-requires : tie.Need-pack-standing-requires
 pack-standing-requires c κs = search lines-asked
@@ -41,6 +48,9 @@ slice-aggregate-clear-numbers c = search journal-part
 clear-numbers-requires : tie.Need-clear-numbers-requires
 clear-numbers-requires c κs = search needs
 
+counts-with-requires : tie.Need-counts-with-requires
+counts-with-requires c κs = search needs
+
 same-length-3 : tie.Need-same-length-3
 same-length-3 c = search needs
 
@@ -52,12 +62,11 @@ same-length-5 c = search needs
 
 returns-2 : tie.Need-returns-2
 returns-2 c =
-    let s = c .before .before .before .before .before .before .before .before .before in
+    let s = c .before .before .before .before .before .before .before .before .before .before in
     let n = s .before .before .before .before in
-    let k = n .before .before .before .before .before .before .before .before .before in
-    settle-done (k .args .c) (five (k .args .nodes .now) (k .args .names .now) (k .args .lines .now) (k .args .pool .now) (k .args .journal .now)) (k .pre)
-    (n .none-struck .result) (s .pack-standing .result) _ _ _ (n .none-struck .ensures) (s .before .before .before .if1 .left) (s .pack-standing .ensures)
-    (c .before .before .clear-numbers .ensures)
+    let k = entry n in
+    settle-done (k .args .c) (lent k) (k .pre) _ (s .pack-standing .result) _ _ _ _ (n .none-struck .ensures)
+    (s .before .before .before .if1 .left) (s .pack-standing .ensures) (c .before .before .before .clear-numbers .ensures) (c .counts-with .ensures)
 
 pub settle-lines-spec : {M : Type 1} → statement M
 settle-lines-spec =
@@ -74,6 +83,7 @@ settle-lines-spec =
     slice-relend-prefix-clear-numbers
     slice-aggregate-clear-numbers
     clear-numbers-requires
+    counts-with-requires
     same-length-3
     same-length-4
     same-length-5

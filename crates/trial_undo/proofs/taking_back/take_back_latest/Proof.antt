@@ -3,9 +3,14 @@ use Prim.Native.Nat.{_+_, _-_, _*_}
 use mathlib.Core.Path.{refl}
 use native.Mathlib.Omega.{arith}
 use borrow.Author.Needs.{needs}
+use Rattle.book.specs.Layout.{edit-width}
 use Rattle.trial_undo.proofs.Backs.{added-back, struck-back}
 use Rattle.trial_undo.proofs.taking_back.take_back_latest.Statement.{statement}
 use Rattle.trial_undo.proofs.taking_back.take_back_latest.Tie as tie
+
+-- the entry, from where the journal's row is cleared
+abbrev entry : tie.After-put-two → tie.Start
+entry c = c .before .before .before .before .before .before .before .before
 
 sub-at : tie.Need-sub-at
 sub-at c = search needs
@@ -34,7 +39,7 @@ slice-read-line c = search needs
 cast-line : tie.Need-cast-line
 cast-line c =
     let s = c .before .before .before .before .before .before in
-    omega (arith, c .slice-known5 .given (2 * (s .args .c .edits - 1) + 1))
+    omega (arith, c .slice-known5 .given (edit-width * (s .args .c .edits - 1) + 1))
 
 put-two-requires : tie.Need-put-two-requires
 put-two-requires c κs = search needs
@@ -45,16 +50,19 @@ cast-undo-add c = search needs
 undo-add-requires : tie.Need-undo-add-requires
 undo-add-requires c κs =
     let t = c .before .before .before in
-    let h = t .before .before .before .before .before .before .before .before .before .before .before .pre .of-add (t .if1 .taken) in
+    let h = entry (t .before .before .before) .pre .of-add (t .if1 .taken) in
     (h .0, h .1, h .2)
 
-sub-t23 : tie.Need-sub-t23
-sub-t23 c =
+sub-counts-with : tie.Need-sub-counts-with
+sub-counts-with c =
     let t = c .before .before .before .before .before .before .before .before .before in
-    t .before .before .before .before .before .before .before .before .before .before .before .pre .of-add (t .if1 .taken) .3
+    entry (t .before .before .before) .pre .of-add (t .if1 .taken) .3
 
-sub-t24 : tie.Need-sub-t24
-sub-t24 c = search needs
+sub-counts-with-2 : tie.Need-sub-counts-with-2
+sub-counts-with-2 c = search needs
+
+counts-with-requires : tie.Need-counts-with-requires
+counts-with-requires c κs = search needs
 
 same-length : tie.Need-same-length
 same-length c = search needs
@@ -67,17 +75,20 @@ same-length-3 c = search needs
 
 returns : tie.Need-returns
 returns c =
-    let u = c .before .before .before .before .before .before in
+    let u = c .before .before .before .before .before .before .before in
     let t = u .before .before .before .before in
-    added-back _ _ _ _ _ _ _ (t .before .before .before .put-two .ensures) _ (t .if1 .taken) (u .undo-add .ensures)
+    added-back _ _ _ _ _ _ _ _ (t .before .before .before .put-two .ensures) _ (t .if1 .taken) (u .undo-add .ensures) (c .counts-with .ensures)
 
 undo-strike-requires : tie.Need-undo-strike-requires
 undo-strike-requires c κs =
     let t = c .before in
-    t .before .before .before .before .before .before .before .before .before .before .before .pre .of-strike (t .if1 .left)
+    entry (t .before .before .before) .pre .of-strike (t .if1 .left)
 
-sub-t9 : tie.Need-sub-t9
-sub-t9 c = search needs
+sub-counts-with-3 : tie.Need-sub-counts-with-3
+sub-counts-with-3 c = search needs
+
+counts-with-requires-2 : tie.Need-counts-with-requires-2
+counts-with-requires-2 c κs = search needs
 
 same-length-4 : tie.Need-same-length-4
 same-length-4 c = search needs
@@ -87,9 +98,9 @@ same-length-5 c = search needs
 
 returns-2 : tie.Need-returns-2
 returns-2 c =
-    let u = c .before .before .before in
+    let u = c .before .before .before .before in
     let t = u .before .before in
-    struck-back _ _ _ _ _ _ _ (t .before .before .before .put-two .ensures) (t .if1 .left) (u .undo-strike .ensures) refl
+    struck-back _ _ _ _ _ _ _ _ (t .before .before .before .put-two .ensures) (t .if1 .left) (u .undo-strike .ensures) refl (c .counts-with2 .ensures)
 
 pub take-back-latest-spec : {M : Type 1} → statement M
 take-back-latest-spec =
@@ -107,14 +118,16 @@ take-back-latest-spec =
     put-two-requires
     cast-undo-add
     undo-add-requires
-    sub-t23
-    sub-t24
+    sub-counts-with
+    sub-counts-with-2
+    counts-with-requires
     same-length
     same-length-2
     same-length-3
     returns
     undo-strike-requires
-    sub-t9
+    sub-counts-with-3
+    counts-with-requires-2
     same-length-4
     same-length-5
     returns-2)
