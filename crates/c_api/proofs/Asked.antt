@@ -1,11 +1,10 @@
--- Each question of a lent book (src/lib.rt) from what the library answered (x) and what was told of it. l is the counts that were lent, b the buffers, and `out`
--- the place of the value; c is the counts that the library was given. Assumes nothing.
+-- Each question of a lent book (src/lent_questions.rt) from what the library answered (x) and what was told of it. l is the counts that were lent, b the
+-- buffers, and `out` the place of the value; c is the counts that the library was given. Assumes nothing.
 use Prim.Native.Nat.{ℕ}
 use mathlib.Core.Path.{_≡_}
 use mathlib.Core.List.{List}
 use mathlib.Core.Option.{Option}
 use Rattle.book.specs.declared.Counts.{Counts}
-use Rattle.book.specs.Books.{Book}
 use Rattle.book.specs.Layout.{Buffers}
 use Rattle.book.specs.View.{view}
 use Rattle.ranking.specs.Matching.{Name}

@@ -1,4 +1,5 @@
-// A book that is lent as numbers and slices, the way a C program has it: its counts, six numbers, a number handed back, and what an edit answered. Definitions: specs/Calls.antt.
+// A book that is lent as numbers and slices, the way a C program has it: its counts, six numbers, a number handed back, and what an edit answered.
+// Definitions: specs/Calls.antt.
 ghost use mathlib.Core.Path.{_≡_};
 ghost use Rattle.c_lending.specs.Calls.{Finishes, counts-put, lent-counts, number-told, value-left};
 use book::Counts;

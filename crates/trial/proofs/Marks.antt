@@ -23,7 +23,9 @@ module _ (c : Counts) (b : Buffers) (w : Book) (t : Layout c b w) (i : ℕ) (h :
 
   pub line-code : getD (b .lines) (line-width * i + 1) 0 ≡ code-of (line-at (w .lines) i)
   unfolding line-form
-  line-code = row-cell line-form (line-laws (c .kind) (c .nodes)) (c .lines) (c .pool) (b .lines) (b .pool) (w .lines) (t .lines) i no-line line-within 1 (omega arith)
+  line-code =
+      row-cell line-form (line-laws (c .kind) (c .nodes)) (c .lines) (c .pool) (b .lines) (b .pool) (w .lines) (t .lines) i no-line
+      line-within 1 (omega arith)
 
   pub line-right : line-ok (c .kind) (c .nodes) (line-at (w .lines) i) ≡ true
   line-right = every-at (line-ok (c .kind) (c .nodes)) (w .lines) i no-line (t .lines .all) line-within

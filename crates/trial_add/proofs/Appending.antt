@@ -1,5 +1,5 @@
--- What `append` of src/adding.rt answers and leaves in the buffers: a token is refused, or has no row, or no edit, and then nothing changes; or the line is there
--- with its edit. The premises are what the code learned. Assumes nothing.
+-- What `append` of src/adding.rt answers and leaves in the buffers: a token is refused, or has no row, or no edit, and then nothing changes; or the line is
+-- there with its edit. The premises are what the code learned. Assumes nothing.
 use Prim.Native.Nat.{ℕ, _+_, _*_, _≤_}
 use mathlib.Core.Path.{_≡_, refl, sym, ap, _∙_}
 use mathlib.Core.List.{List, [], _∷_, _++_}
@@ -174,8 +174,8 @@ module _ {c : Counts} {b : Buffers} (layout : Layout c b (book-of c b)) where
             let e : code-of line ≡ code = omega arith in
             let lines-laid = row-laid line-form (line-laws (c .kind) (c .nodes)) (c .lines) (c .pool) (b .lines) (b .pool) (book .lines) (layout .lines) line l′
             (omega (arith, row-within (b .lines) (c .lines) f)) (rw (e, ← z) a) in
-            let pool-laid = bytes-laid line-form (line-laws (c .kind) (c .nodes)) (c .lines) (c .pool) (b .lines) (b .pool) (book .lines) (layout .lines) line q′
-            (omega (arith, room-length (b .pool))) p in
+            let pool-laid = bytes-laid line-form (line-laws (c .kind) (c .nodes)) (c .lines) (c .pool) (b .lines) (b .pool) (book .lines) (layout .lines) line
+            q′ (omega (arith, room-length (b .pool))) p in
             let journal-laid = row-laid edit-form edit-laws (c .edits) 0 (b .journal) [] (book .edits) (layout .edits)
             (record { what = add; line = length (book .lines) }) j′ (omega (arith, edit-within (b .journal) (c .edits) g)) (rw (← layout .lines .count) d) in
             λ v. record { nodes = layout .nodes .lined v; names = layout .nodes .pooled v; lines = lines-laid v; pool = pool-laid v; journal = journal-laid v }

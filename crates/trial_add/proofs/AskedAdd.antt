@@ -12,58 +12,62 @@ use Rattle.lists.proofs.Tests.{both}
 use Rattle.linker_script.specs.Trim.{trim-end}
 use Rattle.book.specs.declared.Counts.{Counts}
 use Rattle.book.specs.Books.{rust}
-use Rattle.book.specs.Layout.{Buffers, five}
+use Rattle.book.specs.Layout.{Buffers}
 use Rattle.book.specs.Sanity.{sane}
-use Rattle.book.specs.View.{book-of, holds, laid, view}
+use Rattle.book.specs.View.{book-of, holds, laid}
 use Rattle.book.proofs.Asking.{Held, asked-none, asked-held}
 use Rattle.trial.specs.declared.Edited.{Edited}
 use Rattle.trial.specs.declared.Edited.the-variants as answer
 use Rattle.trial.specs.Changes.{Answers, Makes, after, edited}
 use Rattle.trial.specs.Trial.{add-asked, append, may-stand, may-stand-in}
 
-module _ (c : Counts) (n m l q j : List ℕ) (node section language : ℕ) (t : List ℕ) (x : Bool) (e : x ≡ holds c (five n m l q j)) where
-  abbrev lent : Buffers
-  lent = five n m l q j
+-- ---- r is answered, and b′ left
+abbrev pub Adds : Counts → Buffers → ℕ → ℕ → ℕ → List ℕ → Edited → Buffers → Type 0
+Adds c b node section language t = Answers c b (λ b w. add-asked b w node section language t)
 
-  abbrev Adds : Edited → Buffers → Type 0
-  Adds = Answers c lent (λ b w. add-asked b w node section language t)
+-- the buffers hold a book that takes lines
+pub record Taking (c : Counts) (b : Buffers) : Type 0 where
+  pub held : Held c b
+  pub laid : laid c b ≡ true
+  pub kind : eqb (book-of c b .kind) rust ≡ false
 
-  pub add-no-book : not x ≡ true → Adds (answer.Refused no-book) lent
+module _ (c : Counts) (b : Buffers) (x : Bool) (e : x ≡ holds c b) where
+  pub add-no-book : (node section language : ℕ) (t : List ℕ) → not x ≡ true → Adds c b node section language t (answer.Refused no-book) b
   unfolding add-asked edited after
-  add-no-book h = rw (asked-none c lent x e h) (refl, refl)
+  add-no-book node section language t h = rw (asked-none c b x e h) (refl, refl)
 
   module _ (h : not x ≡ false) where
-    held : Held c lent
-    held = asked-held c lent x e h
-
-    pub add-rust : c .kind ≡ rust → Adds (answer.Refused wrong-kind) lent
+    pub add-rust : (node section language : ℕ) (t : List ℕ) → c .kind ≡ rust → Adds c b node section language t (answer.Refused wrong-kind) b
     unfolding add-asked edited after book-of
-    add-rust k = rw (held .viewed, eq-eqb _ _ k) (refl, refl)
+    add-rust node section language t k = rw (asked-held c b x e h .viewed, eq-eqb _ _ k) (refl, refl)
 
-    module _ (k : c .kind ≡ rust → ⊥) (y : Bool)
-        (f : y ≡ may-stand-in (c .kind) (c .nodes) node section language) where
-      stands-is : may-stand (book-of c lent) node section language ≡ y
-      unfolding may-stand book-of
-      stands-is = ap (λ (i : ℕ). may-stand-in (c .kind) i node section language) (held .count) ∙ sym f
+    pub add-taking : (c .kind ≡ rust → ⊥) → Taking c b
+    unfolding holds book-of
+    add-taking k = record {
+      held = asked-held c b x e h;
+      laid = both (laid c b) (sane (book-of c b)) (sym e ∙ not-false x h) .0;
+      kind = ne-eqb (c .kind) rust k;
+    }
 
-      kind-is : eqb (book-of c lent .kind) rust ≡ false
-      unfolding book-of
-      kind-is = ne-eqb (c .kind) rust k
+module _ {c : Counts} {b : Buffers} (h : Taking c b) (node section language : ℕ) (y : Bool)
+    (f : y ≡ may-stand-in (c .kind) (c .nodes) node section language) where
+  stands-is : may-stand (book-of c b) node section language ≡ y
+  unfolding may-stand book-of
+  stands-is = ap (λ (i : ℕ). may-stand-in (c .kind) i node section language) (h .held .count) ∙ sym f
 
-      pub add-unplaced : not y ≡ true → Adds (answer.Refused no-such) lent
-      unfolding add-asked edited after
-      add-unplaced g = rw (held .viewed, kind-is, stands-is, not-true y g) (refl, refl)
+  pub add-unplaced : (t : List ℕ) → not y ≡ true → Adds c b node section language t (answer.Refused no-such) b
+  unfolding add-asked edited after
+  add-unplaced t g = rw (h .held .viewed, h .kind, stands-is, not-true y g) (refl, refl)
 
-      module _ (g : not y ≡ false) where
-        pub asks-append : (laid c lent ≡ true) × (node < c .nodes) × (section ≤ local) × (language ≤ cxx)
-        unfolding holds
-        asks-append =
-            let a = both (ltb node (c .nodes)) _ (sym f ∙ not-false y g) in
-            let b = both (leb section local) _ (a .1) in
-            let d = both (leb language cxx) _ (b .1) in
-            (both (laid c lent) (sane (book-of c lent)) (sym e ∙ not-false x h) .0, ltb-true _ _ (a .0), leb-true _ _ (b .0), leb-true _ _ (d .0))
+  module _ (g : not y ≡ false) where
+    pub asks-append : (laid c b ≡ true) × (node < c .nodes) × (section ≤ local) × (language ≤ cxx)
+    asks-append =
+        let a = both (ltb node (c .nodes)) _ (sym f ∙ not-false y g) in
+        let k = both (leb section local) _ (a .1) in
+        let d = both (leb language cxx) _ (k .1) in
+        (h .laid, ltb-true _ _ (a .0), leb-true _ _ (k .0), leb-true _ _ (d .0))
 
-        pub add-appended : (s : List ℕ) (r : Edited) (b : Buffers) → s ≡ trim-end t
-            → Makes c lent (λ b w. append b w node section language s) r b → Adds r b
-        unfolding add-asked
-        add-appended s r b z w = rw (held .viewed, kind-is, stands-is, not-false y g, ← z) w
+    pub add-appended : (s t : List ℕ) (r : Edited) (b′ : Buffers) → s ≡ trim-end t → Makes c b (λ b w. append b w node section language s) r b′
+        → Adds c b node section language t r b′
+    unfolding add-asked
+    add-appended s t r b′ z w = rw (h .held .viewed, h .kind, stands-is, not-false y g, ← z) w

@@ -123,7 +123,8 @@ module _ (n : ℕ) (l₀ p₀ : List ℕ) where
 
       -- a line that stands is packed
       pub sift-keeps : (l′ p′ : List ℕ) (u : Bool) → u ≡ has-mark (getD l (line-width * i + 1) 0) → u ≡ false
-          → l′ ≡ paste l (line-width * j) (row-of-line (getD l (line-width * i) 0) (getD l (line-width * i + 1) 0) written (getD l (line-width * i + 3) 0)) line-width
+          → l′
+          ≡ paste l (line-width * j) (row-of-line (getD l (line-width * i) 0) (getD l (line-width * i + 1) 0) written (getD l (line-width * i + 3) 0)) line-width
           → p′ ≡ paste p written (take (getD l (line-width * i + 3) 0) (drop read p)) (getD l (line-width * i + 3) 0)
           → Sifting n l₀ p₀ l′ p′ (i + 1) (read + getD l (line-width * i + 3) 0) (j + 1) (written + getD l (line-width * i + 3) 0)
       unfolding line-form

@@ -57,7 +57,8 @@ module _ (c : Counts) (b : Buffers) (w : Book) (t : Layout c b w) (i : ℕ) wher
         unfolding line-form edit-form edit-ok
         struck-layout l′ j′ el ej =
             let x = line-at (w .lines) i in
-            let s : getD (b .lines) (line-width * i + 1) 0 + struck-mark ≡ code-of (marked 1 x) = omega (arith, line-code c b w t i h, code-stands c b w t i h g) in
+            let s : getD (b .lines) (line-width * i + 1) 0 + struck-mark ≡ code-of (marked 1 x)
+            = omega (arith, line-code c b w t i h, code-stands c b w t i h g) in
             record {
               kind = t .kind;
               limits = record {
@@ -138,7 +139,8 @@ module _ {c : Counts} {b : Buffers} {i : ℕ} (r : Roomy c b i) where
 
   pub strike-done : (d : Counts) (l′ j′ : List ℕ) → d ≡ counts-with c (c .lines) (c .pool) (c .edits + 1)
       → l′ ≡ set (b .lines) (line-width * i + 1) (getD (b .lines) (line-width * i + 1) 0 + struck-mark)
-      → j′ ≡ paste (b .journal) (edit-width * c .edits) (strike ∷ i ∷ []) edit-width → Strikes c b i (answer.Done d) (five (b .nodes) (b .names) l′ (b .pool) j′)
+      → j′ ≡ paste (b .journal) (edit-width * c .edits) (strike ∷ i ∷ []) edit-width
+      → Strikes c b i (answer.Done d) (five (b .nodes) (b .names) l′ (b .pool) j′)
   strike-done d l′ j′ ed el ej =
       let t = r .told in
       rw ed

@@ -15,59 +15,63 @@ use Rattle.lists.proofs.Tests.{both}
 use Rattle.reading.specs.Events.{reading}
 use Rattle.book.specs.declared.Counts.{Counts}
 use Rattle.book.specs.Books.{export}
-use Rattle.book.specs.Layout.{Buffers, five}
+use Rattle.book.specs.Layout.{Buffers}
 use Rattle.book.specs.Sanity.{nodes-good, sane}
 use Rattle.book.specs.View.{book-of, holds, laid, view}
 use Rattle.book.proofs.Asking.{Held, asked-held, asked-none}
 use Rattle.trial.specs.declared.Edited.{Edited}
 use Rattle.trial.specs.declared.Edited.the-variants as answer
-use Rattle.trial.specs.Changes.{Answers, Change, Makes}
+use Rattle.trial.specs.Changes.{Answers, Makes}
 use Rattle.trial.specs.Symbols.{add-reading, symbol-asked, symbol-place}
 use Rattle.trial.proofs.AddedLines.{some-node}
 use Rattle.trial.proofs.Answers.{refusal-answers}
 
-module _ (c : Counts) (n m l q j s : List ℕ) (bare : Bool) (x : Bool) (e : x ≡ holds c (five n m l q j)) where
-  abbrev lent : Buffers
-  lent = five n m l q j
+-- ---- r is answered, and b′ left
+abbrev pub Adds : Counts → Buffers → List ℕ → Bool → Edited → Buffers → Type 0
+Adds c b s bare = Answers c b (λ b w. symbol-asked b w s bare)
 
-  abbrev asked : Change
-  asked = symbol-asked lent (view c lent) s bare
+-- the buffers hold an export list
+pub record Listed (c : Counts) (b : Buffers) : Type 0 where
+  pub held : Held c b
+  pub laid : laid c b ≡ true
+  pub node : 0 < c .nodes
+  pub kind : c .kind ≡ export
 
-  abbrev Adds : Edited → Buffers → Type 0
-  Adds = Answers c lent (λ b w. symbol-asked b w s bare)
-
-  pub symbol-no-book : not x ≡ true → Adds (answer.Refused no-book) lent
+module _ (c : Counts) (b : Buffers) (x : Bool) (e : x ≡ holds c b) where
+  pub symbol-no-book : (s : List ℕ) (bare : Bool) → not x ≡ true → Adds c b s bare (answer.Refused no-book) b
   unfolding symbol-asked
-  symbol-no-book h = refusal-answers lent asked no-book (rw (asked-none c lent x e h))
+  symbol-no-book s bare h = refusal-answers b _ no-book (rw (asked-none c b x e h))
 
   module _ (h : not x ≡ false) where
-    book-held : Held c lent
-    book-held = asked-held c lent x e h
-
-    pub symbol-kind : (c .kind ≡ export → ⊥) → Adds (answer.Refused wrong-kind) lent
+    pub symbol-kind : (s : List ℕ) (bare : Bool) → (c .kind ≡ export → ⊥) → Adds c b s bare (answer.Refused wrong-kind) b
     unfolding symbol-asked book-of
-    symbol-kind k = refusal-answers lent asked wrong-kind (rw (book-held .viewed, ne-eqb (c .kind) export k))
+    symbol-kind s bare k = refusal-answers b _ wrong-kind (rw (asked-held c b x e h .viewed, ne-eqb (c .kind) export k))
 
-    module _ (k : c .kind ≡ export) where
-      pub symbol-long : token-limit < length s → Adds (answer.Refused too-long) lent
-      unfolding symbol-asked book-of
-      symbol-long f = refusal-answers lent asked too-long (rw (book-held .viewed, eq-eqb (c .kind) export k, lt-ltb token-limit (length s) f))
+    pub symbol-listed : c .kind ≡ export → Listed c b
+    unfolding holds sane
+    symbol-listed k =
+        let g = both (laid c b) _ (sym e ∙ not-false x h) in
+        let a = some-node (book-of c b .nodes) (both (nodes-good (book-of c b .nodes)) _ (g .1) .0) in
+        let held = asked-held c b x e h in
+        record { held = held; laid = g .0; node = omega (arith, a, held .count); kind = k }
 
-      pub lines-asks : (laid c lent ≡ true) × (0 < c .nodes) × (c .kind ≡ export)
-      unfolding holds sane
-      lines-asks =
-          let g = both (laid c lent) _ (sym e ∙ not-false x h) in
-          let a = some-node (book-of c lent .nodes) (both (nodes-good (book-of c lent .nodes)) _ (g .1) .0) in
-          (g .0, omega (arith, a, book-held .count), k)
+module _ {c : Counts} {b : Buffers} (h : Listed c b) where
+  pub lines-asks : (laid c b ≡ true) × (0 < c .nodes) × (c .kind ≡ export)
+  lines-asks = (h .laid, h .node, h .kind)
 
-      kind-held : eqb (book-of c lent .kind) export ≡ true
-      unfolding book-of
-      kind-held = eq-eqb (c .kind) export k
+  module _ (s : List ℕ) (bare : Bool) where
+    pub symbol-long : token-limit < length s → Adds c b s bare (answer.Refused too-long) b
+    unfolding symbol-asked book-of
+    symbol-long f = refusal-answers b _ too-long (rw (h .held .viewed, eq-eqb (c .kind) export (h .kind), lt-ltb token-limit (length s) f))
 
-      pub symbol-added : length s ≤ token-limit → (place : ℕ) → place ≡ symbol-place bare → (r : Edited) (b : Buffers)
-          → Makes c lent (λ b w. add-reading b s w (reading reld place s)) r b → Adds r b
-      unfolding symbol-asked
-      symbol-added f place z r b t =
-          let o : asked ≡ add-reading lent s (book-of c lent) (reading reld place s)
-          = rw (book-held .viewed, kind-held, le-ltb token-limit (length s) f, z) in
-          rw o t
+    kind-held : eqb (book-of c b .kind) export ≡ true
+    unfolding book-of
+    kind-held = eq-eqb (c .kind) export (h .kind)
+
+    pub symbol-added : length s ≤ token-limit → (place : ℕ) → place ≡ symbol-place bare → (r : Edited) (b′ : Buffers)
+        → Makes c b (λ b w. add-reading b s w (reading reld place s)) r b′ → Adds c b s bare r b′
+    unfolding symbol-asked
+    symbol-added f place z r b′ t =
+        let o : symbol-asked b (view c b) s bare ≡ add-reading b s (book-of c b) (reading reld place s)
+        = rw (h .held .viewed, kind-held, le-ltb token-limit (length s) f, z) in
+        rw o t

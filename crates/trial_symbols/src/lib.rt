@@ -16,7 +16,6 @@ use reading_cursors::places::AT_BARE;
 use reading_cursors::places::AT_SYMBOL;
 use trial::Edited;
 
-pub mod clearing;
 pub mod events;
 pub mod lines;
 

@@ -94,6 +94,9 @@ module _ (c : Counts) (b : Buffers) (w : Book) (t : Layout c b w) (f : journal-f
   abbrev behind : ℕ
   behind = length (w .edits) - 1
 
+  abbrev without : List Line → Book
+  without ls = record { kind = w .kind; nodes = w .nodes; lines = ls; edits = take behind (w .edits) }
+
   behind-is : behind ≡ c .edits - 1
   behind-is = omega (arith, t .edits .count)
 
@@ -107,207 +110,204 @@ module _ (c : Counts) (b : Buffers) (w : Book) (t : Layout c b w) (f : journal-f
   unfolding edit-form
   row-there = omega (arith, t .edits .rowroom, z)
 
-  edit-cell : (k : ℕ) → k < edit-width → getD (b .journal) (edit-width * (c .edits - 1) + k) 0 ≡ getD (latest (w .edits) .what ∷ latest (w .edits) .line ∷ []) k 0
+  edit-cell : (k : ℕ) → k < edit-width
+      → getD (b .journal) (edit-width * (c .edits - 1) + k) 0 ≡ getD (latest (w .edits) .what ∷ latest (w .edits) .line ∷ []) k 0
   unfolding edit-form
   edit-cell k h =
       ap (λ (m : ℕ). getD (b .journal) (edit-width * m + k) 0) (sym behind-is)
       ∙ row-cell edit-form edit-laws (c .edits) 0 (b .journal) [] (w .edits) (t .edits) behind _ (omega (arith, some-edits)) k h
 
-  edit-what : getD (b .journal) (edit-width * (c .edits - 1)) 0 ≡ latest (w .edits) .what
-  edit-what = let a : edit-width * (c .edits - 1) ≡ edit-width * (c .edits - 1) + 0 = omega arith in ap (λ (m : ℕ). getD (b .journal) m 0) a ∙ edit-cell 0 (omega arith)
+  edit-what : what-told c (b .journal) ≡ latest (w .edits) .what
+  edit-what =
+      let a : edit-width * (c .edits - 1) ≡ edit-width * (c .edits - 1) + 0 = omega arith in
+      ap (λ (m : ℕ). getD (b .journal) m 0) a ∙ edit-cell 0 (omega arith)
 
   taken : take-back (latest (w .edits)) (w .lines) ≡ none → ⊥
   taken = latest-fits (take behind (w .edits)) (latest (w .edits)) (w .lines) (ap (λ (es : List Edit). journal-fits es (w .lines)) (sym last-edit) ∙ f)
 
-  undone : (ls : List Line) → take-back (latest (w .edits)) (w .lines) ≡ some ls
-      → undo-asked (some w) ≡ to (record { kind = w .kind; nodes = w .nodes; lines = ls; edits = take behind (w .edits) })
+  undone : (ls : List Line) → take-back (latest (w .edits)) (w .lines) ≡ some ls → undo-asked (some w) ≡ to (without ls)
   unfolding undo-asked without-latest
   undone ls e = let n : length (w .edits) ≡ 0 → ⊥ = λ q. omega (arith, q, some-edits) in rw (ne-eqb _ _ n, e)
 
-  edits-behind : (j′ : List ℕ) → j′ ≡ paste (b .journal) (edit-width * (c .edits - 1)) (0 ∷ 0 ∷ []) edit-width
-      → Packs edit-form edit-ok (c .edits - 1) 0 j′ [] (take behind (w .edits))
-  unfolding edit-form
+  edits-behind : (j′ : List ℕ) → j′ ≡ journal-back c (b .journal) → Packs edit-form edit-ok (c .edits - 1) 0 j′ [] (take behind (w .edits))
+  unfolding edit-form journal-back
   edits-behind j′ e =
       unput-thing edit-form edit-laws (c .edits) 0 (b .journal) [] (w .edits) (t .edits) (latest (w .edits)) (c .edits - 1) 0 (take behind (w .edits)) j′ []
-      last-edit (sym behind-is ∙ sym (length-take-le behind (w .edits) (omega (arith, some-edits)))) (ap length (sym (no-bytes (take behind (w .edits))))) e refl
+      last-edit (sym behind-is ∙ sym (length-take-le behind (w .edits) (omega (arith, some-edits)))) (ap length (sym (no-bytes (take behind (w .edits)))))
+      e refl
 
   -- the line that the edit tells
-  module _ (i : ℕ) (e : i ≡ getD (b .journal) (edit-width * (c .edits - 1) + 1) 0) where
-    told : i ≡ latest (w .edits) .line
-    told = e ∙ edit-cell 1 (omega arith)
+  abbrev i : ℕ
+  i = line-told c (b .journal)
 
-    -- ---- an add
-    module _ (h : getD (b .journal) (edit-width * (c .edits - 1)) 0 ≡ add) where
-      last-line : (length (w .lines) ≡ i + 1) × (take-back (latest (w .edits)) (w .lines) ≡ some (take i (w .lines)))
-      last-line = rw told (added-last (latest (w .edits)) (w .lines) taken (sym edit-what ∙ h))
+  told : i ≡ latest (w .edits) .line
+  told = edit-cell 1 (omega arith)
 
-      added-at : i < c .lines
-      added-at = omega (arith, t .lines .count, last-line .0)
+  -- ---- an add
+  module _ (h : what-told c (b .journal) ≡ add) where
+    last-line : (length (w .lines) ≡ i + 1) × (take-back (latest (w .edits)) (w .lines) ≡ some (take i (w .lines)))
+    last-line = rw told (added-last (latest (w .edits)) (w .lines) taken (sym edit-what ∙ h))
 
-      start-told : getD (b .lines) (line-width * i + 2) 0 ≡ length (packed line-form (take i (w .lines)))
-      unfolding line-form
-      start-told = row-cell line-form (line-laws (c .kind) (c .nodes)) (c .lines) (c .pool) (b .lines) (b .pool) (w .lines) (t .lines) i no-line (line-within c b w t i added-at) 2 (omega arith)
+    added-at : i < c .lines
+    added-at = omega (arith, t .lines .count, last-line .0)
 
-      ends-told : c .pool ≡ getD (b .lines) (line-width * i + 2) 0 + length (line-at (w .lines) i .bytes)
-      unfolding line-form
-      ends-told =
-          let k = packed-next line-form (line-laws (c .kind) (c .nodes)) (w .lines) i no-line (line-within c b w t i added-at) in
-          let a : take (i + 1) (w .lines) ≡ w .lines = rw (← last-line .0) (take-length (w .lines)) in
-          let n = ap (λ (xs : List Line). length (packed line-form xs)) a in
-          omega (arith, t .lines .total, k, n, start-told)
+    start-told : start-of (b .lines) i ≡ length (packed line-form (take i (w .lines)))
+    unfolding line-form
+    start-told =
+        row-cell line-form (line-laws (c .kind) (c .nodes)) (c .lines) (c .pool) (b .lines) (b .pool) (w .lines) (t .lines) i no-line
+        (line-within c b w t i added-at) 2 (omega arith)
 
-      pub add-room : (line-width * i + line-width ≤ length (b .lines)) × (getD (b .lines) (line-width * i + 2) 0 ≤ c .pool) × (c .pool ≤ length (b .pool))
-      add-room = (line-room c b w t i added-at, omega (arith, ends-told), t .lines .byteroom)
+    ends-told : c .pool ≡ start-of (b .lines) i + length (line-at (w .lines) i .bytes)
+    unfolding line-form
+    ends-told =
+        let k = packed-next line-form (line-laws (c .kind) (c .nodes)) (w .lines) i no-line (line-within c b w t i added-at) in
+        let a : take (i + 1) (w .lines) ≡ w .lines = rw (← last-line .0) (take-length (w .lines)) in
+        let n = ap (λ (xs : List Line). length (packed line-form xs)) a in
+        omega (arith, t .lines .total, k, n, start-told)
 
-      module _ (s : ℕ) (v : s ≡ getD (b .lines) (line-width * i + 2) 0) (l′ p′ j′ : List ℕ) (el : l′ ≡ paste (b .lines) (line-width * i) (zeros line-width) line-width)
-          (ep : p′ ≡ paste (b .pool) s (zeros (c .pool - s)) (c .pool - s)) (ej : j′ ≡ paste (b .journal) (edit-width * (c .edits - 1)) (0 ∷ 0 ∷ []) edit-width) where
-        added-layout : Layout (counts-with c (c .lines - 1) s (c .edits - 1))
-            (five (b .nodes) (b .names) l′ p′ j′) (record { kind = w .kind; nodes = w .nodes; lines = take i (w .lines); edits = take behind (w .edits) })
-        unfolding line-form
-        added-layout =
-            let k : c .pool - s ≡ length (line-at (w .lines) i .bytes) = omega (arith, v, ends-told) in
-            let q : i ≡ c .lines - 1 = omega (arith, t .lines .count, last-line .0) in
-            record {
-              kind = t .kind;
-              limits = record {
-                nodes = t .limits .nodes;
-                lines = omega (arith, t .limits .lines);
-                pool = omega (arith, t .limits .pool, v, ends-told);
-                edits = omega (arith, t .limits .edits);
-              };
-              nodes = t .nodes;
-              lines = unput-thing line-form (line-laws (c .kind) (c .nodes)) (c .lines) (c .pool) (b .lines) (b .pool) (w .lines) (t .lines) (line-at (w .lines) i) (c .lines - 1) s
-                  (take i (w .lines)) l′ p′ (last-apart (w .lines) i no-line (last-line .0))
-                  (sym q ∙ sym (length-take-le i (w .lines) (omega (arith, last-line .0)))) (v ∙ start-told)
-                  (el ∙ ap (λ (m : ℕ). paste (b .lines) (line-width * m) (zeros line-width) line-width) q) (ep ∙ ap (λ (m : ℕ). paste (b .pool) s (zeros m) m) k);
-              edits = edits-behind j′ ej;
-            }
+    add-room : (line-width * i + line-width ≤ length (b .lines)) × (start-of (b .lines) i ≤ c .pool) × (c .pool ≤ length (b .pool)) × (1 ≤ c .lines)
+    add-room = (line-room c b w t i added-at, omega (arith, ends-told), t .lines .byteroom, omega (arith, added-at))
 
-    -- ---- a strike
-    module _ (h : getD (b .journal) (edit-width * (c .edits - 1)) 0 ≡ add → ⊥) where
-      struck-line : (i < length (w .lines)) × (line-at (w .lines) i .struck ≡ 0 → ⊥)
-          × (take-back (latest (w .edits)) (w .lines) ≡ some (set (w .lines) i (marked 0 (line-at (w .lines) i))))
-      struck-line = rw told (struck-back (latest (w .edits)) (w .lines) taken (λ q. h (edit-what ∙ q)))
+    added-layout : (l′ p′ j′ : List ℕ) → l′ ≡ row-back (b .lines) i → p′ ≡ emptied (b .pool) (start-of (b .lines) i) (c .pool)
+        → j′ ≡ journal-back c (b .journal)
+        → Layout (counts-with c (c .lines - 1) (start-of (b .lines) i) (c .edits - 1)) (five (b .nodes) (b .names) l′ p′ j′) (without (take i (w .lines)))
+    unfolding line-form
+    added-layout l′ p′ j′ el ep ej =
+        let s = start-of (b .lines) i in
+        let k : c .pool - s ≡ length (line-at (w .lines) i .bytes) = omega (arith, ends-told) in
+        let q : i ≡ c .lines - 1 = omega (arith, t .lines .count, last-line .0) in
+        record {
+          kind = t .kind;
+          limits = record {
+            nodes = t .limits .nodes;
+            lines = omega (arith, t .limits .lines);
+            pool = omega (arith, t .limits .pool, ends-told);
+            edits = omega (arith, t .limits .edits);
+          };
+          nodes = t .nodes;
+          lines = unput-thing line-form (line-laws (c .kind) (c .nodes)) (c .lines) (c .pool) (b .lines) (b .pool) (w .lines) (t .lines)
+              (line-at (w .lines) i) (c .lines - 1) s (take i (w .lines)) l′ p′ (last-apart (w .lines) i no-line (last-line .0))
+              (sym q ∙ sym (length-take-le i (w .lines) (omega (arith, last-line .0)))) start-told
+              (el ∙ ap (row-back (b .lines)) q) (ep ∙ ap (λ (m : ℕ). paste (b .pool) s (zeros m) m) k);
+          edits = edits-behind j′ ej;
+        }
 
-      struck-at : i < c .lines
-      struck-at = omega (arith, t .lines .count, struck-line .0)
+  -- ---- a strike
+  module _ (h : what-told c (b .journal) ≡ add → ⊥) where
+    struck-line : (i < length (w .lines)) × (line-at (w .lines) i .struck ≡ 0 → ⊥)
+        × (take-back (latest (w .edits)) (w .lines) ≡ some (set (w .lines) i (marked 0 (line-at (w .lines) i))))
+    struck-line = rw told (struck-back (latest (w .edits)) (w .lines) taken (λ q. h (edit-what ∙ q)))
 
-      struck-code : getD (b .lines) (line-width * i + 1) 0 ≡ code-of (marked 0 (line-at (w .lines) i)) + struck-mark
-      struck-code =
-          let r = line-ranged c b w t i struck-at in
-          let s : line-at (w .lines) i .struck ≡ 1 = omega (arith, r .struck, struck-line .1) in
-          omega (arith, line-code c b w t i struck-at, s)
+    struck-at : i < c .lines
+    struck-at = omega (arith, t .lines .count, struck-line .0)
 
-      pub strike-room : (line-width * i + line-width ≤ length (b .lines)) × (struck-mark ≤ getD (b .lines) (line-width * i + 1) 0)
-      strike-room = (line-room c b w t i struck-at, omega (arith, struck-code))
+    struck-code : code-told (b .lines) i ≡ code-of (marked 0 (line-at (w .lines) i)) + struck-mark
+    struck-code =
+        let r = line-ranged c b w t i struck-at in
+        let s : line-at (w .lines) i .struck ≡ 1 = omega (arith, r .struck, struck-line .1) in
+        omega (arith, line-code c b w t i struck-at, s)
 
-      module _ (l′ j′ : List ℕ) (el : l′ ≡ set (b .lines) (line-width * i + 1) (getD (b .lines) (line-width * i + 1) 0 - struck-mark)) (ej : j′ ≡ paste (b .journal) (edit-width * (c .edits - 1)) (0 ∷ 0 ∷ []) edit-width) where
-        stood-layout : Layout (counts-with c (c .lines) (c .pool) (c .edits - 1))
-            (five (b .nodes) (b .names) l′ (b .pool) j′)
-            (record { kind = w .kind; nodes = w .nodes; lines = set (w .lines) i (marked 0 (line-at (w .lines) i)); edits = take behind (w .edits) })
-        unfolding line-form
-        stood-layout =
-            let x = line-at (w .lines) i in
-            let s : getD (b .lines) (line-width * i + 1) 0 - struck-mark ≡ code-of (marked 0 x) = omega (arith, struck-code) in
-            record {
-              kind = t .kind;
-              limits = record { nodes = t .limits .nodes; lines = t .limits .lines; pool = t .limits .pool; edits = omega (arith, t .limits .edits) };
-              nodes = t .nodes;
-              lines = set-thing line-form (line-laws (c .kind) (c .nodes)) (c .lines) (c .pool) (b .lines) (b .pool) (w .lines) (t .lines) i no-line (struck-line .0) 1 _
-                  (marked 0 x) l′ (omega arith) (marked-ok (c .kind) (c .nodes) 0 x (omega arith) (line-right c b w t i struck-at)) refl
-                  (λ o. ap (λ (k : ℕ). row-of-line (x .node) k o (length (x .bytes))) s) el;
-              edits = edits-behind j′ ej;
-            }
+    strike-room : (line-width * i + line-width ≤ length (b .lines)) × (struck-mark ≤ code-told (b .lines) i)
+    strike-room = (line-room c b w t i struck-at, omega (arith, struck-code))
 
--- ---- undo_latest
-module _ (c : Counts) (n m l p j : List ℕ) (x : Bool) (e : x ≡ holds c (five n m l p j)) where
-  abbrev lent : Buffers
-  lent = five n m l p j
+    stood-layout : (l′ j′ : List ℕ) → l′ ≡ unstruck (b .lines) i → j′ ≡ journal-back c (b .journal)
+        → Layout (counts-with c (c .lines) (c .pool) (c .edits - 1)) (five (b .nodes) (b .names) l′ (b .pool) j′)
+        (without (set (w .lines) i (marked 0 (line-at (w .lines) i))))
+    unfolding line-form
+    stood-layout l′ j′ el ej =
+        let x = line-at (w .lines) i in
+        let s : code-told (b .lines) i - struck-mark ≡ code-of (marked 0 x) = omega (arith, struck-code) in
+        record {
+          kind = t .kind;
+          limits = record { nodes = t .limits .nodes; lines = t .limits .lines; pool = t .limits .pool; edits = omega (arith, t .limits .edits) };
+          nodes = t .nodes;
+          lines = set-thing line-form (line-laws (c .kind) (c .nodes)) (c .lines) (c .pool) (b .lines) (b .pool) (w .lines) (t .lines) i no-line
+              (struck-line .0) 1 _ (marked 0 x) l′ (omega arith) (marked-ok (c .kind) (c .nodes) 0 x (omega arith) (line-right c b w t i struck-at)) refl
+              (λ o. ap (λ (k : ℕ). row-of-line (x .node) k o (length (x .bytes))) s) el;
+          edits = edits-behind j′ ej;
+        }
 
-  abbrev Undoes : Edited → Buffers → Type 0
-  Undoes = Answers c lent (λ b w. undo-asked w)
+-- ---- undo_latest: r is answered, and b′ left
+abbrev pub Undoes : Counts → Buffers → Edited → Buffers → Type 0
+Undoes c b = Answers c b (λ b w. undo-asked w)
 
-  pub undo-no-book : not x ≡ true → Undoes (answer.Refused no-book) lent
+module _ (c : Counts) (b : Buffers) (x : Bool) (e : x ≡ holds c b) where
+  pub undo-no-book : not x ≡ true → Undoes c b (answer.Refused no-book) b
   unfolding undo-asked
-  undo-no-book h = refusal-answers lent _ no-book (rw (asked-none c lent x e h))
+  undo-no-book h = refusal-answers b _ no-book (rw (asked-none c b x e h))
 
-  module _ (h : not x ≡ false) where
-    here : Shown c lent
-    here = shown c lent x e h
+  pub undo-nothing : not x ≡ false → c .edits ≡ 0 → Undoes c b (answer.Refused nothing-to-undo) b
+  unfolding undo-asked
+  undo-nothing h z =
+      let here = shown c b x e h in
+      let q : length (book-of c b .edits) ≡ 0 = sym (here .layout .edits .count) ∙ z in
+      refusal-answers b _ nothing-to-undo (rw (here .viewed, eq-eqb _ _ q))
 
-    pub undo-nothing : c .edits ≡ 0 → Undoes (answer.Refused nothing-to-undo) lent
-    unfolding undo-asked
-    undo-nothing z =
-        let q : length (book-of c lent .edits) ≡ 0 = sym (here .layout .edits .count) ∙ z in
-        refusal-answers lent _ nothing-to-undo (rw (here .viewed, eq-eqb _ _ q))
+module _ {c : Counts} {b : Buffers} (here : Shown c b) (z : c .edits ≡ 0 → ⊥) where
+  -- what takes it back
+  pub undo-able : Undoable c (b .lines) (b .pool) (b .journal)
+  undo-able = record {
+    some-edit = omega (arith, z);
+    row = row-there c b _ (here .layout) (here .fitting) z;
+    of-add = add-room c b _ (here .layout) (here .fitting) z;
+    of-strike = strike-room c b _ (here .layout) (here .fitting) z;
+  }
 
-    module _ (z : c .edits ≡ 0 → ⊥) where
-      undo-row : edit-width * (c .edits - 1) + edit-width ≤ length j
-      undo-row = row-there c lent _ (here .layout) (here .fitting) z
+  -- and what that comes to
+  asks : (ls : List Line) → take-back (latest (book-of c b .edits)) (book-of c b .lines) ≡ some ls
+      → undo-asked (view c b) ≡ to (without c b _ (here .layout) (here .fitting) z ls)
+  asks ls e = ap undo-asked (here .viewed) ∙ undone c b _ (here .layout) (here .fitting) z ls e
 
-      module _ (i : ℕ) (k : i ≡ getD j (edit-width * (c .edits - 1) + 1) 0) where
-        module _ (g : getD j (edit-width * (c .edits - 1)) 0 ≡ add) where
-          undo-add-room : (line-width * i + line-width ≤ length l) × (start-of l i ≤ c .pool) × (c .pool ≤ length p)
-          undo-add-room = add-room c lent _ (here .layout) (here .fitting) z i k g
+  same-journal : (j′ : List ℕ) → j′ ≡ journal-back c (b .journal) → length j′ ≡ length (b .journal)
+  unfolding journal-back
+  same-journal j′ e = ap length e ∙ length-paste (b .journal) (edit-width * (c .edits - 1)) (zeros edit-width) edit-width (undo-able .row) (omega arith)
 
-          undo-add-some : 1 ≤ c .lines
-          undo-add-some = omega (arith, added-at c lent _ (here .layout) (here .fitting) z i k g)
+  module _ (l′ j′ : List ℕ) (ej : j′ ≡ journal-back c (b .journal)) where
+    undo-added : what-told c (b .journal) ≡ add → (p′ : List ℕ) → l′ ≡ row-back (b .lines) (line-told c (b .journal))
+        → p′ ≡ emptied (b .pool) (start-of (b .lines) (line-told c (b .journal))) (c .pool)
+        → Undoes c b (answer.Done (counts-with c (c .lines - 1) (start-of (b .lines) (line-told c (b .journal))) (c .edits - 1)))
+        (five (b .nodes) (b .names) l′ p′ j′)
+    undo-added g p′ el ep =
+        let r = undo-able .of-add g in
+        let s = start-of (b .lines) (line-told c (b .journal)) in
+        let q : s + (c .pool - s) ≤ length (b .pool) = omega (arith, r) in
+        let o : length (zeros (c .pool - s)) ≡ c .pool - s = length-replicate (c .pool - s) 0 in
+        layout-answers _ b (five (b .nodes) (b .names) l′ p′ j′) _ _
+        (asks _ (last-line c b _ (here .layout) (here .fitting) z g .1))
+        (added-layout c b _ (here .layout) (here .fitting) z g l′ p′ j′ el ep ej)
+        (record {
+          nodes = refl;
+          names = refl;
+          lines = ap length el ∙ length-paste (b .lines) (line-width * line-told c (b .journal)) (zeros line-width) line-width (r .0) (omega arith);
+          pool = ap length ep ∙ length-paste (b .pool) s (zeros (c .pool - s)) (c .pool - s) q (omega (arith, o));
+          journal = same-journal j′ ej;
+        })
 
-          undo-added : (s : ℕ) (l′ p′ j′ : List ℕ) → j′ ≡ paste j (edit-width * (c .edits - 1)) (0 ∷ 0 ∷ []) edit-width
-              → (s ≡ start-of l i) × (l′ ≡ row-back l i) × (p′ ≡ emptied p s (c .pool))
-              → Undoes (answer.Done (counts-with c (c .lines - 1) s (c .edits - 1))) (five n m l′ p′ j′)
-          undo-added s l′ p′ j′ ej a =
-              let r = undo-add-room in
-              let q : s + (c .pool - s) ≤ length p = omega (arith, a .0, r) in
-              let o : length (zeros (c .pool - s)) ≡ c .pool - s = length-replicate (c .pool - s) 0 in
-              layout-answers _ lent (five n m l′ p′ j′) _ _
-              (ap undo-asked (here .viewed) ∙ undone c lent _ (here .layout) (here .fitting) z _ (last-line c lent _ (here .layout) (here .fitting) z i k g .1))
-              (added-layout c lent _ (here .layout) (here .fitting) z i k g s (a .0) l′ p′ j′ (a .1) (a .2) ej)
-              (record {
-                nodes = refl;
-                names = refl;
-                lines = ap length (a .1) ∙ length-paste l (line-width * i) (zeros line-width) line-width (r .0) (omega arith);
-                pool = ap length (a .2) ∙ length-paste p s (zeros (c .pool - s)) (c .pool - s) q (omega (arith, o));
-                journal = ap length ej ∙ length-paste j (edit-width * (c .edits - 1)) (0 ∷ 0 ∷ []) edit-width undo-row (omega arith);
-              })
+    undo-struck : (what-told c (b .journal) ≡ add → ⊥) → l′ ≡ unstruck (b .lines) (line-told c (b .journal))
+        → Undoes c b (answer.Done (counts-with c (c .lines) (c .pool) (c .edits - 1))) (five (b .nodes) (b .names) l′ (b .pool) j′)
+    undo-struck g el =
+        layout-answers _ b (five (b .nodes) (b .names) l′ (b .pool) j′) _ _
+        (asks _ (struck-line c b _ (here .layout) (here .fitting) z g .2))
+        (stood-layout c b _ (here .layout) (here .fitting) z g l′ j′ el ej)
+        (record {
+          nodes = refl;
+          names = refl;
+          lines = ap length el ∙ length-set (b .lines) (line-width * line-told c (b .journal) + 1) _;
+          pool = refl;
+          journal = same-journal j′ ej;
+        })
 
-        module _ (g : getD j (edit-width * (c .edits - 1)) 0 ≡ add → ⊥) where
-          undo-strike-room : (line-width * i + line-width ≤ length l) × (struck-mark ≤ code-told l i)
-          undo-strike-room = strike-room c lent _ (here .layout) (here .fitting) z i k g
-
-          undo-struck : (l′ j′ : List ℕ) → j′ ≡ paste j (edit-width * (c .edits - 1)) (0 ∷ 0 ∷ []) edit-width → l′ ≡ unstruck l i
-              → Undoes (answer.Done (counts-with c (c .lines) (c .pool) (c .edits - 1))) (five n m l′ p j′)
-          undo-struck l′ j′ ej el =
-              layout-answers _ lent (five n m l′ p j′) _ _
-              (ap undo-asked (here .viewed) ∙ undone c lent _ (here .layout) (here .fitting) z _ (struck-line c lent _ (here .layout) (here .fitting) z i k g .2))
-              (stood-layout c lent _ (here .layout) (here .fitting) z i k g l′ j′ el ej)
-              (record {
-                nodes = refl;
-                names = refl;
-                lines = ap length el ∙ length-set l (line-width * i + 1) _;
-                pool = refl;
-                journal = ap length ej ∙ length-paste j (edit-width * (c .edits - 1)) (0 ∷ 0 ∷ []) edit-width undo-row (omega arith);
-              })
-
-      -- what takes it back
-      pub undo-able : Undoable c l p j
-      undo-able = record {
-        some-edit = omega (arith, z);
-        row = undo-row;
-        of-add = λ g. let r = undo-add-room (line-told c j) refl g in (r .0, r .1, r .2, undo-add-some (line-told c j) refl g);
-        of-strike = λ g. undo-strike-room (line-told c j) refl g;
-      }
-
-      -- and what that comes to
-      module _ (r : Counts) (l′ p′ j′ : List ℕ) (a : (r ≡ counts-back c l j) × (l′ ≡ lines-back c l j) × (p′ ≡ pool-back c l p j) × (j′ ≡ journal-back c j)) where
-        undo-by : (t : Bool) → eqb (what-told c j) add ≡ t → Undoes (answer.Done r) (five n m l′ p′ j′)
-        unfolding counts-back lines-back pool-back journal-back
-        undo-by true k =
-            let q = undo-added (line-told c j) refl (eqb-true _ _ k) (start-of l (line-told c j)) l′ p′ j′ (a .3) (refl, a .1 ∙ rw k refl, a .2 ∙ rw k refl) in
-            (ap answer.Done (a .0 ∙ rw k refl) ∙ q .0, q .1)
-        undo-by false k =
-            let q = undo-struck (line-told c j) refl (eqb-false _ _ k) l′ j′ (a .3) (a .1 ∙ rw k refl) in
-            (ap answer.Done (a .0 ∙ rw k refl) ∙ q .0, ap (λ (b : List ℕ). five n m l′ b j′) (a .2 ∙ rw k refl) ∙ q .1)
-
-        pub undo-done : Undoes (answer.Done r) (five n m l′ p′ j′)
-        undo-done = undo-by (eqb (what-told c j) add) refl
+  pub undo-done : (r : Counts) (l′ p′ j′ : List ℕ)
+      → (r ≡ counts-back c (b .lines) (b .journal)) × (l′ ≡ lines-back c (b .lines) (b .journal)) × (p′ ≡ pool-back c (b .lines) (b .pool) (b .journal))
+      × (j′ ≡ journal-back c (b .journal))
+      → Undoes c b (answer.Done r) (five (b .nodes) (b .names) l′ p′ j′)
+  unfolding counts-back lines-back pool-back
+  undo-done r l′ p′ j′ a = by (eqb (what-told c (b .journal)) add) refl
+    where
+      by : (t : Bool) → eqb (what-told c (b .journal)) add ≡ t → Undoes c b (answer.Done r) (five (b .nodes) (b .names) l′ p′ j′)
+      by true k =
+          let q = undo-added l′ j′ (a .3) (eqb-true _ _ k) p′ (a .1 ∙ rw k refl) (a .2 ∙ rw k refl) in
+          (ap answer.Done (a .0 ∙ rw k refl) ∙ q .0, q .1)
+      by false k =
+          let q = undo-struck l′ j′ (a .3) (eqb-false _ _ k) (a .1 ∙ rw k refl) in
+          (ap answer.Done (a .0 ∙ rw k refl) ∙ q .0, ap (λ (p : List ℕ). five (b .nodes) (b .names) l′ p j′) (a .2 ∙ rw k refl) ∙ q .1)

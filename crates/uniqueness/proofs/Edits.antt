@@ -5,7 +5,7 @@ use Rattle.uniqueness.proofs.Same.{_▹_, same}
 use Rattle.trial_add.proofs.adding.append
 use Rattle.trial_settle.proofs.settling.settle_lines
 use Rattle.trial_symbols.proofs.events.add_event
-use Rattle.trial_symbols.proofs.clearing.take_back
+use Rattle.trial_symbols.proofs.lines.clear_added
 use Rattle.trial_symbols.proofs.lines.add_lines
 use Rattle.trial_symbols.proofs.add_symbol
 use Rattle.trial_undo.proofs.taking_back.take_back_latest
@@ -33,8 +33,8 @@ add-event-unique κs a x y v w p q =
     let b = same (p .1) (q .1) in
     (same (p .0) (q .0), λ i. tt ▹ tt ▹ tt ▹ b i .lines ▹ b i .pool ▹ b i .journal ▹ tt ▹ tt ▹ tt)
 
-pub take-back-unique : Unique take_back.ended take_back.Reads.Post
-take-back-unique κs a x y v w p q = (refl, λ i. tt ▹ tt ▹ same (p .0) (q .0) i ▹ same (p .1) (q .1) i ▹ same (p .2) (q .2) i ▹ tt)
+pub clear-added-unique : Unique clear_added.ended clear_added.Reads.Post
+clear-added-unique κs a x y v w p q = (refl, λ i. tt ▹ tt ▹ same (p .0) (q .0) i ▹ same (p .1) (q .1) i ▹ same (p .2) (q .2) i ▹ tt)
 
 pub add-lines-unique : Unique add_lines.ended add_lines.Reads.Post
 add-lines-unique κs a x y v w p q =

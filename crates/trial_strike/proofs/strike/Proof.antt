@@ -144,7 +144,9 @@ same-length-12 : tie.Need-same-length-12
 same-length-12 c = search needs
 
 returns-6 : tie.Need-returns-6
-returns-6 c = strike-done (roomy (c .before .before .before .before .before .before)) _ _ _ (c .counts-with .ensures) refl (c .before .before .before .before .put-two .ensures)
+returns-6 c =
+    let p = c .before .before .before .before in
+    strike-done (roomy (p .before .before)) _ _ _ (c .counts-with .ensures) refl (p .put-two .ensures)
 
 pub strike-spec : {M : Type 1} → statement M
 strike-spec =

@@ -115,10 +115,9 @@ use denote.Triple.Walked.{
 use denote.Exit.{yes}
 use Rattle.book.specs.declared.Counts.{Counts}
 use Rattle.book.specs.Layout.{five}
-use Rattle.book.specs.View.{view}
 use Rattle.book.proofs.Counts as T
 use Rattle.book.proofs.Counts.Laws as T′
-use Rattle.trial.specs.Changes.{Change, after, counts-after, edit-refusal, edited}
+use Rattle.trial.specs.Changes.{Updates}
 use Rattle.trial.specs.Trial.{undo-asked}
 use Rattle.trial_undo.specs.declared.Undone.{Undone}
 use Rattle.trial_undo.proofs.Undone as U
@@ -212,14 +211,10 @@ module _ {M : Type 1} (𝓤 : URA M) (H : Heap 𝓤) (A : Atoms 𝓤) (W : Given
   abbrev Post : Val → SProp 𝓤
   Post = walkOf 𝓤 H A undo.ended stayed (undo.clauses 𝓤 H A at-mem run) .post ((κs, qs, bounds, a, vals), tt)
 
-  -- what undo makes of the book, and what the callee says of its result and the last lists
-  abbrev change : Change
-  change = undo-asked (view h (five (ns .now) (ms .now) (ls .now) (ps .now) (js .now)))
-
+  -- what the callee says of its result and the last lists
   abbrev Said : Undone → List ℕ → List ℕ → List ℕ → Type 0
   Said u l p j =
-      (u .number ≡ edit-refusal (edited change)) × (u .counts ≡ counts-after h change)
-      × (five (ns .now) (ms .now) l p j ≡ after (five (ns .now) (ms .now) (ls .now) (ps .now) (js .now)) change)
+      Updates h (five (ns .now) (ms .now) (ls .now) (ps .now) (js .now)) (λ b w. undo-asked w) (u .number) (u .counts) (five (ns .now) (ms .now) l p j)
 
   -- what the callee's triple binds outside: the slices' own lifetimes, shares and values
   abbrev to-by-value : ByValue 𝓤 H A at-mem run .Ghost

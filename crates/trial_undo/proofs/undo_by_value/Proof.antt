@@ -24,7 +24,9 @@ same-length-3 : tie.Need-same-length-3
 same-length-3 c = search needs
 
 returns : tie.Need-returns
-returns c = refused-left _ _ _ _ (λ b w. undo-asked w) (c .before .before .before .before .before .before .before .before .before .undo-latest .ensures) _ (c .before .no .given .1)
+returns c =
+    let u = c .before .before .before .before .before .before .before .before .before in
+    refused-left _ _ _ _ (λ b w. undo-asked w) (u .undo-latest .ensures) _ (c .before .no .given .1)
 
 same-length-4 : tie.Need-same-length-4
 same-length-4 c = search needs
@@ -36,7 +38,9 @@ same-length-6 : tie.Need-same-length-6
 same-length-6 c = search needs
 
 returns-2 : tie.Need-returns-2
-returns-2 c = done-left _ _ _ _ (λ b w. undo-asked w) (c .before .before .before .before .before .before .before .before .before .undo-latest .ensures) _ (c .before .d .given .1)
+returns-2 c =
+    let u = c .before .before .before .before .before .before .before .before .before in
+    done-left _ _ _ _ (λ b w. undo-asked w) (u .undo-latest .ensures) _ (c .before .d .given .1)
 
 pub undo-by-value-spec : {M : Type 1} → statement M
 undo-by-value-spec =

@@ -1,6 +1,5 @@
 -- `strike` meets its contract. Assumes nothing.
 use borrow.Author.Needs.{needs}
-use Rattle.book.specs.Layout.{five}
 use Rattle.c_lending.proofs.EditExits.{strike-told}
 use Rattle.c_api.proofs.lent_edits.strike.Statement.{statement}
 use Rattle.c_api.proofs.lent_edits.strike.Tie as tie
@@ -27,9 +26,7 @@ returns : tie.Need-returns
 returns c =
     let x = c .before .before in
     let y = x .before .before .before .before .before .before in
-    let a = y .before .before .before .before .before .before .before .before .before .before .before .args in
-    strike-told (a .counts .now) (five (a .nodes .now) (a .names .now) (a .lines .now) (a .pool .now) (a .journal .now)) _ (y .before .before .before .counts-of .ensures)
-    _ _ _ (five _ _ _ _ _) _ (y .strike .ensures) (x .finish .ensures)
+    strike-told _ _ _ (y .before .before .before .counts-of .ensures) _ _ _ _ _ (y .strike .ensures) (x .finish .ensures)
 
 pub strike-spec : {M : Type 1} → statement M
 strike-spec =

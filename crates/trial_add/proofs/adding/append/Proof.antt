@@ -52,7 +52,8 @@ ends : (c : tie.After-class) → edited (roomy (put c)) .args .c .pool + c .clas
 ends c =
     let p = put c in
     let s = edited (roomy p) in
-    append-ends (layout s) (keep (p .before .before .before .edition-of .result) (s .args .token .now)) (p .put-token .result) _ (p .put-token .ensures) _ _ (c .class .given .1)
+    append-ends (layout s) (keep (p .before .before .before .edition-of .result) (s .args .token .now))
+    (p .put-token .result) _ (p .put-token .ensures) _ _ (c .class .given .1)
 
 cast-n : tie.Need-cast-n
 cast-n c = search needs
@@ -176,7 +177,8 @@ same-length-7 c = search needs
 
 same-length-8 : tie.Need-same-length-8
 same-length-8 c =
-    let p = c .before .before .before .before .before .before .before .before .before .before .before .before .before .before .before .before .before .before .pool in
+    let k = c .before .before .before .before .before .before .before .before .before .before .before .before .before .before .before in
+    let p = k .before .before .before .pool in
     search needs
 
 same-length-9 : tie.Need-same-length-9

@@ -3,7 +3,19 @@
 use Prim.Native.Nat.{_+_, _-_}
 use borrow.Author.Needs.{needs}
 use lib.ListN.{length}
-use Rattle.trial_symbols.proofs.AddedTexts.{Going, event-asks, event-back, going-back, going-ends, going-no, going-on, going-onward, going-refused, going-starts, same-lengths}
+use Rattle.trial_symbols.proofs.AddedTexts.{
+  Going,
+  event-asks,
+  event-back,
+  going-back,
+  going-ends,
+  going-no,
+  going-on,
+  going-onward,
+  going-refused,
+  going-starts,
+  same-lengths,
+}
 use Rattle.trial_symbols.proofs.lines.add_lines.Statement.{statement}
 use Rattle.trial_symbols.proofs.lines.add_lines.Tie as tie
 
@@ -14,14 +26,18 @@ Inv-loop c nodes names lines₀ pool₀ journal₀ s place at₀ k₀ lines pool
 abbrev μ-loop : tie.MeasureT-loop
 μ-loop c nodes names lines₀ pool₀ journal₀ s place at₀ k₀ lines pool journal at k = length s + 2 - at .at
 
+-- where an event was told, from where it was added; and where that was, from where it was refused
+abbrev event : tie.After-add-event Inv-loop μ-loop → tie.After-e Inv-loop μ-loop
+event v = v .before .before .before .before .before
+
+abbrev adding : tie.After-n2 Inv-loop μ-loop → tie.After-add-event Inv-loop μ-loop
+adding n = n .before .before .before .before .before .before .before .before
+
 start-at-requires : tie.Need-start-at-requires Inv-loop μ-loop
 start-at-requires c κs = search needs
 
 loop-holds : tie.Need-loop-holds Inv-loop μ-loop
-loop-holds c =
-    let s = c .before .before .before .before .before .before .before in
-    let a = s .args in
-    going-starts (a .c) (a .place) (a .s .now) (a .nodes .now) (a .names .now) (a .lines .now) (a .pool .now) (a .journal .now) (s .pre) _ (c .start-at .ensures)
+loop-holds c = going-starts (c .before .before .before .before .before .before .before .pre) (c .start-at .ensures)
 
 next-event-requires : tie.Need-next-event-requires Inv-loop μ-loop
 next-event-requires c κs = search needs
@@ -41,21 +57,15 @@ same-length-3 c = search needs
 returns : tie.Need-returns Inv-loop μ-loop
 returns c =
     let x = c .before .before in
-    let s = x .before .before .before .before .before .before .before .before .before in
-    let a = s .args in
-    going-ends (a .c) (a .place) (a .s .now) (a .nodes .now) (a .names .now) (a .lines .now) (a .pool .now) (a .journal .now) (s .pre)
-    _ _ _ _ _ (x .before .loop .inv) (x .next-event .result) (x .next-event .ensures) (c .enum-told .given .1)
+    going-ends (x .before .loop .inv) (x .next-event .ensures) (c .enum-told .given .1)
 
 enum-known-n : tie.Need-enum-known-n Inv-loop μ-loop
 enum-known-n c = search needs
 
-take-back-requires : tie.Need-take-back-requires Inv-loop μ-loop
-take-back-requires c κs =
+clear-added-requires : tie.Need-clear-added-requires Inv-loop μ-loop
+clear-added-requires c κs =
     let x = c .before .before .before .before .before .before in
-    let s = x .before .before .before .before .before .before .before .before .before in
-    let a = s .args in
-    going-back (a .c) (a .place) (a .s .now) (a .nodes .now) (a .names .now) (a .lines .now) (a .pool .now) (a .journal .now) (s .pre)
-    _ _ _ _ _ (x .before .loop .inv) (x .next-event .result) (x .next-event .ensures)
+    going-back (x .before .loop .inv) (x .next-event .ensures)
 
 same-length-4 : tie.Need-same-length-4 Inv-loop μ-loop
 same-length-4 c = search needs
@@ -71,11 +81,7 @@ returns-2 c =
     let t = c .before .before .before .before .before .before in
     let n = t .before .before .before .before .before in
     let x = n .before .before in
-    let s = x .before .before .before .before .before .before .before .before .before in
-    let a = s .args in
-    going-refused (a .c) (a .place) (a .s .now) (a .nodes .now) (a .names .now) (a .lines .now) (a .pool .now) (a .journal .now) (s .pre)
-    _ _ _ _ _ (x .before .loop .inv) (x .next-event .result) (x .next-event .ensures)
-    _ _ _ _ _ (n .n .given .1) (t .take-back .ensures)
+    going-refused (x .before .loop .inv) (x .next-event .ensures) (n .n .given .1) (t .clear-added .ensures)
 
 enum-known-e : tie.Need-enum-known-e Inv-loop μ-loop
 enum-known-e c = search needs
@@ -84,77 +90,54 @@ add-event-requires : tie.Need-add-event-requires Inv-loop μ-loop
 add-event-requires c κs =
     let e = c .before .before .before .before in
     let x = e .before .before in
-    let s = x .before .before .before .before .before .before .before .before .before in
-    let a = s .args in
-    event-asks (a .c) (a .place) (a .s .now) (a .nodes .now) (a .names .now) (a .lines .now) (a .pool .now) (a .journal .now) (s .pre)
-    _ _ _ _ _ (x .before .loop .inv) (x .next-event .result) (x .next-event .ensures) _ _ (e .e .given .1)
+    event-asks (x .before .loop .inv) (x .next-event .ensures) (e .e .given .1)
 
 enum-known-n-2 : tie.Need-enum-known-n-2 Inv-loop μ-loop
 enum-known-n-2 c = search needs
 
-take-back-requires-2 : tie.Need-take-back-requires-2 Inv-loop μ-loop
-take-back-requires-2 c κs =
+clear-added-requires-2 : tie.Need-clear-added-requires-2 Inv-loop μ-loop
+clear-added-requires-2 c κs =
     let n = c .before .before .before .before in
-    let v = n .before .before .before .before .before .before .before .before in
-    let e = v .before .before .before .before .before in
+    let v = adding n in
+    let e = event v in
     let x = e .before .before in
-    let s = x .before .before .before .before .before .before .before .before .before in
-    let a = s .args in
-    event-back (a .c) (a .place) (a .s .now) (a .nodes .now) (a .names .now) (a .lines .now) (a .pool .now) (a .journal .now) (s .pre)
-    _ _ _ _ _ (x .before .loop .inv) (x .next-event .result) (x .next-event .ensures)
-    _ _ (e .e .given .1) _ _ _ _ (v .add-event .ensures) _ (n .n2 .given .1)
+    event-back (x .before .loop .inv) (x .next-event .ensures) (e .e .given .1) (v .add-event .ensures) (n .n2 .given .1)
 
 same-length-7 : tie.Need-same-length-7 Inv-loop μ-loop
 same-length-7 c =
     let t = c .before .before .before .before .before .before in
     let n = t .before .before .before .before .before in
-    let v = n .before .before .before .before .before .before .before .before in
-    let e = v .before .before .before .before .before in
+    let v = adding n in
+    let e = event v in
     let x = e .before .before in
-    let s = x .before .before .before .before .before .before .before .before .before in
-    let a = s .args in
-    same-lengths (a .c) (a .place) (a .s .now) (a .nodes .now) (a .names .now) (a .lines .now) (a .pool .now) (a .journal .now) (s .pre)
-    _ _ _ _ _ (x .before .loop .inv) (x .next-event .result) (x .next-event .ensures)
-    _ _ (e .e .given .1) _ _ _ _ (v .add-event .ensures) _ (n .n2 .given .1) _ _ _ (t .take-back2 .ensures) .0
+    same-lengths (x .before .loop .inv) (x .next-event .ensures) (e .e .given .1) (v .add-event .ensures) (n .n2 .given .1) (t .clear-added2 .ensures) .0
 
 same-length-8 : tie.Need-same-length-8 Inv-loop μ-loop
 same-length-8 c =
     let t = c .before .before .before .before .before .before in
     let n = t .before .before .before .before .before in
-    let v = n .before .before .before .before .before .before .before .before in
-    let e = v .before .before .before .before .before in
+    let v = adding n in
+    let e = event v in
     let x = e .before .before in
-    let s = x .before .before .before .before .before .before .before .before .before in
-    let a = s .args in
-    same-lengths (a .c) (a .place) (a .s .now) (a .nodes .now) (a .names .now) (a .lines .now) (a .pool .now) (a .journal .now) (s .pre)
-    _ _ _ _ _ (x .before .loop .inv) (x .next-event .result) (x .next-event .ensures)
-    _ _ (e .e .given .1) _ _ _ _ (v .add-event .ensures) _ (n .n2 .given .1) _ _ _ (t .take-back2 .ensures) .1
+    same-lengths (x .before .loop .inv) (x .next-event .ensures) (e .e .given .1) (v .add-event .ensures) (n .n2 .given .1) (t .clear-added2 .ensures) .1
 
 same-length-9 : tie.Need-same-length-9 Inv-loop μ-loop
 same-length-9 c =
     let t = c .before .before .before .before .before .before in
     let n = t .before .before .before .before .before in
-    let v = n .before .before .before .before .before .before .before .before in
-    let e = v .before .before .before .before .before in
+    let v = adding n in
+    let e = event v in
     let x = e .before .before in
-    let s = x .before .before .before .before .before .before .before .before .before in
-    let a = s .args in
-    same-lengths (a .c) (a .place) (a .s .now) (a .nodes .now) (a .names .now) (a .lines .now) (a .pool .now) (a .journal .now) (s .pre)
-    _ _ _ _ _ (x .before .loop .inv) (x .next-event .result) (x .next-event .ensures)
-    _ _ (e .e .given .1) _ _ _ _ (v .add-event .ensures) _ (n .n2 .given .1) _ _ _ (t .take-back2 .ensures) .2
+    same-lengths (x .before .loop .inv) (x .next-event .ensures) (e .e .given .1) (v .add-event .ensures) (n .n2 .given .1) (t .clear-added2 .ensures) .2
 
 returns-3 : tie.Need-returns-3 Inv-loop μ-loop
 returns-3 c =
     let t = c .before .before .before .before .before .before in
     let n = t .before .before .before .before .before in
-    let v = n .before .before .before .before .before .before .before .before in
-    let e = v .before .before .before .before .before in
+    let v = adding n in
+    let e = event v in
     let x = e .before .before in
-    let s = x .before .before .before .before .before .before .before .before .before in
-    let a = s .args in
-    going-no (a .c) (a .place) (a .s .now) (a .nodes .now) (a .names .now) (a .lines .now) (a .pool .now) (a .journal .now) (s .pre)
-    _ _ _ _ _ (x .before .loop .inv) (x .next-event .result) (x .next-event .ensures)
-    _ _ (e .e .given .1) _ _ _ _ (v .add-event .ensures) _ (n .n2 .given .1) _ _ _ (t .take-back2 .ensures)
+    going-no (x .before .loop .inv) (x .next-event .ensures) (e .e .given .1) (v .add-event .ensures) (n .n2 .given .1) (t .clear-added2 .ensures)
 
 enum-known-d : tie.Need-enum-known-d Inv-loop μ-loop
 enum-known-d c = search needs
@@ -163,22 +146,15 @@ loop-less : tie.Need-loop-less Inv-loop μ-loop
 loop-less c =
     let e = c .before .before .before .before .before .before .before .before .before .before .before .before .before .before in
     let x = e .before .before in
-    let s = x .before .before .before .before .before .before .before .before .before in
-    let a = s .args in
-    going-onward (a .c) (a .place) (a .s .now) (a .nodes .now) (a .names .now) (a .lines .now) (a .pool .now) (a .journal .now) (s .pre)
-    _ _ _ _ _ (x .before .loop .inv) (x .next-event .result) (x .next-event .ensures) _ _ (e .e .given .1)
+    going-onward (x .before .loop .inv) (x .next-event .ensures) (e .e .given .1)
 
 loop-again : tie.Need-loop-again Inv-loop μ-loop
 loop-again c =
     let d = c .before in
     let v = d .before .before .before .before .before .before .before .before in
-    let e = v .before .before .before .before .before in
+    let e = event v in
     let x = e .before .before in
-    let s = x .before .before .before .before .before .before .before .before .before in
-    let a = s .args in
-    going-on (a .c) (a .place) (a .s .now) (a .nodes .now) (a .names .now) (a .lines .now) (a .pool .now) (a .journal .now) (s .pre)
-    _ _ _ _ _ (x .before .loop .inv) (x .next-event .result) (x .next-event .ensures)
-    _ _ (e .e .given .1) _ _ _ _ (v .add-event .ensures) _ (d .d .given .1)
+    going-on (x .before .loop .inv) (x .next-event .ensures) (e .e .given .1) (v .add-event .ensures) (d .d .given .1)
 
 pub add-lines-spec : {M : Type 1} → statement M
 add-lines-spec =
@@ -195,7 +171,7 @@ add-lines-spec =
     same-length-3
     returns
     enum-known-n
-    take-back-requires
+    clear-added-requires
     same-length-4
     same-length-5
     same-length-6
@@ -203,7 +179,7 @@ add-lines-spec =
     enum-known-e
     add-event-requires
     enum-known-n-2
-    take-back-requires-2
+    clear-added-requires-2
     same-length-7
     same-length-8
     same-length-9

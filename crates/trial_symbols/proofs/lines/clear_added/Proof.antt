@@ -1,8 +1,8 @@
--- `take_back` meets its contract: three parts are cleared. Assumes nothing.
+-- `clear_added` meets its contract: three parts are cleared. Assumes nothing.
 use borrow.Author.Needs.{needs}
 use Rattle.trial.proofs.ClearedParts.{part-cleared}
-use Rattle.trial_symbols.proofs.clearing.take_back.Statement.{statement}
-use Rattle.trial_symbols.proofs.clearing.take_back.Tie as tie
+use Rattle.trial_symbols.proofs.lines.clear_added.Statement.{statement}
+use Rattle.trial_symbols.proofs.lines.clear_added.Tie as tie
 
 cast-row : tie.Need-cast-row
 cast-row c = search needs
@@ -90,11 +90,14 @@ returns c =
     let j = c .before .before in
     let q = j .before .before .before .before .before .before in
     let l = q .before .before .before .before .before .before in
-    let h = l .before .before .before .before .before .before .before .pre in
-    (part-cleared _ _ _ _ (h .1) (l .clear-numbers .ensures), part-cleared _ _ _ _ (h .3) (q .clear-bytes .ensures), part-cleared _ _ _ _ (h .5) (j .clear-numbers2 .ensures))
+    let h = l .before .before .before .before .before .before .before .pre in (
+      part-cleared _ _ _ _ (h .1) (l .clear-numbers .ensures),
+      part-cleared _ _ _ _ (h .3) (q .clear-bytes .ensures),
+      part-cleared _ _ _ _ (h .5) (j .clear-numbers2 .ensures),
+    )
 
-pub take-back-spec : {M : Type 1} → statement M
-take-back-spec =
+pub clear-added-spec : {M : Type 1} → statement M
+clear-added-spec =
     tie.close
     (tie.spec
     cast-row
