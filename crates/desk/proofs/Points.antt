@@ -50,7 +50,7 @@ use Rattle.printing_book.specs.Shown.{buffer-shown, counts-shown, dump-shown, f
 use Rattle.desk.specs.Answers.{Step, telling}
 use Rattle.desk.specs.Asked.{asked, member-answered, member-line}
 use Rattle.desk.specs.Edits.{done-said, edit-asked, edit-step, said}
-use Rattle.desk.specs.Questions.{question-step}
+use Rattle.desk.specs.Questions.{question-step, question-told}
 use Rattle.desk.specs.Desk.{line-step, step}
 
 -- what is printed for each of the lines, each on what the one before left
@@ -159,5 +159,5 @@ unfolding pieces pieces-past sound sound-past same
     add-command command-of question-of digit digits number-at number-of strike-command worth
     buffer-shown counts-shown dump-shown fields-shown line-shown lines-shown numbers-shown
     asked member-answered member-line
-    done-said edit-asked edit-step said question-step line-step step printed-from codes
+    done-said edit-asked edit-step said question-step question-told line-step step printed-from codes
 points = record { script-points = refl; list-points = refl; none-points = refl }

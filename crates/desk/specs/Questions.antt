@@ -19,9 +19,13 @@ abbrev pub of-book : Option Book → (Book → List ℕ) → List ℕ
 of-book none show = refused-answer no-book
 of-book (some w) show = show w
 
--- a question of the line l, on the book w of the counts c and the buffers b
+-- what a question of the line l prints, on the book w of the counts c and the buffers b
+unfoldable pub question-told : Counts → Buffers → Option Book → List ℕ → Question → List ℕ
+question-told c b w l (question.Ask at) = asked (c .kind) w (drop at l)
+question-told c b w l question.Counts = of-book w (λ v. counts-shown c)
+question-told c b w l question.Lines = of-book w (λ v. lines-shown 0 (v .lines))
+question-told c b w l question.Dump = of-book w (λ v. dump-shown c b)
+
+-- it changes nothing
 unfoldable pub question-step : Counts → Buffers → Option Book → List ℕ → Question → Step
-question-step c b w l (question.Ask at) = telling c b (asked (c .kind) w (drop at l))
-question-step c b w l question.Counts = telling c b (of-book w (λ v. counts-shown c))
-question-step c b w l question.Lines = telling c b (of-book w (λ v. lines-shown 0 (v .lines)))
-question-step c b w l question.Dump = telling c b (of-book w (λ v. dump-shown c b))
+question-step c b w l q = telling c b (question-told c b w l q)

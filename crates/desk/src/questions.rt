@@ -3,10 +3,9 @@
 ghost use Prim.Native.Nat.{_+_, _≤_};
 ghost use lib.ListN.{length};
 ghost use Rattle.book.specs.Layout.{five};
-ghost use Rattle.book.specs.View.{view};
 ghost use Rattle.printing_book.specs.Shown.{counts-shown, dump-shown, lines-shown, shown-room};
-ghost use Rattle.desk.specs.Answers.{Runs, telling};
-ghost use Rattle.desk.specs.Questions.{of-book, question-step};
+ghost use Rattle.desk.specs.Answers.{Tells};
+ghost use Rattle.desk.specs.Questions.{of-book, question-told};
 use crate::answering::Ran;
 use crate::answering::printed;
 use crate::asking::run_ask;
@@ -31,8 +30,8 @@ fn run_counts(
     out: &mut [u8],
 ) -> Ran
     requires { ⌜ shown-room c ≤ length (now out) ⌝ }
-    ensures { λ r. ⌜ Runs (telling c (five (now (nodes .entry)) (now (names .entry)) (now (lines .entry)) (now (pool .entry)) (now (journal .entry))) (of-book (view c (five (now (nodes .entry)) (now (names .entry)) (now (lines .entry)) (now (pool .entry)) (now (journal .entry)))) (λ v. counts-shown c)))
-        (now (out .entry)) r (now (out .exit)) (five (now (nodes .entry)) (now (names .entry)) (now (lines .entry)) (now (pool .entry)) (now (journal .entry))) ⌝ }
+    ensures { λ r. ⌜ Tells c (five (now (nodes .entry)) (now (names .entry)) (now (lines .entry)) (now (pool .entry)) (now (journal .entry)))
+        (λ b w. of-book w (λ v. counts-shown c)) (now (out .entry)) r (now (out .exit)) ⌝ }
 {
     if !is_book(c, nodes, names, lines, pool, journal) {
         return printed(c, put_refused_answer(out, NO_BOOK));
@@ -51,8 +50,8 @@ fn run_lines(
     out: &mut [u8],
 ) -> Ran
     requires { ⌜ shown-room c ≤ length (now out) ⌝ }
-    ensures { λ r. ⌜ Runs (telling c (five (now (nodes .entry)) (now (names .entry)) (now (lines .entry)) (now (pool .entry)) (now (journal .entry))) (of-book (view c (five (now (nodes .entry)) (now (names .entry)) (now (lines .entry)) (now (pool .entry)) (now (journal .entry)))) (λ v. lines-shown 0 (v .lines))))
-        (now (out .entry)) r (now (out .exit)) (five (now (nodes .entry)) (now (names .entry)) (now (lines .entry)) (now (pool .entry)) (now (journal .entry))) ⌝ }
+    ensures { λ r. ⌜ Tells c (five (now (nodes .entry)) (now (names .entry)) (now (lines .entry)) (now (pool .entry)) (now (journal .entry)))
+        (λ b w. of-book w (λ v. lines-shown 0 (v .lines))) (now (out .entry)) r (now (out .exit)) ⌝ }
 {
     if !is_book(c, nodes, names, lines, pool, journal) {
         return printed(c, put_refused_answer(out, NO_BOOK));
@@ -71,8 +70,8 @@ fn run_dump(
     out: &mut [u8],
 ) -> Ran
     requires { ⌜ shown-room c ≤ length (now out) ⌝ }
-    ensures { λ r. ⌜ Runs (telling c (five (now (nodes .entry)) (now (names .entry)) (now (lines .entry)) (now (pool .entry)) (now (journal .entry))) (of-book (view c (five (now (nodes .entry)) (now (names .entry)) (now (lines .entry)) (now (pool .entry)) (now (journal .entry)))) (λ v. dump-shown c (five (now (nodes .entry)) (now (names .entry)) (now (lines .entry)) (now (pool .entry)) (now (journal .entry))))))
-        (now (out .entry)) r (now (out .exit)) (five (now (nodes .entry)) (now (names .entry)) (now (lines .entry)) (now (pool .entry)) (now (journal .entry))) ⌝ }
+    ensures { λ r. ⌜ Tells c (five (now (nodes .entry)) (now (names .entry)) (now (lines .entry)) (now (pool .entry)) (now (journal .entry)))
+        (λ b w. of-book w (λ v. dump-shown c b)) (now (out .entry)) r (now (out .exit)) ⌝ }
 {
     if !is_book(c, nodes, names, lines, pool, journal) {
         return printed(c, put_refused_answer(out, NO_BOOK));
@@ -93,8 +92,8 @@ pub fn run_question(
     out: &mut [u8],
 ) -> Ran
     requires { ⌜ shown-room c + length (now line) ≤ length (now out) ⌝ }
-    ensures { λ r. ⌜ Runs (question-step c (five (now (nodes .entry)) (now (names .entry)) (now (lines .entry)) (now (pool .entry)) (now (journal .entry))) (view c (five (now (nodes .entry)) (now (names .entry)) (now (lines .entry)) (now (pool .entry)) (now (journal .entry)))) (now (line .entry)) q)
-        (now (out .entry)) r (now (out .exit)) (five (now (nodes .entry)) (now (names .entry)) (now (lines .entry)) (now (pool .entry)) (now (journal .entry))) ⌝ }
+    ensures { λ r. ⌜ Tells c (five (now (nodes .entry)) (now (names .entry)) (now (lines .entry)) (now (pool .entry)) (now (journal .entry)))
+        (λ b w. question-told c b w (now (line .entry)) q) (now (out .entry)) r (now (out .exit)) ⌝ }
 {
     match q {
         Question::Ask(at) => run_ask(c, nodes, names, lines, pool, journal, tail(line, at), out),

@@ -1,7 +1,6 @@
 -- What prints leaves one answer and one end state: rendering, rendering_symbols, listing_symbols, listing_script, listing, showing, showing_lines, dumping,
 -- answering, asking, desk_edits, desk_questions, desk. Assumes nothing.
 use mathlib.Core.Path.{refl}
-use Rattle.desk.specs.Answers.{Runs}
 use Rattle.uniqueness.specs.Unique.{Unique}
 use Rattle.uniqueness.proofs.Same.{_▹_, same}
 use Rattle.printing_symbols.proofs.render_refused
@@ -73,19 +72,16 @@ printed-unique κs a x y v w p q = (same p q, refl)
 
 -- ---- asking
 pub run-ask-unique : Unique run_ask.ended run_ask.Reads.Post
-unfolding Runs
 run-ask-unique κs a x y v w p q = (same (p .0) (q .0), λ i. tt ▹ tt ▹ tt ▹ tt ▹ tt ▹ tt ▹ tt ▹ same (p .1) (q .1) i ▹ tt)
 
 -- ---- desk_edits
 pub run-edit-unique : Unique run_edit.ended run_edit.Reads.Post
-unfolding Runs
 run-edit-unique κs a x y v w p q =
     let b = same (p .2) (q .2) in
     (same (p .0) (q .0), λ i. tt ▹ tt ▹ tt ▹ b i .lines ▹ b i .pool ▹ b i .journal ▹ tt ▹ tt ▹ same (p .1) (q .1) i ▹ tt)
 
 -- ---- desk_questions
 pub run-question-unique : Unique run_question.ended run_question.Reads.Post
-unfolding Runs
 run-question-unique κs a x y v w p q = (same (p .0) (q .0), λ i. tt ▹ tt ▹ tt ▹ tt ▹ tt ▹ tt ▹ tt ▹ tt ▹ same (p .1) (q .1) i ▹ tt)
 
 -- ---- desk

@@ -1,8 +1,7 @@
 -- `run_question` meets its contract. Assumes nothing.
 use borrow.Author.Needs.{needs}
 use Rattle.book.specs.Layout.{five}
-use Rattle.book.specs.View.{view}
-use Rattle.desk.proofs.Shown.{ask-room, ask-runs, book-room, counts-run, dump-runs, lines-run}
+use Rattle.desk.proofs.Shown.{ask-room, ask-told, book-room, counts-told, dump-told, lines-told}
 use Rattle.desk.proofs.questions.run_question.Statement.{statement}
 use Rattle.desk.proofs.questions.run_question.Tie as tie
 
@@ -58,7 +57,7 @@ returns c =
     let at-args = at-q .before .before .before .before .before .before .before .before .before in
     let a = at-args .args in
     let b = five (a .nodes .now) (a .names .now) (a .lines .now) (a .pool .now) (a .journal .now) in
-    ask-runs (a .c) b (view (a .c) b) (a .line .now) (a .q) (a .out .now) _ _ _ _ (at-q .q .given .1) (at-tail .tail .ensures)
+    ask-told (a .c) b (a .line .now) (a .q) (a .out .now) _ _ _ _ (at-q .q .given .1) (at-tail .tail .ensures)
     (at-run-ask .run-ask .ensures)
 
 same-length-2 : tie.Need-same-length-2
@@ -71,7 +70,7 @@ returns-2 c =
     let at-args = at-enum-told .before .before .before .before .before .before .before .before .before in
     let a = at-args .args in
     let b = five (a .nodes .now) (a .names .now) (a .lines .now) (a .pool .now) (a .journal .now) in
-    counts-run (a .c) b (view (a .c) b) (a .line .now) (a .q) (a .out .now) _ _ (at-enum-told .enum-told .given .1) (at-run-counts .run-counts .ensures)
+    counts-told (a .c) b (a .line .now) (a .q) (a .out .now) _ _ (at-enum-told .enum-told .given .1) (at-run-counts .run-counts .ensures)
 
 same-length-3 : tie.Need-same-length-3
 same-length-3 c = search needs
@@ -83,7 +82,7 @@ returns-3 c =
     let at-args = at-enum-told2 .before .before .before .before .before .before .before .before .before in
     let a = at-args .args in
     let b = five (a .nodes .now) (a .names .now) (a .lines .now) (a .pool .now) (a .journal .now) in
-    lines-run (a .c) b (view (a .c) b) (a .line .now) (a .q) (a .out .now) _ _ (at-enum-told2 .enum-told2 .given .1) (at-run-lines .run-lines .ensures)
+    lines-told (a .c) b (a .line .now) (a .q) (a .out .now) _ _ (at-enum-told2 .enum-told2 .given .1) (at-run-lines .run-lines .ensures)
 
 same-length-4 : tie.Need-same-length-4
 same-length-4 c = search needs
@@ -95,7 +94,7 @@ returns-4 c =
     let at-args = at-enum-told3 .before .before .before .before .before .before .before .before .before in
     let a = at-args .args in
     let b = five (a .nodes .now) (a .names .now) (a .lines .now) (a .pool .now) (a .journal .now) in
-    dump-runs (a .c) b (view (a .c) b) (a .line .now) (a .q) (a .out .now) _ _ (at-enum-told3 .enum-told3 .given .1) (at-run-dump .run-dump .ensures)
+    dump-told (a .c) b (a .line .now) (a .q) (a .out .now) _ _ (at-enum-told3 .enum-told3 .given .1) (at-run-dump .run-dump .ensures)
 
 pub run-question-spec : {M : Type 1} → statement M
 run-question-spec =
