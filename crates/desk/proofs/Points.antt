@@ -17,7 +17,7 @@ use Rattle.desk_commands.specs.Commands.{add-command, command-of, question-of, 
 use Rattle.desk.specs.Answers.{Step, telling}
 use Rattle.desk.specs.Asked.{asked, member-answered, member-line}
 use Rattle.desk.specs.Edits.{done-said, edit-asked, edit-step, said}
-use Rattle.desk.specs.Questions.{question-step, question-told}
+use Rattle.desk.specs.Questions.{book-shown, question-step, question-told}
 use Rattle.desk.specs.Desk.{line-step, step}
 
 -- what is printed for each of the lines, each on what the one before left
@@ -97,5 +97,5 @@ unfolding computing name-part wanted-part decimal numbered refused-answer refuse
     asked-line fields index-field symbol-answered symbol-line with-locality
     buffer-shown counts-shown dump-shown fields-shown line-shown lines-shown numbers-shown
     digit digits number-at number-of worth add-command command-of question-of strike-command
-    asked member-answered member-line done-said edit-asked edit-step said question-step question-told line-step step printed-from
+    asked member-answered member-line done-said edit-asked edit-step said book-shown question-step question-told line-step step printed-from
 points = search

@@ -17,11 +17,12 @@ use Rattle.printing.specs.Printing.{refused-answer}
 use Rattle.printing.proofs.Pieces.{Begins}
 use Rattle.desk_commands.specs.declared.Question.{Question}
 use Rattle.desk_commands.specs.declared.Question.the-variants as question
-use Rattle.printing_book.specs.Shown.{counts-shown, dump-shown, lines-shown, shown-room}
+use Rattle.desk_commands.specs.declared.Shown.{Shown}
+use Rattle.printing_book.specs.Shown.{shown-room}
 use Rattle.desk.specs.declared.answering.Ran.{Ran}
 use Rattle.desk.specs.Answers.{Tells, ran-with}
 use Rattle.desk.specs.Asked.{asked}
-use Rattle.desk.specs.Questions.{of-book, question-told}
+use Rattle.desk.specs.Questions.{book-shown, of-book, question-told}
 
 -- ---- what is shown of a book. x is whether the buffers hold one, and the code asked whether they do not
 module _ (c : Counts) (b : Buffers) (x : Bool) (e : x ≡ holds c b) where
@@ -35,14 +36,11 @@ module _ (c : Counts) (b : Buffers) (x : Bool) (e : x ≡ holds c b) where
     pub no-book-shown : not x ≡ true → Begins d (refused-answer no-book) l k → Tells c b (λ b w. of-book w show) d r l
     no-book-shown h p = told-shown (refused-answer no-book) (rw (asked-none c b x e h)) p
 
-    pub book-shown : not x ≡ false → Begins d (show (book-of c b)) l k → Tells c b (λ b w. of-book w show) d r l
-    book-shown h p = told-shown (show (book-of c b)) (rw (asked-held c b x e h .viewed)) p
+    pub some-book-shown : not x ≡ false → Begins d (show (book-of c b)) l k → Tells c b (λ b w. of-book w show) d r l
+    some-book-shown h p = told-shown (show (book-of c b)) (rw (asked-held c b x e h .viewed)) p
 
 -- ---- the question q of the line t
 module _ (c : Counts) (t d : List ℕ) (h : shown-room c + length t ≤ length d) where
-  pub book-room : shown-room c ≤ length d
-  book-room = omega arith
-
   pub ask-room : (u : List ℕ) (at : ℕ) → u ≡ drop at t → length u + 48 ≤ length d
   unfolding shown-room
   ask-room u at i = rw i (omega (arith, length-drop at t))
@@ -53,14 +51,6 @@ module _ (c : Counts) (b : Buffers) (t : List ℕ) (q : Question) (d l : List �
   unfolding question-told
   ask-told at u g i p = rw (g, ← i) p
 
-  pub counts-told : q ≡ question.Counts → Tells c b (λ b w. of-book w (λ v. counts-shown c)) d r l → Tells c b (λ b w. question-told c b w t q) d r l
+  pub show-told : (x : Shown) → q ≡ question.Show x → Tells c b (λ b w. of-book w (book-shown c b x)) d r l → Tells c b (λ b w. question-told c b w t q) d r l
   unfolding question-told
-  counts-told g p = rw g p
-
-  pub lines-told : q ≡ question.Lines → Tells c b (λ b w. of-book w (λ v. lines-shown 0 (v .lines))) d r l → Tells c b (λ b w. question-told c b w t q) d r l
-  unfolding question-told
-  lines-told g p = rw g p
-
-  pub dump-told : q ≡ question.Dump → Tells c b (λ b w. of-book w (λ v. dump-shown c b)) d r l → Tells c b (λ b w. question-told c b w t q) d r l
-  unfolding question-told
-  dump-told g p = rw g p
+  show-told x g p = rw g p
