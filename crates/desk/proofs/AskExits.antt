@@ -17,17 +17,18 @@ use Rattle.linker_script.proofs.Searches.{first-within}
 use Rattle.book.specs.declared.Counts.{Counts}
 use Rattle.book.specs.Books.{Book, export}
 use Rattle.book.specs.Layout.{Buffers}
+use Rattle.book.specs.View.{view}
 use Rattle.ranking.specs.Matching.{name-of}
 use Rattle.export_list.specs.declared.Membership.{Membership}
 use Rattle.export_list.specs.declared.Membership.the-variants as membership
 use Rattle.export_list.specs.Membership.{contains-asked}
 use Rattle.input.specs.Splitting.{at-sign, part-before, name-part}
 use Rattle.printing.specs.Printing.{refused-fields}
-use Rattle.printing.proofs.Pieces.{Begins, Puts, begins, begins-front, few-refused, line-end, puts-both, puts-long}
+use Rattle.printing.proofs.Pieces.{Begins, Puts, begins, few-refused, line-end, puts-both, puts-long}
 use Rattle.printing_symbols.specs.Lines.{symbol-answered}
 use Rattle.printing_symbols.proofs.Rendered.{Rendered, rendered-some}
 use Rattle.desk.specs.declared.answering.Ran.{Ran}
-use Rattle.desk.specs.Answers.{Runs, ran-with, telling}
+use Rattle.desk.specs.Answers.{Tells, ran-with}
 use Rattle.desk.specs.Asked.{asked, member-answered, member-fields, member-line}
 
 -- ---- a name and whether it is in an export list
@@ -96,14 +97,14 @@ pub member-asked : (d t name : List ℕ) (w : Option Book) (m : Membership) (l :
 unfolding member-answered
 member-asked d t name w m l r e f p = rw (← e, ← f) p
 
-module _ (c : Counts) (b : Buffers) (w : Option Book) (t d l : List ℕ) (k : ℕ) (r : Ran) (q : r ≡ ran-with c k true) where
-  pub list-asked : c .kind ≡ export → Begins d (member-answered w t) l k → Runs (telling c b (asked (c .kind) w t)) d r l b
-  unfolding Runs asked
-  list-asked e p = rw (eq-eqb (c .kind) export e) (q ∙ ap (λ (n : ℕ). ran-with c n true) (p .0), begins-front d (member-answered w t) l k p, refl)
+module _ (c : Counts) (b : Buffers) (t d l : List ℕ) (k : ℕ) (r : Ran) (q : r ≡ ran-with c k true) where
+  pub list-asked : c .kind ≡ export → Begins d (member-answered (view c b) t) l k → Tells c b (λ b w. asked (c .kind) w t) d r l
+  unfolding asked
+  list-asked e p = rw (eq-eqb (c .kind) export e) (q ∙ ap (λ (n : ℕ). ran-with c n true) (p .0), p .1)
 
-  pub script-asked : (c .kind ≡ export → ⊥) → length t + 48 ≤ length d → Rendered (length t) (symbol-answered w t) d l k
-      → Runs (telling c b (asked (c .kind) w t)) d r l b
-  unfolding Runs asked
+  pub script-asked : (c .kind ≡ export → ⊥) → length t + 48 ≤ length d → Rendered (length t) (symbol-answered (view c b) t) d l k
+      → Tells c b (λ b w. asked (c .kind) w t) d r l
+  unfolding asked
   script-asked h room p =
-      let y = rendered-some (length t) (symbol-answered w t) d l k room p in
-      rw (ne-eqb (c .kind) export h) (q ∙ ap (λ (n : ℕ). ran-with c n true) (y .0), y .1, refl)
+      let y = rendered-some (length t) (symbol-answered (view c b) t) d l k room p in
+      rw (ne-eqb (c .kind) export h) (q ∙ ap (λ (n : ℕ). ran-with c n true) (y .0), y .1)

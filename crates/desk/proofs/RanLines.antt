@@ -12,8 +12,7 @@ use Rattle.numbers.specs.Signs.{line-feed, question}
 use Rattle.lists.specs.Front.{front}
 use Rattle.book.specs.declared.Counts.{Counts}
 use Rattle.book.specs.Layout.{Buffers}
-use Rattle.book.specs.View.{view}
-use Rattle.printing.proofs.Pieces.{Begins, Puts, begins, begins-front}
+use Rattle.printing.proofs.Pieces.{Begins, Puts, begins}
 use Rattle.desk_commands.specs.declared.Command.{Command}
 use Rattle.desk_commands.specs.declared.Command.the-variants as command
 use Rattle.desk_commands.specs.declared.Edit.{Edit}
@@ -21,10 +20,10 @@ use Rattle.desk_commands.specs.declared.Question.{Question}
 use Rattle.desk_commands.specs.Commands.{command-of}
 use Rattle.printing_book.specs.Shown.{shown-room}
 use Rattle.desk.specs.declared.answering.Ran.{Ran}
-use Rattle.desk.specs.Answers.{Runs}
+use Rattle.desk.specs.Answers.{Runs, Tells}
 use Rattle.desk.specs.Edits.{edit-step}
-use Rattle.desk.specs.Questions.{question-step}
-use Rattle.desk.specs.Desk.{has-room, line-leaves, line-printed, line-ran, line-step, not-run, step}
+use Rattle.desk.specs.Questions.{question-step, question-told}
+use Rattle.desk.specs.Desk.{Runs-line, has-room, line-leaves, line-printed, line-ran, line-step, not-run, step}
 
 -- ---- what is no command
 abbrev pub untold : Counts → ℕ → Ran
@@ -34,7 +33,7 @@ pub unknown-told : (c : Counts) (d l : List ℕ) (k : ℕ) → Puts d 0 (63 ∷ 
     → (untold c k ≡ untold c 2) × (l ≡ front (question ∷ line-feed ∷ []) d)
 unknown-told c d l k p =
     let q : Begins d (question ∷ line-feed ∷ []) l k = begins d (question ∷ line-feed ∷ []) l k p in
-    (ap (λ (n : ℕ). untold c n) (q .0), begins-front d (question ∷ line-feed ∷ []) l k q)
+    (ap (λ (n : ℕ). untold c n) (q .0), q .1)
 
 -- ---- whether there is room for n more
 module _ (n room shown out : ℕ) (e : room ≡ shown) where
@@ -49,11 +48,8 @@ module _ (n room shown out : ℕ) (e : room ≡ shown) where
       by false f = sym (lt-leb (shown + n) out (omega (arith, leb-false n (out - room) f)))
 
 -- ---- the line t: r is answered, l is left of d, and b′ of the buffers b. x is whether there is room, and the code asked whether there is none
-abbrev pub Answered : Counts → Buffers → List ℕ → List ℕ → Ran → List ℕ → Buffers → Type 0
-Answered c b t d r l b′ = (r ≡ line-ran c b t d) × (l ≡ line-printed c b t d) × (b′ ≡ line-leaves c b t d)
-
 module _ (c : Counts) (t d : List ℕ) (x : Bool) (e : x ≡ leb (shown-room c + length t) (length d)) where
-  pub not-answered : (b : Buffers) → not x ≡ true → Answered c b t d (not-run c) d b
+  pub not-answered : (b : Buffers) → not x ≡ true → Runs-line c b t d (not-run c) d b
   unfolding line-ran line-printed line-leaves has-room
   not-answered b h = rw (← e, not-true x h) (refl, refl, refl)
 
@@ -66,18 +62,18 @@ module _ (c : Counts) (t d : List ℕ) (x : Bool) (e : x ≡ leb (shown-room c +
     answer-room = omega (arith, line-room)
 
     module _ (b : Buffers) (m : Command) (f : m ≡ command-of t) (l : List ℕ) (r : Ran) (b′ : Buffers) where
-      answered : Runs (step c b (view c b) t m) d r l b′ → Answered c b t d r l b′
-      unfolding Runs line-ran line-printed line-leaves has-room line-step
+      answered : Runs c b (λ b w. step c b w t m) d r l b′ → Runs-line c b t d r l b′
+      unfolding line-ran line-printed line-leaves has-room line-step
       answered p = rw (← e, not-false x h, ← f) p
 
-      pub edit-answered : (v : Edit) → m ≡ command.Edits v → Runs (edit-step c b (view c b) t v) d r l b′ → Answered c b t d r l b′
+      pub edit-answered : (v : Edit) → m ≡ command.Edits v → Runs c b (λ b w. edit-step c b w t v) d r l b′ → Runs-line c b t d r l b′
       unfolding step
       edit-answered v g p = answered (rw g p)
 
-      pub question-answered : (q : Question) → m ≡ command.Asks q → Runs (question-step c b (view c b) t q) d r l b′ → Answered c b t d r l b′
-      unfolding step
-      question-answered q g p = answered (rw g p)
+      pub question-answered : (q : Question) → m ≡ command.Asks q → Tells c b (λ b w. question-told c b w t q) d r l → b′ ≡ b → Runs-line c b t d r l b′
+      unfolding step question-step
+      question-answered q g p i = answered (rw g (p .0, p .1, i))
 
-      pub unknown-answered : m ≡ command.Unknown → (r ≡ untold c 2) × (l ≡ front (question ∷ line-feed ∷ []) d) → b′ ≡ b → Answered c b t d r l b′
-      unfolding step Runs
+      pub unknown-answered : m ≡ command.Unknown → (r ≡ untold c 2) × (l ≡ front (question ∷ line-feed ∷ []) d) → b′ ≡ b → Runs-line c b t d r l b′
+      unfolding step
       unknown-answered g p i = answered (rw g (p .0, p .1, i))

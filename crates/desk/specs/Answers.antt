@@ -3,10 +3,13 @@ use Prim.Native.Nat.{ℕ}
 use mathlib.Core.Path.{_≡_}
 use mathlib.Core.List.{List}
 use mathlib.Core.Bool.{Bool, true}
+use mathlib.Core.Option.{Option}
 use lib.ListN.{length}
 use Rattle.lists.specs.Front.{front}
 use Rattle.book.specs.declared.Counts.{Counts}
+use Rattle.book.specs.Books.{Book}
 use Rattle.book.specs.Layout.{Buffers}
+use Rattle.book.specs.View.{view}
 use Rattle.trial.specs.declared.Edited.{Edited}
 use Rattle.trial.specs.declared.Edited.the-variants as answer
 use Rattle.trial.specs.Changes.{Change, after, counts-after, edited}
@@ -43,6 +46,11 @@ edit-ran c say (answer.Refused n) = ran-with c (length (say (answer.Refused n)))
 abbrev pub Finishes : Counts → (Edited → List ℕ) → Edited → List ℕ → List ℕ → Ran → Type 0
 Finishes c say a d l n = (n ≡ edit-ran c say a) × (l ≡ front (say a) d)
 
--- s has run: r is answered, it stands at the front of `out`, and the buffers are as it leaves them
-unfoldable pub Runs : Step → List ℕ → Ran → List ℕ → Buffers → Type 0
-Runs s out r out′ b′ = (r ≡ ran s) × (out′ ≡ front (s .printed) out) × (b′ ≡ s .left)
+-- the command `does` has run on the buffers b and the book that they hold with the counts c: r is answered, what it prints stands at the front of `out`, and
+-- the buffers are as it leaves them
+abbrev pub Runs : Counts → Buffers → (Buffers → Option Book → Step) → List ℕ → Ran → List ℕ → Buffers → Type 0
+Runs c b does out r out′ b′ = (r ≡ ran (does b (view c b))) × (out′ ≡ front (does b (view c b) .printed) out) × (b′ ≡ does b (view c b) .left)
+
+-- the same of a question, which prints what `tells` says and leaves the buffers as they are
+abbrev pub Tells : Counts → Buffers → (Buffers → Option Book → List ℕ) → List ℕ → Ran → List ℕ → Type 0
+Tells c b tells out r out′ = (r ≡ ran-with c (length (tells b (view c b))) true) × (out′ ≡ front (tells b (view c b)) out)

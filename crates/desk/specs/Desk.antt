@@ -1,5 +1,6 @@
 -- The release desk: what a line of its input prints on a trial book, and what it leaves. Assumes nothing.
 use Prim.Native.Nat.{ℕ, _+_}
+use mathlib.Core.Path.{_≡_}
 use mathlib.Core.List.{List, [], _∷_}
 use mathlib.Core.Bool.{Bool, true, false, cond}
 use mathlib.Core.Option.{Option}
@@ -53,3 +54,7 @@ line-printed c b l out = cond (has-room c l out) (front (line-step c b l .printe
 
 unfoldable pub line-leaves : Counts → Buffers → List ℕ → List ℕ → Buffers
 line-leaves c b l out = cond (has-room c l out) (line-step c b l .left) b
+
+-- the line l is answered with r, and `out` and the buffers are out′ and b′ then
+abbrev pub Runs-line : Counts → Buffers → List ℕ → List ℕ → Ran → List ℕ → Buffers → Type 0
+Runs-line c b l out r out′ b′ = (r ≡ line-ran c b l out) × (out′ ≡ line-printed c b l out) × (b′ ≡ line-leaves c b l out)

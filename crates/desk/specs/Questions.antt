@@ -7,9 +7,12 @@ use Rattle.numbers.specs.Refusals.{no-book}
 use Rattle.book.specs.declared.Counts.{Counts}
 use Rattle.book.specs.Books.{Book}
 use Rattle.book.specs.Layout.{Buffers}
+use Rattle.book.specs.View.{book-of}
 use Rattle.printing.specs.Printing.{refused-answer}
 use Rattle.desk_commands.specs.declared.Question.{Question}
 use Rattle.desk_commands.specs.declared.Question.the-variants as question
+use Rattle.desk_commands.specs.declared.Shown.{Shown}
+use Rattle.desk_commands.specs.declared.Shown.the-variants as shown
 use Rattle.printing_book.specs.Shown.{counts-shown, dump-shown, lines-shown}
 use Rattle.desk.specs.Answers.{Step, telling}
 use Rattle.desk.specs.Asked.{asked}
@@ -19,9 +22,21 @@ abbrev pub of-book : Option Book → (Book → List ℕ) → List ℕ
 of-book none show = refused-answer no-book
 of-book (some w) show = show w
 
--- a question of the line l, on the book w of the counts c and the buffers b
+-- of the book v of the counts c and the buffers b
+unfoldable pub book-shown : Counts → Buffers → Shown → Book → List ℕ
+book-shown c b shown.Counts v = counts-shown c
+book-shown c b shown.Lines v = lines-shown 0 (v .lines)
+book-shown c b shown.Dump v = dump-shown c b
+
+-- of the book that the buffers hold
+abbrev pub held-shown : Counts → Buffers → Shown → List ℕ
+held-shown c b x = book-shown c b x (book-of c b)
+
+-- ---- what a question of the line l prints, on the book w of the counts c and the buffers b
+unfoldable pub question-told : Counts → Buffers → Option Book → List ℕ → Question → List ℕ
+question-told c b w l (question.Ask at) = asked (c .kind) w (drop at l)
+question-told c b w l (question.Show x) = of-book w (book-shown c b x)
+
+-- it changes nothing
 unfoldable pub question-step : Counts → Buffers → Option Book → List ℕ → Question → Step
-question-step c b w l (question.Ask at) = telling c b (asked (c .kind) w (drop at l))
-question-step c b w l question.Counts = telling c b (of-book w (λ v. counts-shown c))
-question-step c b w l question.Lines = telling c b (of-book w (λ v. lines-shown 0 (v .lines)))
-question-step c b w l question.Dump = telling c b (of-book w (λ v. dump-shown c b))
+question-step c b w l q = telling c b (question-told c b w l q)

@@ -1,12 +1,12 @@
-// A symbol's line asked of a book, as `verlist` asks it, or of an export list; answered into a lent buffer. Definitions: specs/Asked.antt. These functions are the
-// release desk's own leaves: they ask for room.
+// A symbol's line asked of a book, as `verlist` asks it, or of an export list; answered into a lent buffer. Definitions: specs/Asked.antt. These functions are
+// the release desk's own leaves: they ask for room.
 ghost use mathlib.Core.Path.{_≡_};
 ghost use Prim.Native.Nat.{_+_, _≤_};
 ghost use lib.ListN.{length};
 ghost use Rattle.book.specs.Layout.{five};
 ghost use Rattle.book.specs.View.{view};
 ghost use Rattle.input.specs.Splitting.{name-part};
-ghost use Rattle.desk.specs.Answers.{Runs, telling};
+ghost use Rattle.desk.specs.Answers.{Tells};
 ghost use Rattle.desk.specs.Asked.{asked, member-answered, member-line};
 ghost use Rattle.printing_symbols.specs.Lines.{tail-room};
 ghost use Rattle.printing.specs.Printing.{Begins};
@@ -61,7 +61,9 @@ fn ask_member(
     out: &mut [u8],
 ) -> usize
     requires { ⌜ length (now t) + tail-room ≤ length (now out) ⌝ }
-    ensures { λ r. ⌜ Begins (now (out .entry)) (member-answered (view c (five (now (nodes .entry)) (now (names .entry)) (now (lines .entry)) (now (pool .entry)) (now (journal .entry)))) (now (t .entry))) (now (out .exit)) r ⌝ }
+    ensures { λ r. ⌜ Begins (now (out .entry))
+        (member-answered (view c (five (now (nodes .entry)) (now (names .entry)) (now (lines .entry)) (now (pool .entry)) (now (journal .entry))))
+        (now (t .entry))) (now (out .exit)) r ⌝ }
 {
     let name = name_part(t);
     let m = contains(c, nodes, names, lines, pool, journal, name, name);
@@ -80,8 +82,8 @@ pub fn run_ask(
     out: &mut [u8],
 ) -> Ran
     requires { ⌜ length (now t) + tail-room ≤ length (now out) ⌝ }
-    ensures { λ r. ⌜ Runs (telling c (five (now (nodes .entry)) (now (names .entry)) (now (lines .entry)) (now (pool .entry)) (now (journal .entry))) (asked (c .kind) (view c (five (now (nodes .entry)) (now (names .entry)) (now (lines .entry)) (now (pool .entry)) (now (journal .entry)))) (now (t .entry))))
-        (now (out .entry)) r (now (out .exit)) (five (now (nodes .entry)) (now (names .entry)) (now (lines .entry)) (now (pool .entry)) (now (journal .entry))) ⌝ }
+    ensures { λ r. ⌜ Tells c (five (now (nodes .entry)) (now (names .entry)) (now (lines .entry)) (now (pool .entry)) (now (journal .entry)))
+        (λ b w. asked (c .kind) w (now (t .entry))) (now (out .entry)) r (now (out .exit)) ⌝ }
 {
     if c.kind == EXPORT {
         return printed(c, ask_member(c, nodes, names, lines, pool, journal, t, out));

@@ -1,5 +1,5 @@
-// An edit of the release desk's input, done on a trial book and answered into a lent buffer. Definitions: specs/Edits.antt. These functions are the release desk's
-// own leaves: those that print ask for room.
+// An edit of the release desk's input, done on a trial book and answered into a lent buffer. Definitions: specs/Edits.antt. These functions are the release
+// desk's own leaves: those that print ask for room.
 ghost use mathlib.Core.Path.{_≡_};
 ghost use Prim.Native.Nat.{_-_, _≤_};
 ghost use lib.ListN.{length};
@@ -121,8 +121,9 @@ pub fn run_edit(
     out: &mut [u8],
 ) -> Ran
     requires { ⌜ answer-room ≤ length (now out) ⌝ }
-    ensures { λ r. ⌜ Runs (edit-step c (five (now (nodes .entry)) (now (names .entry)) (now (lines .entry)) (now (pool .entry)) (now (journal .entry))) (view c (five (now (nodes .entry)) (now (names .entry)) (now (lines .entry)) (now (pool .entry)) (now (journal .entry)))) (now (line .entry)) e)
-        (now (out .entry)) r (now (out .exit)) (five (now (nodes .entry)) (now (names .entry)) (now (lines .exit)) (now (pool .exit)) (now (journal .exit))) ⌝ }
+    ensures { λ r. ⌜ Runs c (five (now (nodes .entry)) (now (names .entry)) (now (lines .entry)) (now (pool .entry)) (now (journal .entry)))
+        (λ b w. edit-step c b w (now (line .entry)) e) (now (out .entry)) r (now (out .exit))
+        (five (now (nodes .entry)) (now (names .entry)) (now (lines .exit)) (now (pool .exit)) (now (journal .exit))) ⌝ }
 {
     let r = make_edit(c, nodes, names, lines, pool, journal, line, e);
     say_edit(c, e, r, out)

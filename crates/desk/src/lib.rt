@@ -6,7 +6,7 @@ ghost use lib.ListN.{length};
 ghost use Rattle.lists.specs.Front.{front};
 ghost use Rattle.book.specs.Layout.{five};
 ghost use Rattle.desk.specs.Answers.{ran-with};
-ghost use Rattle.desk.specs.Desk.{line-leaves, line-printed, line-ran, room-for, unknown-printed};
+ghost use Rattle.desk.specs.Desk.{Runs-line, room-for, unknown-printed};
 ghost use Rattle.printing.specs.Printing.{answer-room};
 use crate::answering::Ran;
 use crate::edits::run_edit;
@@ -60,10 +60,9 @@ pub fn run_line(
     line: &[u8],
     out: &mut [u8],
 ) -> Ran
-    ensures { λ r. ⌜ (r ≡ line-ran c (five (now (nodes .entry)) (now (names .entry)) (now (lines .entry)) (now (pool .entry)) (now (journal .entry))) (now (line .entry)) (now (out .entry)))
-        × (now (out .exit) ≡ line-printed c (five (now (nodes .entry)) (now (names .entry)) (now (lines .entry)) (now (pool .entry)) (now (journal .entry))) (now (line .entry)) (now (out .entry)))
-        × (five (now (nodes .entry)) (now (names .entry)) (now (lines .exit)) (now (pool .exit)) (now (journal .exit))
-        ≡ line-leaves c (five (now (nodes .entry)) (now (names .entry)) (now (lines .entry)) (now (pool .entry)) (now (journal .entry))) (now (line .entry)) (now (out .entry))) ⌝ }
+    ensures { λ r. ⌜ Runs-line c (five (now (nodes .entry)) (now (names .entry)) (now (lines .entry)) (now (pool .entry)) (now (journal .entry)))
+        (now (line .entry)) (now (out .entry)) r (now (out .exit))
+        (five (now (nodes .entry)) (now (names .entry)) (now (lines .exit)) (now (pool .exit)) (now (journal .exit))) ⌝ }
 {
     if !has_room(c, line.len(), out.len()) {
         return Ran {

@@ -2,17 +2,21 @@
 // functions are the release desk's own leaves: they ask for room.
 ghost use Prim.Native.Nat.{_+_, _≤_};
 ghost use lib.ListN.{length};
+ghost use mathlib.Core.Path.{_≡_};
+ghost use mathlib.Core.Bool.{true};
 ghost use Rattle.book.specs.Layout.{five};
-ghost use Rattle.book.specs.View.{view};
-ghost use Rattle.printing_book.specs.Shown.{counts-shown, dump-shown, lines-shown, shown-room};
-ghost use Rattle.desk.specs.Answers.{Runs, telling};
-ghost use Rattle.desk.specs.Questions.{of-book, question-step};
+ghost use Rattle.book.specs.View.{holds};
+ghost use Rattle.printing.specs.Printing.{Begins};
+ghost use Rattle.printing_book.specs.Shown.{shown-room};
+ghost use Rattle.desk.specs.Answers.{Tells};
+ghost use Rattle.desk.specs.Questions.{book-shown, held-shown, of-book, question-told};
 use crate::answering::Ran;
 use crate::answering::printed;
 use crate::asking::run_ask;
 use book::Counts;
 use book_check::is_book;
 use desk_commands::Question;
+use desk_commands::Shown;
 use desk_commands::parts::tail;
 use numbers::NO_BOOK;
 use printing::put_refused_answer;
@@ -20,64 +24,48 @@ use printing_book::dump::show_dump;
 use printing_book::lines::show_lines;
 use printing_book::show_counts;
 
-// The counts of a book.
-fn run_counts(
+// What is shown of a book, which the buffers hold.
+fn show(
     c: Counts,
     nodes: &[u32],
     names: &[u8],
     lines: &[u32],
     pool: &[u8],
     journal: &[u32],
+    what: Shown,
     out: &mut [u8],
-) -> Ran
-    requires { ⌜ shown-room c ≤ length (now out) ⌝ }
-    ensures { λ r. ⌜ Runs (telling c (five (now (nodes .entry)) (now (names .entry)) (now (lines .entry)) (now (pool .entry)) (now (journal .entry))) (of-book (view c (five (now (nodes .entry)) (now (names .entry)) (now (lines .entry)) (now (pool .entry)) (now (journal .entry)))) (λ v. counts-shown c)))
-        (now (out .entry)) r (now (out .exit)) (five (now (nodes .entry)) (now (names .entry)) (now (lines .entry)) (now (pool .entry)) (now (journal .entry))) ⌝ }
+) -> usize
+    requires { ⌜ (shown-room c ≤ length (now out)) × (holds c (five (now nodes) (now names) (now lines) (now pool) (now journal)) ≡ true) ⌝ }
+    ensures { λ r. ⌜ Begins (now (out .entry))
+        (held-shown c (five (now (nodes .entry)) (now (names .entry)) (now (lines .entry)) (now (pool .entry)) (now (journal .entry))) what)
+        (now (out .exit)) r ⌝ }
 {
-    if !is_book(c, nodes, names, lines, pool, journal) {
-        return printed(c, put_refused_answer(out, NO_BOOK));
+    match what {
+        Shown::Counts => show_counts(c, out),
+        Shown::Lines => show_lines(c, nodes, names, lines, pool, journal, out),
+        Shown::Dump => show_dump(c, nodes, names, lines, pool, journal, out),
     }
-    printed(c, show_counts(c, out))
 }
 
-// Its lines.
-fn run_lines(
+// The same of buffers that may hold none.
+fn run_show(
     c: Counts,
     nodes: &[u32],
     names: &[u8],
     lines: &[u32],
     pool: &[u8],
     journal: &[u32],
+    what: Shown,
     out: &mut [u8],
 ) -> Ran
     requires { ⌜ shown-room c ≤ length (now out) ⌝ }
-    ensures { λ r. ⌜ Runs (telling c (five (now (nodes .entry)) (now (names .entry)) (now (lines .entry)) (now (pool .entry)) (now (journal .entry))) (of-book (view c (five (now (nodes .entry)) (now (names .entry)) (now (lines .entry)) (now (pool .entry)) (now (journal .entry)))) (λ v. lines-shown 0 (v .lines))))
-        (now (out .entry)) r (now (out .exit)) (five (now (nodes .entry)) (now (names .entry)) (now (lines .entry)) (now (pool .entry)) (now (journal .entry))) ⌝ }
+    ensures { λ r. ⌜ Tells c (five (now (nodes .entry)) (now (names .entry)) (now (lines .entry)) (now (pool .entry)) (now (journal .entry)))
+        (λ b w. of-book w (book-shown c b what)) (now (out .entry)) r (now (out .exit)) ⌝ }
 {
     if !is_book(c, nodes, names, lines, pool, journal) {
         return printed(c, put_refused_answer(out, NO_BOOK));
     }
-    printed(c, show_lines(c, nodes, names, lines, pool, journal, out))
-}
-
-// What its buffers hold.
-fn run_dump(
-    c: Counts,
-    nodes: &[u32],
-    names: &[u8],
-    lines: &[u32],
-    pool: &[u8],
-    journal: &[u32],
-    out: &mut [u8],
-) -> Ran
-    requires { ⌜ shown-room c ≤ length (now out) ⌝ }
-    ensures { λ r. ⌜ Runs (telling c (five (now (nodes .entry)) (now (names .entry)) (now (lines .entry)) (now (pool .entry)) (now (journal .entry))) (of-book (view c (five (now (nodes .entry)) (now (names .entry)) (now (lines .entry)) (now (pool .entry)) (now (journal .entry)))) (λ v. dump-shown c (five (now (nodes .entry)) (now (names .entry)) (now (lines .entry)) (now (pool .entry)) (now (journal .entry))))))
-        (now (out .entry)) r (now (out .exit)) (five (now (nodes .entry)) (now (names .entry)) (now (lines .entry)) (now (pool .entry)) (now (journal .entry))) ⌝ }
-{
-    if !is_book(c, nodes, names, lines, pool, journal) {
-        return printed(c, put_refused_answer(out, NO_BOOK));
-    }
-    printed(c, show_dump(c, nodes, names, lines, pool, journal, out))
+    printed(c, show(c, nodes, names, lines, pool, journal, what, out))
 }
 
 // A question.
@@ -93,13 +81,11 @@ pub fn run_question(
     out: &mut [u8],
 ) -> Ran
     requires { ⌜ shown-room c + length (now line) ≤ length (now out) ⌝ }
-    ensures { λ r. ⌜ Runs (question-step c (five (now (nodes .entry)) (now (names .entry)) (now (lines .entry)) (now (pool .entry)) (now (journal .entry))) (view c (five (now (nodes .entry)) (now (names .entry)) (now (lines .entry)) (now (pool .entry)) (now (journal .entry)))) (now (line .entry)) q)
-        (now (out .entry)) r (now (out .exit)) (five (now (nodes .entry)) (now (names .entry)) (now (lines .entry)) (now (pool .entry)) (now (journal .entry))) ⌝ }
+    ensures { λ r. ⌜ Tells c (five (now (nodes .entry)) (now (names .entry)) (now (lines .entry)) (now (pool .entry)) (now (journal .entry)))
+        (λ b w. question-told c b w (now (line .entry)) q) (now (out .entry)) r (now (out .exit)) ⌝ }
 {
     match q {
         Question::Ask(at) => run_ask(c, nodes, names, lines, pool, journal, tail(line, at), out),
-        Question::Counts => run_counts(c, nodes, names, lines, pool, journal, out),
-        Question::Lines => run_lines(c, nodes, names, lines, pool, journal, out),
-        Question::Dump => run_dump(c, nodes, names, lines, pool, journal, out),
+        Question::Show(what) => run_show(c, nodes, names, lines, pool, journal, what, out),
     }
 }

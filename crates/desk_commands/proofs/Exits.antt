@@ -20,6 +20,7 @@ use Rattle.desk_commands.specs.declared.Command.{Command}
 use Rattle.desk_commands.specs.declared.Command.the-variants as command
 use Rattle.desk_commands.specs.declared.Edit.the-variants as edit
 use Rattle.desk_commands.specs.declared.Question.the-variants as question
+use Rattle.desk_commands.specs.declared.Shown.the-variants as shown
 use Rattle.reading_tokens.specs.Tokens.{begins}
 use Rattle.desk_commands.specs.Commands.{add-command, command-of, question-of, strike-command}
 
@@ -105,7 +106,7 @@ module _ (l : List ℕ) (t : Bool) (e : t ≡ begins (codes "ask ") l) where
     no-ask : begins (codes "ask ") l ≡ false
     no-ask = sym e ∙ m
 
-    pub is-counts : t₂ ≡ true → command.Asks question.Counts ≡ question-of l
+    pub is-counts : t₂ ≡ true → command.Asks (question.Show shown.Counts) ≡ question-of l
     unfolding question-of codes
     is-counts h = rw (no-ask, sym e₂ ∙ h)
 
@@ -113,7 +114,7 @@ module _ (l : List ℕ) (t : Bool) (e : t ≡ begins (codes "ask ") l) where
       no-counts : same l (codes "counts") ≡ false
       no-counts = sym e₂ ∙ m₂
 
-      pub is-lines : t₃ ≡ true → command.Asks question.Lines ≡ question-of l
+      pub is-lines : t₃ ≡ true → command.Asks (question.Show shown.Lines) ≡ question-of l
       unfolding question-of codes
       is-lines h = rw (no-ask, no-counts, sym e₃ ∙ h)
 
@@ -121,7 +122,7 @@ module _ (l : List ℕ) (t : Bool) (e : t ≡ begins (codes "ask ") l) where
         no-lines : same l (codes "lines") ≡ false
         no-lines = sym e₃ ∙ m₃
 
-        pub is-dump : t₄ ≡ true → command.Asks question.Dump ≡ question-of l
+        pub is-dump : t₄ ≡ true → command.Asks (question.Show shown.Dump) ≡ question-of l
         unfolding question-of codes
         is-dump h = rw (no-ask, no-counts, no-lines, sym e₄ ∙ h)
 

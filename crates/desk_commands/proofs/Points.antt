@@ -10,6 +10,7 @@ use Rattle.desk_commands.specs.declared.Command.{Command}
 use Rattle.desk_commands.specs.declared.Command.the-variants as command
 use Rattle.desk_commands.specs.declared.Edit.the-variants as edit
 use Rattle.desk_commands.specs.declared.Question.the-variants as question
+use Rattle.desk_commands.specs.declared.Shown.the-variants as shown
 use Rattle.reading_tokens.specs.Tokens.{begins}
 use Rattle.desk_commands.specs.Commands.{add-command, command-of, question-of, strike-command}
 
@@ -35,9 +36,9 @@ points =
     ∷ ("symbol! f", command.Edits (edit.Symbol 8 true))
     ∷ ("symbol!f", command.Unknown)
     ∷ ("ask a@b", command.Asks (question.Ask 4))
-    ∷ ("counts", command.Asks question.Counts)
-    ∷ ("lines", command.Asks question.Lines)
-    ∷ ("dump", command.Asks question.Dump)
+    ∷ ("counts", command.Asks (question.Show shown.Counts))
+    ∷ ("lines", command.Asks (question.Show shown.Lines))
+    ∷ ("dump", command.Asks (question.Show shown.Dump))
     ∷ ("dumps", command.Unknown)
     ∷ ("", command.Unknown)
     ∷ []

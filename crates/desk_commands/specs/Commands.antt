@@ -15,6 +15,7 @@ use Rattle.desk_commands.specs.declared.Command.{Command}
 use Rattle.desk_commands.specs.declared.Command.the-variants as command
 use Rattle.desk_commands.specs.declared.Edit.the-variants as edit
 use Rattle.desk_commands.specs.declared.Question.the-variants as question
+use Rattle.desk_commands.specs.declared.Shown.the-variants as shown
 
 -- the words of the commands that have something behind them
 abbrev pub add-word : List ℕ
@@ -56,9 +57,9 @@ strike-command l = on-number (number-at l (length strike-word)) (λ line p. cond
 unfoldable pub question-of : List ℕ → Command
 question-of l =
     cond (begins ask-word l) (command.Asks (question.Ask (length ask-word)))
-    (cond (same l (codes "counts")) (command.Asks question.Counts)
-    (cond (same l (codes "lines")) (command.Asks question.Lines)
-    (cond (same l (codes "dump")) (command.Asks question.Dump)
+    (cond (same l (codes "counts")) (command.Asks (question.Show shown.Counts))
+    (cond (same l (codes "lines")) (command.Asks (question.Show shown.Lines))
+    (cond (same l (codes "dump")) (command.Asks (question.Show shown.Dump))
     command.Unknown)))
 
 unfoldable pub command-of : List ℕ → Command

@@ -26,12 +26,17 @@ pub enum Edit {
     },
 }
 
-// A question; a name begins at a place of its line.
-pub enum Question {
-    Ask(usize),
+// What is shown of a book: its counts, its lines, what its buffers hold.
+pub enum Shown {
     Counts,
     Lines,
     Dump,
+}
+
+// A question; a name begins at a place of its line.
+pub enum Question {
+    Ask(usize),
+    Show(Shown),
 }
 
 pub enum Command {
@@ -108,13 +113,13 @@ fn question_of(line: &[u8]) -> Command
         return Command::Asks(Question::Ask(4));
     }
     if same_bytes(line, b"counts") {
-        return Command::Asks(Question::Counts);
+        return Command::Asks(Question::Show(Shown::Counts));
     }
     if same_bytes(line, b"lines") {
-        return Command::Asks(Question::Lines);
+        return Command::Asks(Question::Show(Shown::Lines));
     }
     if same_bytes(line, b"dump") {
-        return Command::Asks(Question::Dump);
+        return Command::Asks(Question::Show(Shown::Dump));
     }
     Command::Unknown
 }

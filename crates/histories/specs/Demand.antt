@@ -40,7 +40,8 @@ pub record Holds (b : Buffers) (w : Book) (y : Lent) (d : Desk) : Type 0 where
   pub held : view (y .counts) (y .buffers) ≡ some (record { kind = w .kind; nodes = w .nodes; lines = d .lines; edits = edits })
   pub undoable : length edits ≡ length (d .earlier)
   -- "each lookup answers by demand 2's ranking over exactly the lines that the history leaves standing"
-  pub version : (n : Name) (v : Option (List ℕ)) → version-asked (view (y .counts) (y .buffers)) n v ≡ version-asked (some (with-lines w (standing (d .lines)))) n v
+  pub version : (n : Name) (v : Option (List ℕ))
+      → version-asked (view (y .counts) (y .buffers)) n v ≡ version-asked (some (with-lines w (standing (d .lines)))) n v
   pub locality : (n : Name) → locality-asked (view (y .counts) (y .buffers)) n ≡ locality-asked (some (with-lines w (standing (d .lines)))) n
   pub member : (n : Name) → contains-asked (view (y .counts) (y .buffers)) n ≡ contains-asked (some (with-lines w (standing (d .lines)))) n
   -- "and undoing every edit since the opening, or since the last settle that dropped a line, brings back each lent byte of that moment", and each count:

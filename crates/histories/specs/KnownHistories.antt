@@ -3,7 +3,7 @@
 -- book that they hold.
 -- proofs/KnownHistories.antt proves the table.
 -- Assumes nothing.
-use Prim.Native.Nat.{ℕ, _*_}
+use Prim.Native.Nat.{ℕ}
 use Prim.Native.String.{String}
 use mathlib.Core.Path.{_≡_}
 use mathlib.Core.List.{List, [], _∷_}
@@ -11,11 +11,9 @@ use mathlib.Core.Bool.{true, false}
 use mathlib.Core.Option.{none}
 use Rattle.numbers.specs.Marks.{cxx, general, global, local}
 use Rattle.lists.specs.Texts.{codes}
-use Rattle.packing.specs.Padding.{zeros}
-use Rattle.book.specs.Layout.{Buffers, edit-width, five, line-width, node-width}
+use Rattle.book.specs.Layout.{Buffers}
 use Rattle.book.specs.View.{view}
-use Rattle.book_opening.specs.Opening.{as-list, as-script, opening}
-use Rattle.ranking.specs.Matching.{Name, name-of, plain}
+use Rattle.ranking.specs.Matching.{Name}
 use Rattle.lookups.specs.declared.answers.Version.{Version}
 use Rattle.lookups.specs.declared.answers.Version.the-variants.{Unversioned}
 use Rattle.lookups.specs.declared.answers.Locality.{Locality}
@@ -24,20 +22,17 @@ use Rattle.lookups.specs.Lookups.{index, locality-asked, version-asked}
 use Rattle.export_list.specs.declared.Membership.{Membership}
 use Rattle.export_list.specs.declared.Membership.the-variants.{Within, Without}
 use Rattle.export_list.specs.Membership.{contains-asked}
+use Rattle.known_points.specs.Tables.{demangles, opened-list, opened-script, rooms, symbol}
 use Rattle.histories.specs.Histories.{Call, adds, strikes, undoes, settles, adds-symbol, Lent, Told, history, run}
 use Rattle.histories.specs.Demand.{lent-opening}
 
 -- ---- how the table is told
--- buffers with room for so many nodes, bytes of names, lines, bytes of lines, and edits
-abbrev pub rooms : ℕ → ℕ → ℕ → ℕ → ℕ → Buffers
-rooms nodes names lines pool edits = five (zeros (node-width * nodes)) (zeros names) (zeros (line-width * lines)) (zeros pool) (zeros (edit-width * edits))
-
 -- what the opening of a version script leaves, and that of an export list
 abbrev pub script : Buffers → String → Lent
-script b t = lent-opening b (opening as-script b (codes t))
+script b t = lent-opening b (opened-script b t)
 
 abbrev pub export-list : Buffers → String → Lent
-export-list b t = lent-opening b (opening as-list b (codes t))
+export-list b t = lent-opening b (opened-list b t)
 
 -- the numbers that calls answer, in turn
 unfoldable pub numbers : List Told → List ℕ
@@ -46,13 +41,6 @@ numbers (x ∷ xs) = x .number ∷ numbers xs
 
 abbrev pub answers : Lent → List Call → List ℕ
 answers x ks = numbers (history x ks)
-
--- a name that no demangler changes, and one with its demangled name
-abbrev pub symbol : String → Name
-symbol t = plain (codes t)
-
-abbrev pub demangles : String → String → Name
-demangles raw t = name-of (codes raw) (codes t)
 
 -- what a name gets: a version, which is an index or none, and a locality
 pub record Gets (y : Lent) (n : Name) (v : Version) (l : Locality) : Type 0 where

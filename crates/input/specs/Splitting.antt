@@ -1,5 +1,5 @@
--- The parts of verlist's input, as 01 has them: "script, a line `%%`, then one symbol a line (a last LF may lack), `@` before a wanted version." trial_desk's input
--- has the same mark. Assumes nothing.
+-- The parts of verlist's input, as 01 has them: "script, a line `%%`, then one symbol a line (a last LF may lack), `@` before a wanted version." trial_desk's
+-- input has the same mark. Assumes nothing.
 use Prim.Native.Nat.{ℕ, _+_}
 use mathlib.Core.List.{List, [], _∷_, _++_}
 use mathlib.Core.Bool.{Bool, true, cond, _&&_, _||_}

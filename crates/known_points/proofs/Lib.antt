@@ -1,1 +1,2 @@
+pub mod Computing
 pub mod Theorem

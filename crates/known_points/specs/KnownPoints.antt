@@ -7,17 +7,15 @@ use mathlib.Core.List.{List, [], _∷_}
 use mathlib.Core.Bool.{Bool, true, false}
 use mathlib.Core.Option.{Option, some, none}
 use Rattle.lists.specs.Texts.{codes}
-use Rattle.utf8.specs.Utf8.{encoding, chars}
+use Rattle.utf8.specs.Utf8.{chars}
 use Rattle.numbers.specs.declared.Edition.the-variants.{Reld}
 use Rattle.pattern.specs.Patterns.{elements, matches}
 use Rattle.classes.specs.declared.Class.the-variants.{Exact, Escaped, NonStar, Star, All}
 use Rattle.storing.specs.Keeping.{Keep, kept, refused, keep}
-use Rattle.packing.specs.Padding.{zeros}
 use Rattle.book.specs.Books.{Book}
-use Rattle.book.specs.Layout.{Buffers, five}
+use Rattle.book.specs.Layout.{Buffers}
 use Rattle.book.specs.View.{view}
-use Rattle.book_opening.specs.Opening.{Opening, as-script, left, opening, told}
-use Rattle.ranking.specs.Matching.{plain}
+use Rattle.book_opening.specs.Opening.{Opening, left, told}
 use Rattle.lookups.specs.declared.answers.Version.{Version}
 use Rattle.lookups.specs.declared.answers.Locality.{Locality}
 use Rattle.lookups.specs.declared.answers.Locality.the-variants.{Global, Local}
@@ -27,18 +25,15 @@ use Rattle.counting.specs.declared.NodeAnswer.{NodeAnswer}
 use Rattle.counting.specs.declared.NodeAnswer.the-variants.{Node}
 use Rattle.counting.specs.Questions.{counted, node-of, version-count}
 use Rattle.lookups.specs.Lookups.{index, locality-asked, version-asked}
-
--- ---- quoted texts, as bytes in UTF-8
-unfoldable pub bytes : String → List ℕ
-bytes t = encoding (codes t)
+use Rattle.known_points.specs.Tables.{opened-script, rooms, symbol}
 
 -- ---- what a token is, and which names it matches
 -- what is kept of a token
-unfoldable pub keeps : String → Keep
-keeps t = keep Reld (bytes t)
+abbrev pub keeps : String → Keep
+keeps t = keep Reld (codes t)
 
 -- the points ask this of globs only
-unfoldable pub kept-matches : Keep → List ℕ → Bool
+abbrev pub kept-matches : Keep → List ℕ → Bool
 kept-matches (kept NonStar b) n = matches (elements Reld b) (chars n)
 kept-matches (kept Star b) n = matches (elements Reld b) (chars n)
 kept-matches (kept Exact b) n = false
@@ -47,64 +42,64 @@ kept-matches (kept All b) n = false
 kept-matches (refused r) n = false
 
 -- whether a token is a glob that, as it is stored, matches a name
-unfoldable pub fits : String → List ℕ → Bool
+abbrev pub fits : String → List ℕ → Bool
 fits t n = kept-matches (keeps t) n
 
 -- "P1 `"*"` Exact; `*` All."
 pub record P1 : Type 0 where
-  pub quoted : keeps "\"*\"" ≡ kept Exact (bytes "*")
+  pub quoted : keeps "\"*\"" ≡ kept Exact (codes "*")
   pub bare : keeps "*" ≡ kept All []
 
 -- "P2 `\*` Escaped, stored `*`."
 pub record P2 : Type 0 where
-  pub escaped : keeps "\\*" ≡ kept Escaped (bytes "*")
+  pub escaped : keeps "\\*" ≡ kept Escaped (codes "*")
 
 -- "P3 `?*` Star."
 pub record P3 : Type 0 where
-  pub star : keeps "?*" ≡ kept Star (bytes "?*")
+  pub star : keeps "?*" ≡ kept Star (codes "?*")
 
 -- "P4 `?\*` NonStar, matches `x\yz`."
 pub record P4 : Type 0 where
-  pub nonstar : keeps "?\\*" ≡ kept NonStar (bytes "?\\*")
-  pub yes : fits "?\\*" (bytes "x\\yz") ≡ true
+  pub nonstar : keeps "?\\*" ≡ kept NonStar (codes "?\\*")
+  pub yes : fits "?\\*" (codes "x\\yz") ≡ true
 
 -- "P5 `a\` Escaped, stored whole."
 pub record P5 : Type 0 where
-  pub escaped : keeps "a\\" ≡ kept Escaped (bytes "a\\")
+  pub escaped : keeps "a\\" ≡ kept Escaped (codes "a\\")
 
 -- "P6 `[]]` matches `]`; `[]` refused 6."
 pub record P6 : Type 0 where
-  pub yes : fits "[]]" (bytes "]") ≡ true
+  pub yes : fits "[]]" (codes "]") ≡ true
   pub unclosed : keeps "[]" ≡ refused 6
 
 -- "P7 `[^a]b` matches `xb`, not `ab`."
 pub record P7 : Type 0 where
-  pub yes : fits "[^a]b" (bytes "xb") ≡ true
-  pub no : fits "[^a]b" (bytes "ab") ≡ false
+  pub yes : fits "[^a]b" (codes "xb") ≡ true
+  pub no : fits "[^a]b" (codes "ab") ≡ false
 
 -- "P8 `h?` matches `h` then C3 A9."
 pub record P8 : Type 0 where
   pub yes : fits "h?" (0x68 ∷ 0xC3 ∷ 0xA9 ∷ []) ≡ true
 
 -- ---- a script that is opened in buffers with room enough, and the book that the answered counts and the buffers hold then
-abbrev pub rooms : Buffers
-rooms = five (zeros 30) (zeros 40) (zeros 40) (zeros 40) []
+abbrev pub enough : Buffers
+enough = rooms 10 40 10 40 0
 
-unfoldable pub opened : String → Opening
-opened t = opening as-script rooms (bytes t)
+abbrev pub opened : String → Opening
+opened t = opened-script enough t
 
-unfoldable pub held : String → Option Book
-held t = view (told (opened t) .counts) (left rooms (opened t))
+abbrev pub held : String → Option Book
+held t = view (told (opened t) .counts) (left enough (opened t))
 
 -- what it is asked: the version of a name that no demangler changes, with no version wanted, or with one; its locality; the count of versions; and a node
 abbrev pub version : String → String → Version
-version s t = version-asked (held s) (plain (bytes t)) none
+version s t = version-asked (held s) (symbol t) none
 
 abbrev pub version-wanted : String → String → String → Version
-version-wanted s t v = version-asked (held s) (plain (bytes t)) (some (bytes v))
+version-wanted s t v = version-asked (held s) (symbol t) (some (codes v))
 
 abbrev pub locality : String → String → Locality
-locality s t = locality-asked (held s) (plain (bytes t))
+locality s t = locality-asked (held s) (symbol t)
 
 abbrev pub versions : String → Count
 versions s = counted version-count (held s)

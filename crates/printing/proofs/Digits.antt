@@ -9,7 +9,8 @@ use native.Mathlib.Omega.{arith}
 use borrow.Author.Tests.{lt-ltb, le-ltb}
 use lib.Dec.{ltb}
 use lib.ListN.{length, getD, take, drop, set, length-append, length-set, take-append-drop}
-use lib.Seq.{length-take-le, paste, set-at, take-length, take-suc}
+use lib.Seq.{drop-drop, length-take-le, set-at, take-suc}
+use Rattle.lists.specs.Front.{front}
 use Rattle.printing.specs.Printing.{decimal, spelled}
 
 -- ---- lengths
@@ -148,12 +149,13 @@ module _ (d : List ℕ) (at n : ℕ) where
   }
 
   module _ (l : List ℕ) (i rest : ℕ) (inv : Filling d at n l i rest) where
-    pub fill-ends : i ≤ at → l ≡ paste d at (decimal n) (length (decimal n))
+    pub fill-ends : i ≤ at → l ≡ take at d ++ front (decimal n) (drop at d)
+    unfolding front
     fill-ends h =
         let z : length (inv .ahead) ≡ 0 = omega (arith, inv .place) in
         let y : i ≡ at = omega (arith, inv .place) in
         let e : inv .stand ≡ decimal n = rw (length-zero (inv .ahead) z) at (sym (inv .all)) in
-        inv .list ∙ rw (y, e, take-length) (sym (append-assoc (take at d) (decimal n) (drop (at + length (decimal n)) d)))
+        inv .list ∙ rw (y, e, drop-drop)
 
     pub fill-within : at + 10 ≤ length d → at < i → i - 1 < length l
     fill-within room h = omega (arith, few-digits n, inv .long, inv .place, ap length (inv .all), length-append (inv .ahead) (inv .stand))

@@ -2,10 +2,10 @@
 use Prim.Native.Nat.{ℕ, _+_, _≤_}
 use mathlib.Core.Path.{_≡_, sym, ap, _∙_}
 use mathlib.Core.List.{List, [], _∷_, _++_, append-assoc}
-use native.Mathlib.Nat.{le-refl, zero-add}
+use native.Mathlib.Nat.{add-zero, le-refl, zero-add}
 use native.Mathlib.Omega.{arith}
 use lib.ListN.{length, take, drop, length-append}
-use lib.Seq.{drop-drop, drop-paste, length-paste, paste, take-length, take-paste}
+use lib.Seq.{drop-drop, drop-paste, length-paste, paste, paste-zero, take-length, take-paste}
 use Rattle.numbers.specs.Signs.{line-feed, space}
 use Rattle.lists.specs.Front.{front}
 use Rattle.lists.specs.Texts.{codes}
@@ -13,26 +13,41 @@ pub use Rattle.printing.specs.Printing.{Begins, Puts}
 use Rattle.printing.specs.Printing.{decimal, numbered, refused-fields, spaced}
 use Rattle.printing.proofs.Digits.{few-digits}
 
+-- a copy of a whole text puts it
+pub pasted : (d : List ℕ) (at : ℕ) (xs : List ℕ) → paste d at xs (length xs) ≡ take at d ++ front xs (drop at d)
+unfolding front
+pasted d at xs = rw (take-length, drop-drop) (append-assoc (take at d) xs (drop (at + length xs) d))
+
+-- no text is put anywhere
+pub puts-nothing : (d : List ℕ) (at : ℕ) → Puts d at [] d at
+puts-nothing d at = (sym (add-zero at), paste-zero d at [] ∙ pasted d at [])
+
 pub puts-long : (d : List ℕ) (at : ℕ) (xs l : List ℕ) (r : ℕ) → at + length xs ≤ length d → Puts d at xs l r → length l ≡ length d
-puts-long d at xs l r room p = ap length (p .1) ∙ length-paste d at xs (length xs) room (le-refl (length xs))
+puts-long d at xs l r room p = ap length (p .1 ∙ sym (pasted d at xs)) ∙ length-paste d at xs (length xs) room (le-refl (length xs))
 
 pub puts-both : (d : List ℕ) (at : ℕ) (xs ys d₁ d₂ : List ℕ) (e r : ℕ) → at + length xs + length ys ≤ length d → Puts d at xs d₁ e → Puts d₁ e ys d₂ r
     → Puts d at (xs ++ ys) d₂ r
-puts-both d at xs ys d₁ d₂ e r room p q = (omega (arith, p .0, q .0, length-append xs ys), q .1 ∙ lists)
+puts-both d at xs ys d₁ d₂ e r room p q =
+    (omega (arith, p .0, q .0, length-append xs ys), q .1 ∙ sym (pasted d₁ e ys) ∙ lists ∙ pasted d at (xs ++ ys))
   where
+    first : d₁ ≡ paste d at xs (length xs)
+    first = p .1 ∙ sym (pasted d at xs)
+
     head : take e d₁ ≡ take at d ++ xs
-    head = rw (p .0, p .1) (take-paste d at xs (length xs) (omega arith) (le-refl (length xs)) ∙ rw take-length)
+    head = rw (p .0, first) (take-paste d at xs (length xs) (omega arith) (le-refl (length xs)) ∙ rw take-length)
 
     tail : drop (e + length ys) d₁ ≡ drop (at + length (xs ++ ys)) d
     tail =
         let z : at + length xs + length ys ≡ at + length (xs ++ ys) = omega (arith, length-append xs ys) in
         sym (drop-drop (length ys) e d₁)
-        ∙ rw (p .0, p .1) (ap (λ (l : List ℕ). drop (length ys) l) (drop-paste d at xs (length xs) (omega arith) (le-refl (length xs)))
+        ∙ rw (p .0, first) (ap (λ (l : List ℕ). drop (length ys) l) (drop-paste d at xs (length xs) (omega arith) (le-refl (length xs)))
         ∙ drop-drop (length ys) (at + length xs) d
         ∙ ap (λ (n : ℕ). drop n d) z)
 
     lists : paste d₁ e ys (length ys) ≡ paste d at (xs ++ ys) (length (xs ++ ys))
-    lists = rw (head, tail, take-length ys, take-length (xs ++ ys)) (ap (λ (l : List ℕ). l ++ drop (at + length (xs ++ ys)) d) (append-assoc (take at d) xs ys))
+    lists =
+        rw (head, tail, take-length ys, take-length (xs ++ ys))
+        (ap (λ (l : List ℕ). l ++ drop (at + length (xs ++ ys)) d) (append-assoc (take at d) xs ys))
 
 -- ---- a number and what stands behind it
 module _ (d : List ℕ) (at n : ℕ) (d₁ d₂ : List ℕ) (e r : ℕ) where
@@ -46,9 +61,8 @@ line-end = line-feed ∷ []
 pub begins : (d xs l : List ℕ) (r : ℕ) → Puts d 0 xs l r → Begins d xs l r
 begins d xs l r p = (p .0 ∙ zero-add (length xs), p .1)
 
-pub begins-front : (d xs l : List ℕ) (r : ℕ) → Begins d xs l r → l ≡ front xs d
-unfolding front
-begins-front d xs l r p = p .1 ∙ rw (take-length, zero-add)
+pub put-first : (d xs l : List ℕ) (r : ℕ) → Begins d xs l r → Puts d 0 xs l r
+put-first d xs l r p = (p .0 ∙ sym (zero-add (length xs)), p .1)
 
 -- ---- a word, a blank and a number; the same as a line
 module _ (d : List ℕ) (n : ℕ) (d₁ d₂ d₃ : List ℕ) (a b r : ℕ) where

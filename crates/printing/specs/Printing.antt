@@ -4,18 +4,19 @@ use mathlib.Core.Path.{_≡_}
 use mathlib.Core.List.{List, [], _∷_, _++_}
 use mathlib.Core.Bool.{cond}
 use lib.Dec.{ltb}
-use lib.ListN.{length}
-use lib.Seq.{paste}
+use lib.ListN.{length, take, drop}
 use Rattle.numbers.specs.Signs.{line-feed, nought, space}
+use Rattle.lists.specs.Front.{front}
 use Rattle.lists.specs.Texts.{codes}
 
--- ---- a text is put into a buffer d: from the place `at` on the buffer has it, everywhere else what it had, and so it is l; r is the place behind the text
+-- ---- a text is put into a buffer d: it stands at the front of what begins at the place `at`, everywhere else is what was there, and so the buffer is l; r is
+-- the place behind the text
 abbrev pub Puts : List ℕ → ℕ → List ℕ → List ℕ → ℕ → Type 0
-Puts d at text l r = (r ≡ at + length text) × (l ≡ paste d at text (length text))
+Puts d at text l r = (r ≡ at + length text) × (l ≡ take at d ++ front text (drop at d))
 
--- the same at the buffer's start, where the place behind the text is its length
+-- the same at 0, where the place behind the text is its length
 abbrev pub Begins : List ℕ → List ℕ → List ℕ → ℕ → Type 0
-Begins d text l r = (r ≡ length text) × (l ≡ paste d 0 text (length text))
+Begins d text l r = (r ≡ length text) × (l ≡ front text d)
 
 -- ---- a number in decimal digits, k of them at most
 unfoldable pub spelled : ℕ → ℕ → List ℕ

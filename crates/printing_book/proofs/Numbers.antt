@@ -3,7 +3,6 @@ use Prim.Native.Nat.{ℕ, zero, suc, _+_, _*_, _/_, _%_, _<_, _≤_}
 use mathlib.Core.Path.{_≡_, refl, sym, ap, subst, _∙_}
 use mathlib.Core.Bool.{Bool, true, false, cond}
 use mathlib.Core.List.{List, [], _∷_, _++_, append-assoc, append-nil}
-use native.Mathlib.Nat.{add-zero}
 use native.Mathlib.Numerals.{add-one}
 use native.Mathlib.Omega.{arith}
 use borrow.Author.Tests.{lt-ltb}
@@ -11,9 +10,9 @@ use mir.Syntax.{w8}
 use mir.Val.{Fits}
 use lib.Dec.{ltb}
 use lib.ListN.{length, take, getD, length-append}
-use lib.Seq.{paste-zero, take-suc}
+use lib.Seq.{take-suc}
 use Rattle.printing.specs.Printing.{Puts, decimal, spaced, spelled}
-use Rattle.printing.proofs.Pieces.{few-spaced, line-end, puts-both, puts-long}
+use Rattle.printing.proofs.Pieces.{few-spaced, line-end, puts-both, puts-long, puts-nothing}
 use Rattle.printing_book.specs.Shown.{buffer-shown, numbers-shown}
 use Rattle.printing_book.proofs.Pieces.{behind, text-placed}
 
@@ -75,7 +74,7 @@ pub record Numbered (d : List ℕ) (at : ℕ) (l : List ℕ) (n : ℕ) (out : Li
 module _ (d : List ℕ) (at : ℕ) (l : List ℕ) (n : ℕ) where
   pub numbers-start : Numbered d at l n d at 0
   unfolding numbers-shown
-  numbers-start = record { within = omega arith; long = refl; put = (sym (add-zero at), paste-zero d at []) }
+  numbers-start = record { within = omega arith; long = refl; put = puts-nothing d at }
 
   module _ (out : List ℕ) (end i : ℕ) (inv : Numbered d at l n out end i) where
     pub numbers-end : n ≤ i → Puts d at (numbers-shown (take n l)) out end

@@ -6,7 +6,7 @@ use mathlib.Core.List.{List, [], _∷_, _++_, append-assoc, append-nil}
 use native.Mathlib.Numerals.{add-one}
 use native.Mathlib.Omega.{arith}
 use lib.ListN.{length, take, drop, getD, length-append}
-use lib.Seq.{length-take-le, paste-zero, take-all, take-suc}
+use lib.Seq.{length-take-le, take-all, take-suc}
 use Rattle.packing.specs.Tables.{packed, packs, things}
 use Rattle.packing.proofs.Packings.{bytes-within}
 use Rattle.book.specs.declared.Counts.{Counts}
@@ -18,7 +18,7 @@ use Rattle.book.proofs.Asking.{held-book}
 use Rattle.book.proofs.Forms.{line-laws}
 use Rattle.book.proofs.LineRows.{Row, line-row, lines-count, lines-packed, row-bytes, row-line, row-short}
 use Rattle.printing.specs.Printing.{Begins, Puts}
-use Rattle.printing.proofs.Pieces.{begins, puts-both, puts-long}
+use Rattle.printing.proofs.Pieces.{begins, puts-both, puts-long, puts-nothing}
 use Rattle.printing_book.specs.Shown.{line-shown, lines-shown, shown-room}
 use Rattle.printing_book.proofs.Fields.{few-line}
 
@@ -54,7 +54,7 @@ pub record Listed (xs : List Line) (d out : List ℕ) (end i : ℕ) : Type 0 whe
 
 pub lines-start : (xs : List Line) (d : List ℕ) → Listed xs d d 0 0
 unfolding lines-shown
-lines-start xs d = record { within = omega arith; long = refl; put = (refl, paste-zero d 0 []) }
+lines-start xs d = record { within = omega arith; long = refl; put = puts-nothing d 0 }
 
 module _ (c : Counts) (b : Buffers) (held : holds c b ≡ true) where
   abbrev ls : List Line

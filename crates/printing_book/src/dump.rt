@@ -75,8 +75,11 @@ fn put_pair(
     bytes: &[u8],
     m: usize,
 ) -> usize
-    requires { ⌜ (n ≤ length (now l)) × (m ≤ length (now bytes)) × (at + (length (now word) + 11 * n + 1) + (length (now second) + 4 * m + 9) ≤ length (now out)) ⌝ }
-    ensures { λ r. ⌜ Puts (now (out .entry)) at (buffer-shown (now (word .entry)) (take n (now (l .entry))) ++ buffer-shown (now (second .entry)) (take m (now (bytes .entry)))) (now (out .exit)) r ⌝ }
+    requires { ⌜ (n ≤ length (now l)) × (m ≤ length (now bytes))
+        × (at + (length (now word) + 11 * n + 1) + (length (now second) + 4 * m + 9) ≤ length (now out)) ⌝ }
+    ensures { λ r. ⌜ Puts (now (out .entry)) at
+        (buffer-shown (now (word .entry)) (take n (now (l .entry))) ++ buffer-shown (now (second .entry)) (take m (now (bytes .entry))))
+        (now (out .exit)) r ⌝ }
 {
     let end = put_buffer(out, at, word, l, n);
     put_byte_buffer(out, end, second, bytes, m)
@@ -93,7 +96,8 @@ pub fn show_dump(
     out: &mut [u8],
 ) -> usize
     requires { ⌜ (shown-room c ≤ length (now out)) × (holds c (five (now nodes) (now names) (now lines) (now pool) (now journal)) ≡ true) ⌝ }
-    ensures { λ r. ⌜ Begins (now (out .entry)) (dump-shown c (five (now (nodes .entry)) (now (names .entry)) (now (lines .entry)) (now (pool .entry)) (now (journal .entry)))) (now (out .exit)) r ⌝ }
+    ensures { λ r. ⌜ Begins (now (out .entry))
+        (dump-shown c (five (now (nodes .entry)) (now (names .entry)) (now (lines .entry)) (now (pool .entry)) (now (journal .entry)))) (now (out .exit)) r ⌝ }
 {
     let a = put_pair(
         out,

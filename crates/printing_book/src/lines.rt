@@ -11,6 +11,9 @@ ghost use Rattle.printing_book.specs.Shown.{fields-shown, line-shown, li
 use book::Counts;
 use book::LINE_WIDTH;
 use book::STRUCK;
+use book::codes::class_of;
+use book::codes::language_of;
+use book::codes::section_of;
 use printing::put_number;
 use printing::put_spaced;
 use printing::put_text;
@@ -20,10 +23,13 @@ fn put_fields(out: &mut [u8], at: usize, node: u32, code: u32, bytes: &[u8]) -> 
     requires { ⌜ (at + 66 ≤ length (now out)) × (length (now bytes) < 4294967296) ⌝ }
     ensures { λ r. ⌜ Puts (now (out .entry)) at (fields-shown (line-of node code (now (bytes .entry)))) (now (out .exit)) r ⌝ }
 {
+    let class = class_of(code);
+    let section = section_of(code);
+    let language = language_of(code);
     let a = put_spaced(out, at, b"", node);
-    let b = put_spaced(out, a, b"", code % STRUCK / 4);
-    let c = put_spaced(out, b, b"", code % 4 / 2);
-    let d = put_spaced(out, c, b"", code % 2);
+    let b = put_spaced(out, a, b"", class);
+    let c = put_spaced(out, b, b"", section);
+    let d = put_spaced(out, c, b"", language);
     let e = put_spaced(out, d, b"", code / STRUCK);
     put_spaced(out, e, b"", bytes.len() as u32)
 }
@@ -51,7 +57,9 @@ pub fn show_lines(
     out: &mut [u8],
 ) -> usize
     requires { ⌜ (shown-room c ≤ length (now out)) × (holds c (five (now nodes) (now names) (now lines) (now pool) (now journal)) ≡ true) ⌝ }
-    ensures { λ r. ⌜ Begins (now (out .entry)) (lines-shown 0 (book-of c (five (now (nodes .entry)) (now (names .entry)) (now (lines .entry)) (now (pool .entry)) (now (journal .entry))) .lines)) (now (out .exit)) r ⌝ }
+    ensures { λ r. ⌜ Begins (now (out .entry))
+        (lines-shown 0 (book-of c (five (now (nodes .entry)) (now (names .entry)) (now (lines .entry)) (now (pool .entry)) (now (journal .entry))) .lines))
+        (now (out .exit)) r ⌝ }
 {
     let mut end = 0;
     let mut i: u32 = 0;

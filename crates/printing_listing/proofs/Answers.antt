@@ -5,11 +5,10 @@ use mathlib.Core.Path.{_≡_, refl, sym, ap, _∙_}
 use mathlib.Core.List.{List, [], _∷_, _++_, append-assoc, append-nil}
 use mathlib.Core.Bool.{Bool, true, false, cond}
 use mathlib.Core.Option.{Option}
-use native.Mathlib.Nat.{add-zero}
 use native.Mathlib.Omega.{arith}
 use lib.Dec.{eqb}
 use lib.ListN.{length, take, drop, length-append, length-drop, length-take, drop-of-length-le}
-use lib.Seq.{drop-drop, paste-zero, take-all, take-length}
+use lib.Seq.{take-all}
 use Rattle.numbers.specs.Signs.{line-feed}
 use Rattle.lists.specs.Front.{front}
 use Rattle.linker_script.specs.declared.Found.{Found}
@@ -24,7 +23,7 @@ use Rattle.input.proofs.Cuts.{lines-to-end, lines-to-feed}
 use Rattle.printing_symbols.specs.Lines.{asked-line, symbol-answered, symbol-line}
 use Rattle.printing_listing.specs.SymbolLines.{answers}
 use Rattle.printing.specs.Printing.{Begins, Puts}
-use Rattle.printing.proofs.Pieces.{begins-front, puts-both, puts-long}
+use Rattle.printing.proofs.Pieces.{puts-both, puts-long, puts-nothing}
 use Rattle.printing_symbols.proofs.Fields.{few-fields}
 
 -- ---- up to the first line feed, and where there is none
@@ -62,18 +61,16 @@ module _ (w : Option Book) (line d : List ℕ) (at : ℕ) (l : List ℕ) (n : �
   part = take-all (length d - at) (drop at d) (omega (arith, length-drop at d))
 
   lists : l ≡ front (symbol-answered w line) (drop at d)
-  lists = begins-front (take (length d - at) (drop at d)) (symbol-answered w line) l n p ∙ rw part
+  lists = p .1 ∙ rw part
 
   pub answer-within : at + n ≤ length d
   answer-within = omega (arith, p .0, answer-few w line)
 
   pub answer-put : Puts d at (symbol-answered w line) (take at d ++ (l ++ drop (length d - at) (drop at d))) (at + n)
-  unfolding front
   answer-put =
       let k : length (drop at d) ≤ length d - at = omega (arith, length-drop at d) in
       let e : drop (length d - at) (drop at d) ≡ [] = drop-of-length-le (drop at d) k in
-      let t = symbol-answered w line in
-      (ap (λ (k : ℕ). at + k) (p .0), rw (e, append-nil, lists, take-length, drop-drop) (sym (append-assoc (take at d) t (drop (at + length t) d))))
+      (ap (λ (k : ℕ). at + k) (p .0), rw (e, append-nil, lists))
 
 -- ---- the loop of `render_symbols`: the answers up to the place `at` stand, and those from there on are left
 pub record Answered (w : Option Book) (s d : List ℕ) (from : ℕ) (l : List ℕ) (at end : ℕ) : Type 0 where
@@ -86,7 +83,7 @@ pub record Answered (w : Option Book) (s d : List ℕ) (from : ℕ) (l : List �
 
 pub answers-start : (w : Option Book) (s d : List ℕ) (from : ℕ) → Answered w s d from d 0 from
 answers-start w s d from =
-    record { piece = []; whole = refl; within = omega arith; few = omega arith; long = refl; put = (sym (add-zero from), paste-zero d from []) }
+    record { piece = []; whole = refl; within = omega arith; few = omega arith; long = refl; put = puts-nothing d from }
 
 module _ (w : Option Book) (s d : List ℕ) (from : ℕ) (l : List ℕ) (at end : ℕ) (inv : Answered w s d from l at end) where
   pub answers-end : length s ≤ at → Puts d from (answers w (lines-in [] s)) l end

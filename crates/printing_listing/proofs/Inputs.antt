@@ -20,7 +20,7 @@ use Rattle.input.proofs.Marks.{mark-within}
 use Rattle.printing.specs.Printing.{refused-line}
 use Rattle.printing_listing.specs.declared.script.Listed.{Listed}
 use Rattle.printing_listing.specs.Script.{Prints, printed, with-refusal}
-use Rattle.printing_listing.specs.Listing.{book-left, has-room, input-opening, listed, listing, nothing-listed, out-left}
+use Rattle.printing_listing.specs.Listing.{Lists, book-left, has-room, input-opening, listed, listing, nothing-listed, out-left}
 
 -- ---- whether there is room for an input of that length
 module _ (text out : ℕ) where
@@ -90,10 +90,6 @@ module _ (s : List ℕ) (end : ℕ) (e : end ≡ length (part-before s (mark s))
         go (Here p) i g = ap (λ (n : ℕ). drop (n + 3) s) (g ∙ length-take-le p s (omega (arith, mark-within s p i)))
 
 -- ---- the exits of `render_listing`: x is whether there is room, and the code asked whether there is none
--- what is answered and left for the input s
-abbrev Lists : Buffers → List ℕ → List ℕ → Listed → List ℕ → Buffers → Type 0
-Lists b s d r l b′ = (r ≡ listed b s d) × (l ≡ out-left b s d) × (b′ ≡ book-left b s d)
-
 module _ (b : Buffers) (s d : List ℕ) (x : Bool) (e : x ≡ leb (48 + 15 * length s) (length d)) where
   pub not-listed : (r : Listed) → r ≡ nothing-listed → not x ≡ true → Lists b s d r d b
   unfolding listed out-left book-left has-room
@@ -120,9 +116,10 @@ module _ (b : Buffers) (s d : List ℕ) (x : Bool) (e : x ≡ leb (48 + 15 * len
           omega (arith, leb-true (48 + 15 * length s) (length d) fits, ap length (symbols-left s end f from i), length-drop (end + 3) s)
 
       pub whole-listed : length s ≤ 65536 → (r : Listed) (l : List ℕ) (b′ : Buffers)
-          → Prints b (opening as-script b (take end s)) (take (length s - from) (drop from s)) d b′ l r → Lists b s d r l b′
+          → Prints b (λ b. opening as-script b (take end s)) (take (length s - from) (drop from s)) d r l b′ → Lists b s d r l b′
       unfolding listed out-left book-left has-room input-opening listing
       whole-listed g r l b′ p =
           let v : ltb 65536 (length s) ≡ false = le-ltb 65536 (length s) g in
-          let q : Prints b (opening as-script b (part-before s (mark s))) (symbols-by s (mark s)) d b′ l r = rw (script-part s end f, symbols-part s end f from i) at p in
+          let q : Prints b (λ b. opening as-script b (part-before s (mark s))) (symbols-by s (mark s)) d r l b′ =
+          rw (script-part s end f, symbols-part s end f from i) at p in
           (rw (fits, v) (q .0), rw (fits, v) (q .1), rw (fits, v) (q .2))

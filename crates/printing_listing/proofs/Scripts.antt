@@ -5,12 +5,10 @@ use mathlib.Core.List.{List, [], _∷_, _++_, append-nil}
 use mathlib.Core.Bool.{Bool, true, false, cond}
 use mathlib.Core.Option.{Option, some}
 use native.Mathlib.Decide.{decLt}
-use native.Mathlib.Nat.{zero-add}
 use native.Mathlib.Omega.{arith}
 use borrow.Author.Tests.{ne-eqb}
 use lib.Dec.{eqb}
 use lib.ListN.{length, length-append}
-use lib.Seq.{take-length}
 use Rattle.numbers.specs.Signs.{line-feed}
 use Rattle.lists.specs.Front.{front}
 use Rattle.lists.specs.Texts.{codes}
@@ -30,7 +28,7 @@ use Rattle.counting.specs.Questions.{counted, parent-count, version-count}
 use Rattle.input.specs.Splitting.{lines-in}
 use Rattle.printing.specs.Printing.{Begins, Puts, refused-line}
 use Rattle.printing.proofs.Digits.{few-digits}
-use Rattle.printing.proofs.Pieces.{begins-front, few-numbered, puts-both}
+use Rattle.printing.proofs.Pieces.{begins, few-numbered, put-first, puts-both}
 use Rattle.printing_symbols.specs.Lines.{counts-answered, counts-line}
 use Rattle.printing_symbols.proofs.Rendered.{Rendered, rendered-some}
 use Rattle.printing_listing.specs.SymbolLines.{answers}
@@ -47,11 +45,6 @@ unfolding told
 refused-listed n place d l r h p =
     let z = rendered-some 0 (refused-line n) d l r h p in
     (ap (λ (k : ℕ). told-as k n place) (z .0), z .1)
-
--- what stands at the front is put at the start
-front-begins : (t d l : List ℕ) (r : ℕ) → (r ≡ length t) × (l ≡ front t d) → Begins d t l r
-unfolding front
-front-begins t d l r p = (p .0, p .1 ∙ rw (take-length, zero-add))
 
 -- five buffers that are zeros, each of its length
 pub all-cleared : (n m l p j n′ m′ l′ p′ j′ : List ℕ) → n′ ≡ zeros (length n) → m′ ≡ zeros (length m) → l′ ≡ zeros (length l) → p′ ≡ zeros (length p)
@@ -89,11 +82,11 @@ answers-few w t (b ∷ s) = go (eqb b line-feed) (answers-few w [] s) (answers-f
 -- ---- the exits of `render_opened`: w is the book, d was lent, d₁ is left of it behind the counts, and d₂ at the end
 module _ (w : Option Book) (symbols d : List ℕ) (room : 48 ≤ length d) where
   pub opened-refused : (n : ℕ) → (n ≡ 0 → ⊥) → (l : List ℕ) (r : ℕ) → Rendered 0 (refused-line n) d l r → Begins d (opened-printed n w symbols) l r
-  unfolding opened-printed front
-  opened-refused n h l r p = rw (ne-eqb n 0 h) (front-begins (refused-line n) d l r (rendered-some 0 (refused-line n) d l r room p))
+  unfolding opened-printed
+  opened-refused n h l r p = rw (ne-eqb n 0 h) (rendered-some 0 (refused-line n) d l r room p)
 
   module _ (more : 0 < length symbols → 84 + 15 * length symbols ≤ length d) (d₁ : List ℕ) (n₁ : ℕ) (p : Rendered 0 (counts-answered w) d d₁ n₁) where
-    counted-put : (n₁ ≡ length (counts-answered w)) × (d₁ ≡ front (counts-answered w) d)
+    counted-put : Begins d (counts-answered w) d₁ n₁
     counted-put = rendered-some 0 (counts-answered w) d d₁ n₁ room p
 
     pub symbols-room : 0 < length symbols → n₁ + 48 + 15 * length symbols ≤ length d₁
@@ -114,10 +107,9 @@ module _ (w : Option Book) (symbols d : List ℕ) (room : 48 ≤ length d) where
     unfolding opened-printed
     opened-listed n h d₂ n₂ q =
         let t = counts-answered w in
-        let f = front-begins t d d₁ n₁ counted-put in
         let a : Puts d 0 (t ++ answers w (lines-in [] symbols)) d₂ n₂ =
-        puts-both d 0 t (answers w (lines-in [] symbols)) d₁ d₂ n₁ n₂ all-room (f .0 ∙ sym (zero-add (length t)), f .1) q in
-        rw h (a .0 ∙ zero-add (length (t ++ answers w (lines-in [] symbols))), a .1)
+        puts-both d 0 t (answers w (lines-in [] symbols)) d₁ d₂ n₁ n₂ all-room (put-first d t d₁ n₁ counted-put) q in
+        rw h (begins d (t ++ answers w (lines-in [] symbols)) d₂ n₂ a)
 
 -- ---- a script's opening: a refusal other than 0, or a book that the buffers hold
 module _ (b : Buffers) (s : List ℕ) (x : Opened) (e : x ≡ told (opening as-script b s)) where
@@ -157,9 +149,9 @@ module _ (b : Buffers) (s : List ℕ) (x : Opened) (e : x ≡ told (opening as-s
     script-told n = ap (λ (y : Opened). told-as n (y .refusal) (y .place)) e
 
     pub script-listed : (l : List ℕ) (n : ℕ) → Begins d (opened-printed (x .refusal) (view (x .counts) b′) symbols) l n
-        → Prints b (opening as-script b s) symbols d b′ l (told-as n (x .refusal) (x .place))
+        → Prints b (λ b. opening as-script b s) symbols d (told-as n (x .refusal) (x .place)) l b′
     script-listed l n m = (
       script-told n ∙ ap (λ (k : ℕ). with-refusal k (opening as-script b s)) (m .0 ∙ ap length script-printed),
-      begins-front d (opened-printed (x .refusal) (view (x .counts) b′) symbols) l n m ∙ ap (λ (k : List ℕ). front k d) script-printed,
+      m .1 ∙ ap (λ (k : List ℕ). front k d) script-printed,
       j,
     )

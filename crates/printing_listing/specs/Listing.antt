@@ -1,5 +1,6 @@
 -- The whole of what verlist prints, as 01 has it, and what is left in the buffers that it is lent. Assumes nothing.
 use Prim.Native.Nat.{ℕ, _+_, _*_}
+use mathlib.Core.Path.{_≡_}
 use mathlib.Core.List.{List}
 use mathlib.Core.Bool.{Bool, cond}
 use lib.Dec.{leb}
@@ -43,6 +44,10 @@ out-left b s out = cond (has-room s out) (front (listing b s) out) out
 -- the book's buffers: as the opening leaves them, which is zeros where it is refused; without room as they were
 unfoldable pub book-left : Buffers → List ℕ → List ℕ → Buffers
 book-left b s out = cond (has-room s out) (left b (input-opening b s)) b
+
+-- the input s is listed: r is answered, and `out` and the buffers are out′ and b′ then
+abbrev pub Lists : Buffers → List ℕ → List ℕ → Listed → List ℕ → Buffers → Type 0
+Lists b s out r out′ b′ = (r ≡ listed b s out) × (out′ ≡ out-left b s out) × (b′ ≡ book-left b s out)
 
 -- ---- "Its room: 1,024 nodes, 2,048 lines, 65,536 bytes each of names and pool". The journal has the room of one edit, and no edit is made
 unfoldable pub verlist-room : Buffers

@@ -37,6 +37,6 @@ with-refusal n o = record { length = n; refusal = told o .refusal; place = told 
 abbrev pub printed-told : Opening → List ℕ → Listed
 printed-told o symbols = with-refusal (length (printed o symbols)) o
 
--- what is printed for an opening of the buffers b stands at the front of d, which is l then, r is told of it, and the buffers are as the opening leaves them
-abbrev pub Prints : Buffers → Opening → List ℕ → List ℕ → Buffers → List ℕ → Listed → Type 0
-Prints b o symbols d b′ l r = (r ≡ printed-told o symbols) × (l ≡ front (printed o symbols) d) × (b′ ≡ left b o)
+-- what is printed for the opening o of the buffers b stands at the front of `out`, r is told of it, and the buffers are as the opening leaves them
+abbrev pub Prints : Buffers → (Buffers → Opening) → List ℕ → List ℕ → Listed → List ℕ → Buffers → Type 0
+Prints b o symbols out r out′ b′ = (r ≡ printed-told (o b) symbols) × (out′ ≡ front (printed (o b) symbols) out) × (b′ ≡ left b (o b))

@@ -6,7 +6,7 @@ ghost use lib.Dec.{leb};
 ghost use lib.ListN.{length};
 ghost use Rattle.book.specs.Layout.{five};
 ghost use Rattle.input.specs.Splitting.{mark, part-before};
-ghost use Rattle.printing_listing.specs.Listing.{book-left, listed, nothing-listed, out-left, room-for};
+ghost use Rattle.printing_listing.specs.Listing.{Lists, nothing-listed, room-for};
 use crate::script::Listed;
 use crate::script::render_script;
 use crate::script::render_too_long;
@@ -74,10 +74,9 @@ pub fn render_listing(
     journal: &mut [u32],
     out: &mut [u8],
 ) -> Listed
-    ensures { λ r. ⌜ (r ≡ listed (five (now (nodes .entry)) (now (names .entry)) (now (lines .entry)) (now (pool .entry)) (now (journal .entry))) (now (text .entry)) (now (out .entry)))
-        × (now (out .exit) ≡ out-left (five (now (nodes .entry)) (now (names .entry)) (now (lines .entry)) (now (pool .entry)) (now (journal .entry))) (now (text .entry)) (now (out .entry)))
-        × (five (now (nodes .exit)) (now (names .exit)) (now (lines .exit)) (now (pool .exit)) (now (journal .exit))
-        ≡ book-left (five (now (nodes .entry)) (now (names .entry)) (now (lines .entry)) (now (pool .entry)) (now (journal .entry))) (now (text .entry)) (now (out .entry))) ⌝ }
+    ensures { λ r. ⌜ Lists (five (now (nodes .entry)) (now (names .entry)) (now (lines .entry)) (now (pool .entry)) (now (journal .entry)))
+        (now (text .entry)) (now (out .entry)) r (now (out .exit))
+        (five (now (nodes .exit)) (now (names .exit)) (now (lines .exit)) (now (pool .exit)) (now (journal .exit))) ⌝ }
 {
     if !has_room(text.len(), out.len()) {
         return nothing_listed();

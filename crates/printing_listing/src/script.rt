@@ -51,8 +51,10 @@ pub fn render_too_long(
     out: &mut [u8],
 ) -> Listed
     requires { ⌜ tail-room ≤ length (now out) ⌝ }
-    ensures { λ r. ⌜ (r ≡ with-refusal (length (refused-line too-long)) (declined too-long 0)) × (now (out .exit) ≡ front (refused-line too-long) (now (out .entry)))
-        × (five (now (nodes .exit)) (now (names .exit)) (now (lines .exit)) (now (pool .exit)) (now (journal .exit)) ≡ cleared (five (now (nodes .entry)) (now (names .entry)) (now (lines .entry)) (now (pool .entry)) (now (journal .entry)))) ⌝ }
+    ensures { λ r. ⌜ (r ≡ with-refusal (length (refused-line too-long)) (declined too-long 0))
+        × (now (out .exit) ≡ front (refused-line too-long) (now (out .entry)))
+        × (five (now (nodes .exit)) (now (names .exit)) (now (lines .exit)) (now (pool .exit)) (now (journal .exit))
+        ≡ cleared (five (now (nodes .entry)) (now (names .entry)) (now (lines .entry)) (now (pool .entry)) (now (journal .entry)))) ⌝ }
 {
     clear_numbers(nodes);
     clear_bytes(names);
@@ -76,7 +78,9 @@ fn render_opened(
 ) -> usize
     requires { ⌜ (tail-room ≤ length (now out)) × (0 < length (now symbols) → counts-room + tail-room + byte-room * length (now symbols) ≤ length (now out))
         × (refusal ≡ 0 → holds c (five (now nodes) (now names) (now lines) (now pool) (now journal)) ≡ true) ⌝ }
-    ensures { λ r. ⌜ Begins (now (out .entry)) (opened-printed refusal (view c (five (now (nodes .entry)) (now (names .entry)) (now (lines .entry)) (now (pool .entry)) (now (journal .entry)))) (now (symbols .entry))) (now (out .exit)) r ⌝ }
+    ensures { λ r. ⌜ Begins (now (out .entry))
+        (opened-printed refusal (view c (five (now (nodes .entry)) (now (names .entry)) (now (lines .entry)) (now (pool .entry)) (now (journal .entry))))
+        (now (symbols .entry))) (now (out .exit)) r ⌝ }
 {
     if refusal != 0 {
         return render_refused(refusal, out);
@@ -97,8 +101,9 @@ pub fn render_script(
     out: &mut [u8],
 ) -> Listed
     requires { ⌜ (tail-room ≤ length (now out)) × (0 < length (now symbols) → counts-room + tail-room + byte-room * length (now symbols) ≤ length (now out)) ⌝ }
-    ensures { λ r. ⌜ Prints (five (now (nodes .entry)) (now (names .entry)) (now (lines .entry)) (now (pool .entry)) (now (journal .entry))) (opening as-script (five (now (nodes .entry)) (now (names .entry)) (now (lines .entry)) (now (pool .entry)) (now (journal .entry))) (now (script .entry))) (now (symbols .entry)) (now (out .entry))
-        (five (now (nodes .exit)) (now (names .exit)) (now (lines .exit)) (now (pool .exit)) (now (journal .exit))) (now (out .exit)) r ⌝ }
+    ensures { λ r. ⌜ Prints (five (now (nodes .entry)) (now (names .entry)) (now (lines .entry)) (now (pool .entry)) (now (journal .entry)))
+        (λ b. opening as-script b (now (script .entry))) (now (symbols .entry)) (now (out .entry)) r (now (out .exit))
+        (five (now (nodes .exit)) (now (names .exit)) (now (lines .exit)) (now (pool .exit)) (now (journal .exit))) ⌝ }
 {
     let opened = open(script, nodes, names, lines, pool, journal);
     let length = render_opened(

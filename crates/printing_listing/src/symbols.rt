@@ -35,7 +35,9 @@ fn render_asked_in_book(
     out: &mut [u8],
 ) -> usize
     requires { ⌜ (length (now name) + tail-room ≤ length (now out)) × (holds c (five (now nodes) (now names) (now lines) (now pool) (now journal)) ≡ true) ⌝ }
-    ensures { λ r. ⌜ Begins (now (out .entry)) (asked-line (view c (five (now (nodes .entry)) (now (names .entry)) (now (lines .entry)) (now (pool .entry)) (now (journal .entry)))) (now (name .entry)) (wanted-of «has_wanted» (now (wanted .entry)))) (now (out .exit)) r ⌝ }
+    ensures { λ r. ⌜ Begins (now (out .entry))
+        (asked-line (view c (five (now (nodes .entry)) (now (names .entry)) (now (lines .entry)) (now (pool .entry)) (now (journal .entry))))
+        (now (name .entry)) (wanted-of «has_wanted» (now (wanted .entry)))) (now (out .exit)) r ⌝ }
 {
     let v = version_in_book(
         c,
@@ -65,7 +67,9 @@ fn render_symbol_in_book(
     out: &mut [u8],
 ) -> usize
     requires { ⌜ (length (now line) + tail-room ≤ length (now out)) × (holds c (five (now nodes) (now names) (now lines) (now pool) (now journal)) ≡ true) ⌝ }
-    ensures { λ r. ⌜ Begins (now (out .entry)) (symbol-answered (view c (five (now (nodes .entry)) (now (names .entry)) (now (lines .entry)) (now (pool .entry)) (now (journal .entry)))) (now (line .entry))) (now (out .exit)) r ⌝ }
+    ensures { λ r. ⌜ Begins (now (out .entry))
+        (symbol-answered (view c (five (now (nodes .entry)) (now (names .entry)) (now (lines .entry)) (now (pool .entry)) (now (journal .entry))))
+        (now (line .entry))) (now (out .exit)) r ⌝ }
 {
     match find_at(line) {
         Found::Nowhere => render_asked_in_book(
@@ -110,8 +114,11 @@ fn put_answer(
     at: usize,
     out: &mut [u8],
 ) -> usize
-    requires { ⌜ (at + length (now line) + tail-room ≤ length (now out)) × (holds c (five (now nodes) (now names) (now lines) (now pool) (now journal)) ≡ true) ⌝ }
-    ensures { λ r. ⌜ Puts (now (out .entry)) at (symbol-answered (view c (five (now (nodes .entry)) (now (names .entry)) (now (lines .entry)) (now (pool .entry)) (now (journal .entry)))) (now (line .entry))) (now (out .exit)) r ⌝ }
+    requires { ⌜ (at + length (now line) + tail-room ≤ length (now out))
+        × (holds c (five (now nodes) (now names) (now lines) (now pool) (now journal)) ≡ true) ⌝ }
+    ensures { λ r. ⌜ Puts (now (out .entry)) at
+        (symbol-answered (view c (five (now (nodes .entry)) (now (names .entry)) (now (lines .entry)) (now (pool .entry)) (now (journal .entry))))
+        (now (line .entry))) (now (out .exit)) r ⌝ }
 {
     let n = render_symbol_in_book(c, nodes, names, lines, pool, journal, line, &mut out[at..]);
     at + n
@@ -131,7 +138,9 @@ pub fn render_symbols(
 ) -> usize
     requires { ⌜ (0 < length (now symbols) → from + tail-room + byte-room * length (now symbols) ≤ length (now out))
         × (holds c (five (now nodes) (now names) (now lines) (now pool) (now journal)) ≡ true) ⌝ }
-    ensures { λ r. ⌜ Puts (now (out .entry)) from (answers (view c (five (now (nodes .entry)) (now (names .entry)) (now (lines .entry)) (now (pool .entry)) (now (journal .entry)))) (lines-in [] (now (symbols .entry)))) (now (out .exit)) r ⌝ }
+    ensures { λ r. ⌜ Puts (now (out .entry)) from
+        (answers (view c (five (now (nodes .entry)) (now (names .entry)) (now (lines .entry)) (now (pool .entry)) (now (journal .entry))))
+        (lines-in [] (now (symbols .entry)))) (now (out .exit)) r ⌝ }
 {
     let mut at = 0;
     let mut end = from;

@@ -7,7 +7,6 @@ use mathlib.Core.Option.{Option}
 use borrow.Author.Tests.{le-leb, lt-leb}
 use lib.Dec.{leb}
 use lib.ListN.{length}
-use Rattle.lists.specs.Front.{front}
 use Rattle.book.specs.Books.{Book}
 use Rattle.counting.specs.declared.Count.{Count}
 use Rattle.counting.specs.declared.Count.the-variants as count
@@ -15,7 +14,6 @@ use Rattle.counting.specs.Questions.{counted, parent-count, version-count}
 use Rattle.printing.specs.Printing.{Begins, refused-line}
 pub use Rattle.printing_symbols.specs.Lines.{Rendered}
 use Rattle.printing_symbols.specs.Lines.{counts-answered, counts-line, line-left, line-told}
-use Rattle.printing.proofs.Pieces.{begins-front}
 
 pub no-room : (name : ℕ) (line d : List ℕ) → length d < name + 48 → Rendered name line d d 0
 unfolding line-told line-left
@@ -24,7 +22,7 @@ no-room name line d h = (rw (lt-leb (name + 48) (length d) h), rw (lt-leb (name 
 pub has-room : (name : ℕ) (line d l : List ℕ) (r : ℕ) → name + 48 ≤ length d → Begins d line l r → Rendered name line d l r
 unfolding line-told line-left
 has-room name line d l r h p =
-    (rw (le-leb (name + 48) (length d) h) (p .0), rw (le-leb (name + 48) (length d) h) (begins-front d line l r p))
+    (rw (le-leb (name + 48) (length d) h) (p .0), rw (le-leb (name + 48) (length d) h) (p .1))
 
 -- ---- the script's line, and the counts
 module _ (d : List ℕ) {l : List ℕ} {r : ℕ} (room : 48 ≤ length d) where
@@ -46,7 +44,7 @@ module _ (d : List ℕ) {l : List ℕ} {r : ℕ} (room : 48 ≤ length d) where
       both-counted {m} h p = rw (← e, f, ← g, h) (has-room 0 (counts-line (count.Counted n) (count.Counted m)) d l r room p)
 
 -- where there is room
-pub rendered-some : (name : ℕ) (line d l : List ℕ) (r : ℕ) → name + 48 ≤ length d → Rendered name line d l r → (r ≡ length line) × (l ≡ front line d)
+pub rendered-some : (name : ℕ) (line d l : List ℕ) (r : ℕ) → name + 48 ≤ length d → Rendered name line d l r → Begins d line l r
 unfolding line-told line-left
 rendered-some name line d l r h p =
     let v : leb (name + 48) (length d) ≡ true = le-leb (name + 48) (length d) h in

@@ -1,4 +1,5 @@
--- The lines that verlist prints, as 01 has them, and how they stand in a lent buffer. A number in decimal, `! N` and `refused N` are printing's. Assumes nothing.
+-- The lines that verlist prints, as 01 has them, and how they stand in a lent buffer. A number in decimal, `! N` and `refused N` are printing's. Assumes
+-- nothing.
 use Prim.Native.Nat.{ℕ, _+_}
 use mathlib.Core.Path.{_≡_}
 use mathlib.Core.List.{List, [], _∷_, _++_}

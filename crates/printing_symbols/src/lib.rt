@@ -1,5 +1,5 @@
-// Lines that verlist prints, each into a lent buffer: a refusal's, and the counts'. Definitions: specs/Lines.antt, from document 01, 'Known points' (the program
-// `verlist`), which has the symbols' lines too.
+// Lines that verlist prints, each into a lent buffer: a refusal's, and the counts'. Definitions: specs/Lines.antt, from document 01, 'Known points' (the
+// program `verlist`), which has the symbols' lines too.
 ghost use Prim.Native.Nat.{_≤_};
 ghost use lib.ListN.{length};
 ghost use Rattle.book.specs.Layout.{five};
@@ -50,7 +50,9 @@ pub fn render_counts(
     journal: &[u32],
     out: &mut [u8],
 ) -> usize
-    ensures { λ r. ⌜ Rendered 0 (counts-answered (view c (five (now (nodes .entry)) (now (names .entry)) (now (lines .entry)) (now (pool .entry)) (now (journal .entry))))) (now (out .entry)) (now (out .exit)) r ⌝ }
+    ensures { λ r. ⌜ Rendered 0
+        (counts-answered (view c (five (now (nodes .entry)) (now (names .entry)) (now (lines .entry)) (now (pool .entry)) (now (journal .entry)))))
+        (now (out .entry)) (now (out .exit)) r ⌝ }
 {
     if out.len() < TAIL_ROOM {
         return 0;

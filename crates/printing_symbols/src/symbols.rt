@@ -76,7 +76,9 @@ fn render_asked(
     out: &mut [u8],
 ) -> usize
     requires { ⌜ length (now name) + tail-room ≤ length (now out) ⌝ }
-    ensures { λ r. ⌜ Begins (now (out .entry)) (asked-line (view c (five (now (nodes .entry)) (now (names .entry)) (now (lines .entry)) (now (pool .entry)) (now (journal .entry)))) (now (name .entry)) (wanted-of «has_wanted» (now (wanted .entry)))) (now (out .exit)) r ⌝ }
+    ensures { λ r. ⌜ Begins (now (out .entry))
+        (asked-line (view c (five (now (nodes .entry)) (now (names .entry)) (now (lines .entry)) (now (pool .entry)) (now (journal .entry))))
+        (now (name .entry)) (wanted-of «has_wanted» (now (wanted .entry)))) (now (out .exit)) r ⌝ }
 {
     let v = version_for_symbol(
         c,
@@ -105,7 +107,9 @@ pub fn render_symbol(
     line: &[u8],
     out: &mut [u8],
 ) -> usize
-    ensures { λ r. ⌜ Rendered (length (now (line .entry))) (symbol-answered (view c (five (now (nodes .entry)) (now (names .entry)) (now (lines .entry)) (now (pool .entry)) (now (journal .entry)))) (now (line .entry))) (now (out .entry)) (now (out .exit)) r ⌝ }
+    ensures { λ r. ⌜ Rendered (length (now (line .entry)))
+        (symbol-answered (view c (five (now (nodes .entry)) (now (names .entry)) (now (lines .entry)) (now (pool .entry)) (now (journal .entry))))
+        (now (line .entry))) (now (out .entry)) (now (out .exit)) r ⌝ }
 {
     if out.len() < TAIL_ROOM {
         return 0;

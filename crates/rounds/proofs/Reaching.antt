@@ -33,7 +33,6 @@ use Rattle.histories.proofs.Demand.{held-opened, opened-edits}
 use Rattle.desk_commands.specs.declared.Command.{Command}
 use Rattle.desk_commands.specs.declared.Command.the-variants as command
 use Rattle.desk_commands.specs.declared.Edit.the-variants as edit
-use Rattle.desk_commands.specs.declared.Question.the-variants as question
 use Rattle.desk.specs.Edits.{edit-asked, edit-step}
 use Rattle.desk.specs.Questions.{question-step}
 use Rattle.desk_commands.specs.Commands.{command-of}
@@ -63,10 +62,7 @@ module _ (b : Buffers) (w : Book) (k : eqb (w .kind) rust ≡ false) where
   seated-step x s l (command.Edits edit.Undo) = seated-call x s undoes
   seated-step x s l (command.Edits edit.Settle) = seated-call x s settles
   seated-step x s l (command.Edits (edit.Symbol at bare)) = seated-call x s (adds-symbol (drop at l) bare)
-  seated-step x s l (command.Asks (question.Ask at)) = s
-  seated-step x s l (command.Asks question.Counts) = s
-  seated-step x s l (command.Asks question.Lines) = s
-  seated-step x s l (command.Asks question.Dump) = s
+  seated-step x s l (command.Asks q) = s
   seated-step x s l command.Unknown = s
 
   seated-lines : (ls : List (List ℕ)) (x : Lent) → Seated b w x → Seated b w (lines-lent x ls)
@@ -89,10 +85,7 @@ module _ (b : Buffers) (w : Book) (k : eqb (w .kind) rust ≡ true) (v : Viewabl
   stays l (command.Edits edit.Undo) = rw e
   stays l (command.Edits edit.Settle) = rw (all-stand, laid-out-same (laid-out b w) b w (laid-out-rooms b w (v .fits)))
   stays l (command.Edits (edit.Symbol at bare)) = let z : w .kind ≡ rust = eqb-true (w .kind) rust k in rw z
-  stays l (command.Asks (question.Ask at)) = refl
-  stays l (command.Asks question.Counts) = refl
-  stays l (command.Asks question.Lines) = refl
-  stays l (command.Asks question.Dump) = refl
+  stays l (command.Asks q) = refl
   stays l command.Unknown = refl
 
   stays-line : (l : List ℕ) → line-lent (lent-book b w) l ≡ lent-book b w

@@ -5,6 +5,7 @@ use mathlib.Core.List.{List, [], _∷_}
 use mathlib.Core.Bool.{true}
 use lib.ListN.{length}
 use Rattle.input.specs.Splitting.{input-limit, lines-in}
+use Rattle.book.specs.declared.Counts.{Counts}
 use Rattle.book.specs.Books.{Book}
 use Rattle.book.specs.Layout.{Buffers, edit-width, line-width, node-width}
 use Rattle.book_opening.specs.declared.How.{How}
@@ -14,9 +15,13 @@ use Rattle.histories.specs.Histories.{Lent}
 use Rattle.histories.specs.Demand.{lent-opening}
 use Rattle.desk.specs.Desk.{has-room, line-step}
 
+-- ---- buffers that are lent with counts
+abbrev pub with-counts : Counts → Buffers → Lent
+with-counts c b = record { counts = c; buffers = b }
+
 -- ---- what a line leaves, and lines, each on what the one before it left
 abbrev pub line-lent : Lent → List ℕ → Lent
-line-lent x l = record { counts = line-step (x .counts) (x .buffers) l .counts; buffers = line-step (x .counts) (x .buffers) l .left }
+line-lent x l = with-counts (line-step (x .counts) (x .buffers) l .counts) (line-step (x .counts) (x .buffers) l .left)
 
 unfoldable pub lines-lent : Lent → List (List ℕ) → Lent
 lines-lent x [] = x

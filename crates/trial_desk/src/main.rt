@@ -1,7 +1,7 @@
 // The release desk: edits of a trial book and questions to it. Standard input (65,536 bytes at most): a version script, or with the argument `export` an export
-// list, a line `%%`, then one command a line. What is printed for a command is rendered by `desk::run_line`; a text that is refused prints `refused` and the number
-// alone. Standard error says what `! N` means, and of a text that is refused where and why. The commands are run in their order, each on what the one before it
-// left, and none of them lacks room for what it prints: rounds has the definitions and the theorem.
+// list, a line `%%`, then one command a line. What is printed for a command is rendered by `desk::run_line`; a text that is refused prints `refused` and the
+// number alone. Standard error says what `! N` means, and of a text that is refused where and why. The commands are run in their order, each on what the one
+// before it left, and none of them lacks room for what it prints: rounds has the definitions and the theorem.
 ghost use mathlib.Core.Path.{_≡_};
 ghost use mathlib.Core.List.{[]};
 ghost use mathlib.Core.Bool.{cond};
@@ -10,7 +10,7 @@ ghost use lib.ListN.{length};
 ghost use Rattle.input.specs.Splitting.{input-limit, lines-in};
 ghost use Rattle.book.specs.Layout.{five};
 ghost use Rattle.book_opening.specs.Opening.{as-list, as-script};
-ghost use Rattle.rounds.specs.Rounds.{Desk-rooms, Reached, desk-left, line-lent, lines-lent};
+ghost use Rattle.rounds.specs.Rounds.{Desk-rooms, Reached, desk-left, line-lent, lines-lent, with-counts};
 use book::Counts;
 use book_opening::How;
 use desk::run_line;
@@ -84,9 +84,10 @@ fn run_command(
     line: &[u8],
     out: &mut [u8; 1048576],
 ) -> Counts
-    requires { ⌜ Reached (record { counts = c; buffers = five (now nodes) (now names) (now lines) (now pool) (now journal) }) × (length (now line) ≤ input-limit) ⌝ }
-    ensures { λ r. ⌜ record { counts = r; buffers = five (now (nodes .entry)) (now (names .entry)) (now (lines .exit)) (now (pool .exit)) (now (journal .exit)) }
-        ≡ line-lent (record { counts = c; buffers = five (now (nodes .entry)) (now (names .entry)) (now (lines .entry)) (now (pool .entry)) (now (journal .entry)) }) (now (line .entry)) ⌝ }
+    requires { ⌜ Reached (with-counts c (five (now nodes) (now names) (now lines) (now pool) (now journal))) × (length (now line) ≤ input-limit) ⌝ }
+    ensures { λ r. ⌜ with-counts r (five (now (nodes .entry)) (now (names .entry)) (now (lines .exit)) (now (pool .exit)) (now (journal .exit)))
+        ≡ line-lent (with-counts c (five (now (nodes .entry)) (now (names .entry)) (now (lines .entry)) (now (pool .entry)) (now (journal .entry))))
+        (now (line .entry)) ⌝ }
 {
     let ran = run_line(c, nodes, names, lines, pool, journal, line, out);
     tell(front(out, ran.length), ran.known);
@@ -104,9 +105,10 @@ fn run_commands(
     commands: &[u8],
     out: &mut [u8; 1048576],
 ) -> Counts
-    requires { ⌜ Reached (record { counts = opened; buffers = five (now nodes) (now names) (now lines) (now pool) (now journal) }) × (length (now commands) ≤ input-limit) ⌝ }
-    ensures { λ r. ⌜ record { counts = r; buffers = five (now (nodes .entry)) (now (names .entry)) (now (lines .exit)) (now (pool .exit)) (now (journal .exit)) }
-        ≡ lines-lent (record { counts = opened; buffers = five (now (nodes .entry)) (now (names .entry)) (now (lines .entry)) (now (pool .entry)) (now (journal .entry)) }) (lines-in [] (now (commands .entry))) ⌝ }
+    requires { ⌜ Reached (with-counts opened (five (now nodes) (now names) (now lines) (now pool) (now journal))) × (length (now commands) ≤ input-limit) ⌝ }
+    ensures { λ r. ⌜ with-counts r (five (now (nodes .entry)) (now (names .entry)) (now (lines .exit)) (now (pool .exit)) (now (journal .exit)))
+        ≡ lines-lent (with-counts opened (five (now (nodes .entry)) (now (names .entry)) (now (lines .entry)) (now (pool .entry)) (now (journal .entry))))
+        (lines-in [] (now (commands .entry))) ⌝ }
 {
     let mut c = opened;
     let mut at = 0;
@@ -150,7 +152,9 @@ fn work(
 )
     requires { ⌜ Desk-rooms (five (now nodes) (now names) (now lines) (now pool) (now journal)) × (length (now commands) ≤ input-limit) ⌝ }
     ensures { λ _. ⌜ five (now (nodes .exit)) (now (names .exit)) (now (lines .exit)) (now (pool .exit)) (now (journal .exit))
-        ≡ desk-left (cond export as-list as-script) (five (now (nodes .entry)) (now (names .entry)) (now (lines .entry)) (now (pool .entry)) (now (journal .entry))) (now (text .entry)) (now (commands .entry)) ⌝ }
+        ≡ desk-left (cond export as-list as-script)
+        (five (now (nodes .entry)) (now (names .entry)) (now (lines .entry)) (now (pool .entry)) (now (journal .entry)))
+        (now (text .entry)) (now (commands .entry)) ⌝ }
 {
     let how = how_of(export);
     let opened = book_opening::open(how, text, nodes, names, lines, pool, journal);
@@ -169,7 +173,8 @@ fn work(
     );
 }
 
-// Room for 1,024 nodes, 4,096 lines, 65,536 bytes each of names and pool, and 1,024 edits. `out` has the room that `run_line` asks for with these and the longest line.
+// Room for 1,024 nodes, 4,096 lines, 65,536 bytes each of names and pool, and 1,024 edits. `out` has the room that `run_line` asks for with these and the
+// longest line.
 fn sit(export: bool, text: &[u8], commands: &[u8], out: &mut [u8; 1048576])
     requires { ⌜ length (now commands) ≤ input-limit ⌝ }
 {

@@ -1,7 +1,5 @@
--- What prints leaves one answer and one end state: rendering, rendering_symbols, listing_symbols, listing_script, listing, showing, showing_lines, dumping,
--- answering, asking, desk_edits, desk_questions, desk. Assumes nothing.
+-- What prints leaves one answer and one end state: printing_symbols, printing_listing, printing_book, desk. Assumes nothing.
 use mathlib.Core.Path.{refl}
-use Rattle.desk.specs.Answers.{Runs}
 use Rattle.uniqueness.specs.Unique.{Unique}
 use Rattle.uniqueness.proofs.Same.{_▹_, same}
 use Rattle.printing_symbols.proofs.render_refused
@@ -22,7 +20,7 @@ use Rattle.desk.proofs.edits.run_edit
 use Rattle.desk.proofs.questions.run_question
 use Rattle.desk.proofs.run_line
 
--- ---- rendering, rendering_symbols
+-- ---- printing_symbols
 pub render-refused-unique : Unique render_refused.ended render_refused.Reads.Post
 render-refused-unique κs a x y v w p q = (same (p .0) (q .0), λ i. tt ▹ same (p .1) (q .1) i ▹ tt)
 
@@ -35,7 +33,7 @@ put-symbol-line-unique κs a x y v w p q = (same (p .0) (q .0), λ i. same (p .1
 pub render-symbol-unique : Unique render_symbol.ended render_symbol.Reads.Post
 render-symbol-unique κs a x y v w p q = (same (p .0) (q .0), λ i. tt ▹ tt ▹ tt ▹ tt ▹ tt ▹ tt ▹ tt ▹ same (p .1) (q .1) i ▹ tt)
 
--- ---- listing_symbols, listing_script, listing
+-- ---- printing_listing
 pub render-symbols-unique : Unique render_symbols.ended render_symbols.Reads.Post
 render-symbols-unique κs a x y v w p q = (same (p .0) (q .0), λ i. tt ▹ tt ▹ tt ▹ tt ▹ tt ▹ tt ▹ tt ▹ tt ▹ same (p .1) (q .1) i ▹ tt)
 
@@ -54,7 +52,7 @@ render-listing-unique κs a x y v w p q =
     let b = same (p .2) (q .2) in
     (same (p .0) (q .0), λ i. tt ▹ b i .nodes ▹ b i .names ▹ b i .lines ▹ b i .pool ▹ b i .journal ▹ same (p .1) (q .1) i ▹ tt)
 
--- ---- showing, showing_lines, dumping
+-- ---- printing_book
 pub shown-room-unique : Unique shown_room.ended shown_room.Reads.Post
 shown-room-unique κs a x y v w p q = (same p q, refl)
 
@@ -67,28 +65,21 @@ show-lines-unique κs a x y v w p q = (same (p .0) (q .0), λ i. tt ▹ tt ▹ t
 pub show-dump-unique : Unique show_dump.ended show_dump.Reads.Post
 show-dump-unique κs a x y v w p q = (same (p .0) (q .0), λ i. tt ▹ tt ▹ tt ▹ tt ▹ tt ▹ tt ▹ same (p .1) (q .1) i ▹ tt)
 
--- ---- answering
+-- ---- desk
 pub printed-unique : Unique printed.ended printed.Reads.Post
 printed-unique κs a x y v w p q = (same p q, refl)
 
--- ---- asking
 pub run-ask-unique : Unique run_ask.ended run_ask.Reads.Post
-unfolding Runs
 run-ask-unique κs a x y v w p q = (same (p .0) (q .0), λ i. tt ▹ tt ▹ tt ▹ tt ▹ tt ▹ tt ▹ tt ▹ same (p .1) (q .1) i ▹ tt)
 
--- ---- desk_edits
 pub run-edit-unique : Unique run_edit.ended run_edit.Reads.Post
-unfolding Runs
 run-edit-unique κs a x y v w p q =
     let b = same (p .2) (q .2) in
     (same (p .0) (q .0), λ i. tt ▹ tt ▹ tt ▹ b i .lines ▹ b i .pool ▹ b i .journal ▹ tt ▹ tt ▹ same (p .1) (q .1) i ▹ tt)
 
--- ---- desk_questions
 pub run-question-unique : Unique run_question.ended run_question.Reads.Post
-unfolding Runs
 run-question-unique κs a x y v w p q = (same (p .0) (q .0), λ i. tt ▹ tt ▹ tt ▹ tt ▹ tt ▹ tt ▹ tt ▹ tt ▹ same (p .1) (q .1) i ▹ tt)
 
--- ---- desk
 pub run-line-unique : Unique run_line.ended run_line.Reads.Post
 run-line-unique κs a x y v w p q =
     let b = same (p .2) (q .2) in

@@ -101,7 +101,7 @@ returns-3 c =
     let a = at-args .args in
     let b = five (a .nodes .now) (a .names .now) (a .lines .now) (a .pool .now) (a .journal .now) in
     question-answered (a .c) (a .line .now) (a .out .now) _ (at-has-room .has-room .ensures) (at-if1 .if1 .left) b _
-    (at-command-of .command-of .ensures) _ _ b _ (at-q .q .given .1) (at-run-question .run-question .ensures)
+    (at-command-of .command-of .ensures) _ _ b _ (at-q .q .given .1) (at-run-question .run-question .ensures) refl
 
 same-length-9 : tie.Need-same-length-9
 same-length-9 c = c .before .out3 .given

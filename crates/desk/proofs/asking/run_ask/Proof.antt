@@ -1,7 +1,6 @@
 -- `run_ask` meets its contract. Assumes nothing.
 use borrow.Author.Needs.{needs}
 use Rattle.book.specs.Layout.{five}
-use Rattle.book.specs.View.{view}
 use Rattle.desk.proofs.AskExits.{list-asked, script-asked}
 use Rattle.desk.proofs.asking.run_ask.Statement.{statement}
 use Rattle.desk.proofs.asking.run_ask.Tie as tie
@@ -22,7 +21,7 @@ returns c =
     let at-args = at-if1 .before .before .before .before .before .before .before .before .before in
     let a = at-args .args in
     let b = five (a .nodes .now) (a .names .now) (a .lines .now) (a .pool .now) (a .journal .now) in
-    list-asked (a .c) b (view (a .c) b) (a .t .now) (a .out .now) _ (at-ask-member .ask-member .result) _ (c .printed .ensures)
+    list-asked (a .c) b (a .t .now) (a .out .now) _ (at-ask-member .ask-member .result) _ (c .printed .ensures)
     (at-if1 .if1 .taken) (at-ask-member .ask-member .ensures)
 
 render-symbol-requires : tie.Need-render-symbol-requires
@@ -41,7 +40,7 @@ returns-2 c =
     let at-args = at-if1 .before .before .before .before .before .before .before .before .before in
     let a = at-args .args in
     let b = five (a .nodes .now) (a .names .now) (a .lines .now) (a .pool .now) (a .journal .now) in
-    script-asked (a .c) b (view (a .c) b) (a .t .now) (a .out .now) _ (at-render-symbol .render-symbol .result) _
+    script-asked (a .c) b (a .t .now) (a .out .now) _ (at-render-symbol .render-symbol .result) _
     (c .printed2 .ensures) (at-if1 .if1 .left) (at-args .pre) (at-render-symbol .render-symbol .ensures)
 
 pub run-ask-spec : {M : Type 1} → statement M

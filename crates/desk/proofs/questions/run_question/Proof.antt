@@ -1,8 +1,7 @@
 -- `run_question` meets its contract. Assumes nothing.
 use borrow.Author.Needs.{needs}
 use Rattle.book.specs.Layout.{five}
-use Rattle.book.specs.View.{view}
-use Rattle.desk.proofs.Shown.{ask-room, ask-runs, book-room, counts-run, dump-runs, lines-run}
+use Rattle.desk.proofs.Shown.{ask-room, ask-told, show-told}
 use Rattle.desk.proofs.questions.run_question.Statement.{statement}
 use Rattle.desk.proofs.questions.run_question.Tie as tie
 
@@ -20,32 +19,11 @@ run-ask-requires c κs =
     let a = at-args .args in
     ask-room (a .c) (a .line .now) (a .out .now) (at-args .pre) _ (at-q .q .given .0 .0) (at-tail .tail .ensures)
 
-enum-told : tie.Need-enum-told
-enum-told c = search needs
+enum-known-q-2 : tie.Need-enum-known-q-2
+enum-known-q-2 c = search needs
 
-run-counts-requires : tie.Need-run-counts-requires
-run-counts-requires c κs =
-    let at-args = c .before .before .before .before .before .before .before .before .before .before in
-    let a = at-args .args in
-    book-room (a .c) (a .line .now) (a .out .now) (at-args .pre)
-
-enum-told-2 : tie.Need-enum-told-2
-enum-told-2 c = search needs
-
-run-lines-requires : tie.Need-run-lines-requires
-run-lines-requires c κs =
-    let at-args = c .before .before .before .before .before .before .before .before .before .before in
-    let a = at-args .args in
-    book-room (a .c) (a .line .now) (a .out .now) (at-args .pre)
-
-enum-told-3 : tie.Need-enum-told-3
-enum-told-3 c = search needs
-
-run-dump-requires : tie.Need-run-dump-requires
-run-dump-requires c κs =
-    let at-args = c .before .before .before .before .before .before .before .before .before .before in
-    let a = at-args .args in
-    book-room (a .c) (a .line .now) (a .out .now) (at-args .pre)
+run-show-requires : tie.Need-run-show-requires
+run-show-requires c κs = search needs
 
 same-length : tie.Need-same-length
 same-length c = search needs
@@ -55,10 +33,9 @@ returns c =
     let at-run-ask = c .before .before in
     let at-tail = at-run-ask .before .before in
     let at-q = at-tail .before .before in
-    let at-args = at-q .before .before .before .before .before .before .before .before .before in
-    let a = at-args .args in
+    let a = at-q .before .before .before .before .before .before .before .before .before .args in
     let b = five (a .nodes .now) (a .names .now) (a .lines .now) (a .pool .now) (a .journal .now) in
-    ask-runs (a .c) b (view (a .c) b) (a .line .now) (a .q) (a .out .now) _ _ _ _ (at-q .q .given .1) (at-tail .tail .ensures)
+    ask-told (a .c) b (a .line .now) (a .q) (a .out .now) _ _ _ _ (at-q .q .given .1) (at-tail .tail .ensures)
     (at-run-ask .run-ask .ensures)
 
 same-length-2 : tie.Need-same-length-2
@@ -66,36 +43,11 @@ same-length-2 c = search needs
 
 returns-2 : tie.Need-returns-2
 returns-2 c =
-    let at-run-counts = c .before .before in
-    let at-enum-told = at-run-counts .before .before in
-    let at-args = at-enum-told .before .before .before .before .before .before .before .before .before in
-    let a = at-args .args in
+    let at-run-show = c .before .before in
+    let at-q = at-run-show .before .before .before in
+    let a = at-q .before .before .before .before .before .before .before .before .before .args in
     let b = five (a .nodes .now) (a .names .now) (a .lines .now) (a .pool .now) (a .journal .now) in
-    counts-run (a .c) b (view (a .c) b) (a .line .now) (a .q) (a .out .now) _ _ (at-enum-told .enum-told .given .1) (at-run-counts .run-counts .ensures)
-
-same-length-3 : tie.Need-same-length-3
-same-length-3 c = search needs
-
-returns-3 : tie.Need-returns-3
-returns-3 c =
-    let at-run-lines = c .before .before in
-    let at-enum-told2 = at-run-lines .before .before in
-    let at-args = at-enum-told2 .before .before .before .before .before .before .before .before .before in
-    let a = at-args .args in
-    let b = five (a .nodes .now) (a .names .now) (a .lines .now) (a .pool .now) (a .journal .now) in
-    lines-run (a .c) b (view (a .c) b) (a .line .now) (a .q) (a .out .now) _ _ (at-enum-told2 .enum-told2 .given .1) (at-run-lines .run-lines .ensures)
-
-same-length-4 : tie.Need-same-length-4
-same-length-4 c = search needs
-
-returns-4 : tie.Need-returns-4
-returns-4 c =
-    let at-run-dump = c .before .before in
-    let at-enum-told3 = at-run-dump .before .before in
-    let at-args = at-enum-told3 .before .before .before .before .before .before .before .before .before in
-    let a = at-args .args in
-    let b = five (a .nodes .now) (a .names .now) (a .lines .now) (a .pool .now) (a .journal .now) in
-    dump-runs (a .c) b (view (a .c) b) (a .line .now) (a .q) (a .out .now) _ _ (at-enum-told3 .enum-told3 .given .1) (at-run-dump .run-dump .ensures)
+    show-told (a .c) b (a .line .now) (a .q) (a .out .now) _ _ _ (at-q .q2 .given .1) (at-run-show .run-show .ensures)
 
 pub run-question-spec : {M : Type 1} → statement M
 run-question-spec =
@@ -104,17 +56,9 @@ run-question-spec =
     enum-known-q
     tail-requires
     run-ask-requires
-    enum-told
-    run-counts-requires
-    enum-told-2
-    run-lines-requires
-    enum-told-3
-    run-dump-requires
+    enum-known-q-2
+    run-show-requires
     same-length
     returns
     same-length-2
-    returns-2
-    same-length-3
-    returns-3
-    same-length-4
-    returns-4)
+    returns-2)

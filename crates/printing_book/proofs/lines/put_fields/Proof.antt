@@ -18,9 +18,13 @@ line s = line-of (s .args .node) (s .args .code) (s .args .bytes .now)
 abbrev Stands : tie.Start → ℕ → (Line → List ℕ) → List ℕ → ℕ → Type 0
 Stands s m text l r = Placed (s .args .out .now) (s .args .at) m (text (line s)) l r
 
--- behind the first call
+-- behind the code's parts
+abbrev parted : tie.After-put-spaced → tie.After-language-of
+parted c = c .before .before .before
+
+-- behind the first call that puts
 abbrev start : tie.After-put-spaced → tie.Start
-start c = c .before .before .before .before .before
+start c = parted c .before .before .before .before .before
 
 node : (c : tie.After-put-spaced) → Stands (start c) 11 to-node (c .put-spaced .last .0) (c .put-spaced .result)
 node c = spaced-placed _ _ [] (line (start c) .node) _ _ (omega (arith, start c .pre .0)) (c .put-spaced .ensures)
@@ -31,8 +35,9 @@ start2 c = start (c .before .before .before .before .before)
 
 class : (c : tie.After-put-spaced2) → Stands (start2 c) 22 to-class (c .put-spaced2 .last .0) (c .put-spaced2 .result)
 class c =
-    let p = node (c .before .before .before .before .before) in
-    spaced-behind p [] (line (start2 c) .class) _ _ (omega (arith, start2 c .pre .0)) (c .put-spaced2 .ensures)
+    let q = c .before .before .before .before .before in
+    let e = parted q .before .before .class-of .ensures in
+    spaced-behind (node q) [] (line (start2 c) .class) _ _ (omega (arith, start2 c .pre .0)) (rw e at (c .put-spaced2 .ensures))
 
 -- behind the third
 abbrev start3 : tie.After-put-spaced3 → tie.Start
@@ -40,8 +45,9 @@ start3 c = start2 (c .before .before .before .before .before)
 
 section : (c : tie.After-put-spaced3) → Stands (start3 c) 33 to-section (c .put-spaced3 .last .0) (c .put-spaced3 .result)
 section c =
-    let p = class (c .before .before .before .before .before) in
-    spaced-behind p [] (line (start3 c) .section) _ _ (omega (arith, start3 c .pre .0)) (c .put-spaced3 .ensures)
+    let q = c .before .before .before .before .before in
+    let e = parted (q .before .before .before .before .before) .before .section-of .ensures in
+    spaced-behind (class q) [] (line (start3 c) .section) _ _ (omega (arith, start3 c .pre .0)) (rw e at (c .put-spaced3 .ensures))
 
 -- behind the fourth
 abbrev start4 : tie.After-put-spaced4 → tie.Start
@@ -49,8 +55,9 @@ start4 c = start3 (c .before .before .before .before .before)
 
 language : (c : tie.After-put-spaced4) → Stands (start4 c) 44 to-language (c .put-spaced4 .last .0) (c .put-spaced4 .result)
 language c =
-    let p = section (c .before .before .before .before .before) in
-    spaced-behind p [] (line (start4 c) .language) _ _ (omega (arith, start4 c .pre .0)) (c .put-spaced4 .ensures)
+    let q = c .before .before .before .before .before in
+    let e = parted (q .before .before .before .before .before .before .before .before .before .before) .language-of .ensures in
+    spaced-behind (section q) [] (line (start4 c) .language) _ _ (omega (arith, start4 c .pre .0)) (rw e at (c .put-spaced4 .ensures))
 
 -- behind the fifth
 abbrev start5 : tie.After-put-spaced5 → tie.Start
@@ -62,6 +69,15 @@ struck c =
     spaced-behind p [] (line (start5 c) .struck) _ _ (omega (arith, start5 c .pre .0)) (c .put-spaced5 .ensures)
 
 -- ---- the needs
+class-of-requires : tie.Need-class-of-requires
+class-of-requires c κs = search needs
+
+section-of-requires : tie.Need-section-of-requires
+section-of-requires c κs = search needs
+
+language-of-requires : tie.Need-language-of-requires
+language-of-requires c κs = search needs
+
 slice-aggregate-put-spaced : tie.Need-slice-aggregate-put-spaced
 slice-aggregate-put-spaced c = search needs
 
@@ -125,6 +141,9 @@ pub put-fields-spec : {M : Type 1} → statement M
 put-fields-spec =
     tie.close
     (tie.spec
+    class-of-requires
+    section-of-requires
+    language-of-requires
     slice-aggregate-put-spaced
     put-spaced-requires
     slice-aggregate-put-spaced-2

@@ -1,12 +1,12 @@
--- `run_counts` meets its contract. Assumes nothing.
+-- `run_show` meets its contract. Assumes nothing.
 use borrow.Author.Needs.{needs}
 use native.Mathlib.Omega.{arith}
-use Rattle.book.specs.Books.{Book}
 use Rattle.book.specs.Layout.{five}
-use Rattle.printing_book.specs.Shown.{counts-shown, shown-room}
-use Rattle.desk.proofs.Shown.{book-shown, no-book-shown}
-use Rattle.desk.proofs.questions.run_counts.Statement.{statement}
-use Rattle.desk.proofs.questions.run_counts.Tie as tie
+use Rattle.printing_book.specs.Shown.{shown-room}
+use Rattle.desk.specs.Questions.{book-shown}
+use Rattle.desk.proofs.Shown.{held, no-book-shown, some-book-shown}
+use Rattle.desk.proofs.questions.run_show.Statement.{statement}
+use Rattle.desk.proofs.questions.run_show.Tie as tie
 
 is-book-requires : tie.Need-is-book-requires
 is-book-requires c κs = search needs
@@ -28,13 +28,19 @@ returns c =
     let at-is-book = at-if1 .before in
     let at-args = at-is-book .before .before .before .before .before .before .before in
     let a = at-args .args in
-    no-book-shown (a .c) (five (a .nodes .now) (a .names .now) (a .lines .now) (a .pool .now) (a .journal .now)) _
-    (at-is-book .is-book .ensures) (λ (v : Book). counts-shown (a .c)) (a .out .now) _
+    let b = five (a .nodes .now) (a .names .now) (a .lines .now) (a .pool .now) (a .journal .now) in
+    no-book-shown (a .c) b _ (at-is-book .is-book .ensures) (book-shown (a .c) b (a .what)) (a .out .now) _
     (at-put-refused-answer .put-refused-answer .result) _ (c .printed .ensures) (at-if1 .if1 .taken)
     (at-put-refused-answer .put-refused-answer .ensures)
 
-show-counts-requires : tie.Need-show-counts-requires
-show-counts-requires c κs = search needs
+show-requires : tie.Need-show-requires
+show-requires c κs =
+    let at-if1 = c .before in
+    let at-is-book = at-if1 .before in
+    let at-args = at-is-book .before .before .before .before .before .before .before in
+    let a = at-args .args in
+    let b = five (a .nodes .now) (a .names .now) (a .lines .now) (a .pool .now) (a .journal .now) in
+    (at-args .pre, held (a .c) b _ (at-is-book .is-book .ensures) (at-if1 .if1 .left))
 
 printed-requires-2 : tie.Need-printed-requires-2
 printed-requires-2 c κs = search needs
@@ -44,17 +50,17 @@ same-length-2 c = search needs
 
 returns-2 : tie.Need-returns-2
 returns-2 c =
-    let at-show-counts = c .before .before .before in
-    let at-if1 = at-show-counts .before .before in
+    let at-show = c .before .before .before in
+    let at-if1 = at-show .before .before in
     let at-is-book = at-if1 .before in
     let at-args = at-is-book .before .before .before .before .before .before .before in
     let a = at-args .args in
-    book-shown (a .c) (five (a .nodes .now) (a .names .now) (a .lines .now) (a .pool .now) (a .journal .now)) _
-    (at-is-book .is-book .ensures) (λ (v : Book). counts-shown (a .c)) (a .out .now) _ (at-show-counts .show-counts .result) _
-    (c .printed2 .ensures) (at-if1 .if1 .left) (at-show-counts .show-counts .ensures)
+    let b = five (a .nodes .now) (a .names .now) (a .lines .now) (a .pool .now) (a .journal .now) in
+    some-book-shown (a .c) b _ (at-is-book .is-book .ensures) (book-shown (a .c) b (a .what)) (a .out .now) _
+    (at-show .show .result) _ (c .printed2 .ensures) (at-if1 .if1 .left) (at-show .show .ensures)
 
-pub run-counts-spec : {M : Type 1} → statement M
-run-counts-spec =
+pub run-show-spec : {M : Type 1} → statement M
+run-show-spec =
     tie.close
     (tie.spec
     is-book-requires
@@ -62,7 +68,7 @@ run-counts-spec =
     printed-requires
     same-length
     returns
-    show-counts-requires
+    show-requires
     printed-requires-2
     same-length-2
     returns-2)
