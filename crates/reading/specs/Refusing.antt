@@ -39,7 +39,8 @@ pub data Unreadable (s : List ℕ) (c : Cursor) (p : ℕ) : Type 0 where
 -- ---- 3: "`#` without LF, `/*` without `*/`, or an extern token to `}` with no `}` left"
 pub data Unclosed (s : List ℕ) (c : Cursor) (p : ℕ) : Type 0 where
   line : {r : Rule} → Comes s c (skip-to r) p → Byte hash s p → None line-feed s p → Unclosed s c p
-  comment : {r : Rule} → Comes s c (skip-to r) p → Byte slash s p → Byte asterisk s (p + 1) → No-pair asterisk slash s (p + closes-after (edition-at c)) → Unclosed s c p
+  comment : {r : Rule} → Comes s c (skip-to r) p → Byte slash s p → Byte asterisk s (p + 1)
+      → No-pair asterisk slash s (p + closes-after (edition-at c)) → Unclosed s c p
   -- (in a block of an `add_symbol` text without semicolon no token goes to a `}` that isn't there)
   no-brace-left : Comes s c (token extern-token) p → None closing-brace s p → Unclosed s c p
 

@@ -134,7 +134,8 @@ pub data Comes (s : List ℕ) (c : Cursor) : Rule → ℕ → Type 0 where
   -- "`extern ` (one space), then `"C++"` or `"C"`, skip, `{`, tokens, `};`, skip"
   behind-cxx : {k : Token} {p : ℕ} → Comes s c (matcher k) p → Word extern-word s p → Word cxx-word s (behind extern-word p)
       → Comes s c (skip-to opening) (behind (extern-word ++ cxx-word) p)
-  behind-c : {k : Token} {p : ℕ} → Comes s c (matcher k) p → Word extern-word s p → Word c-word s (behind extern-word p) → Comes s c (skip-to opening) (behind (extern-word ++ c-word) p)
+  behind-c : {k : Token} {p : ℕ} → Comes s c (matcher k) p → Word extern-word s p → Word c-word s (behind extern-word p)
+      → Comes s c (skip-to opening) (behind (extern-word ++ c-word) p)
   behind-block : {k : Token} {p : ℕ} → Comes s c (block k) p → Word close-word s p → Comes s c (skip-to no-more) (behind close-word p)
   -- "Otherwise a token"; the skip behind one that ends at a `;` or a `}` passes nothing
   of-matcher : {k : Token} {p : ℕ} → Comes s c (matcher k) p → No-word extern-word s p → Comes s c (token k) p
