@@ -1,5 +1,9 @@
-// What the programs share that replay a sample of the Rust's answers: the fields of a case's line, the file of the cases, and what is printed.
-ghost use Prim.Native.Nat.{_+_, _≤_};
+// What the programs share that replay cases with the answers that they are to have: the fields of a case's line, the file of the cases, the walk through its
+// lines, and what is printed. A program goes through the lines, answers each, and hands over whether the answer is the same. Definitions: specs/Walks.antt.
+ghost use Prim.Native.Nat.{_+_, _<_, _≤_};
+ghost use mathlib.Core.Path.{_≡_};
+ghost use lib.ListN.{length};
+ghost use Rattle.replay.specs.Walks.{Further, Walks};
 use libc::STDOUT_FILENO;
 
 // The value of a hex digit, 16 for any other byte.
@@ -123,21 +127,83 @@ fn print_count(label: &[u8], n: u64) {
 }
 
 // Names a case that differs by its line.
-pub fn print_different(line: u64) {
+fn print_different(line: u64) {
     print_count(b"different: line ", line);
     print(b"\n");
 }
 
-// How many cases there are, and how many of them differ.
-pub struct Counts {
+// Where the next line begins, how many lines were met, how many of them are cases, and how many of those differ.
+pub struct Walk {
+    pub at: usize,
     pub lines: u64,
+    pub cases: u64,
     pub different: u64,
 }
 
-pub fn print_counts(c: Counts)
-    requires { ⌜ c .different ≤ c .lines ⌝ }
+// Before the first line.
+pub fn start(text: &[u8]) -> Walk
+    ensures { λ r. ⌜ Walks (length (now (text .entry))) r ⌝ }
 {
-    print_count(b"same ", c.lines - c.different);
-    print_count(b" different ", c.different);
+    Walk {
+        at: 0,
+        lines: 0,
+        cases: 0,
+        different: 0,
+    }
+}
+
+// The line that begins at a place, no bytes behind the last one.
+pub fn line_at(text: &[u8], from: usize) -> &[u8] {
+    if text.len() < from {
+        return &text[0..0];
+    }
+    let end = bytes::scan::find(text, from, text.len(), b'\n');
+    &text[from..end]
+}
+
+// Behind the next line.
+pub fn passed(text: &[u8], w: Walk) -> Walk
+    requires { ⌜ Walks (length (now text)) w × (w .at < length (now text)) ⌝ }
+    ensures { λ r. ⌜ Further (length (now (text .entry))) (w .at) r × (r .cases < r .lines) ⌝ }
+{
+    let at = w.at;
+    let end = bytes::scan::find(text, at, text.len(), b'\n');
+    Walk {
+        at: end + 1,
+        lines: w.lines + 1,
+        cases: w.cases,
+        different: w.different,
+    }
+}
+
+// The line that was passed is a case, and its answer is the same or is not: then the line is named.
+pub fn counted(w: Walk, same: bool) -> Walk
+    requires { ⌜ (w .cases < w .lines) × (w .different ≤ w .cases) ⌝ }
+    ensures { λ r. ⌜ (r .at ≡ w .at) × (r .lines ≡ w .lines) × (r .cases ≤ w .lines) × (r .different ≤ r .cases) ⌝ }
+{
+    let cases = w.cases + 1;
+    if same {
+        return Walk {
+            at: w.at,
+            lines: w.lines,
+            cases,
+            different: w.different,
+        };
+    }
+    print_different(w.lines);
+    Walk {
+        at: w.at,
+        lines: w.lines,
+        cases,
+        different: w.different + 1,
+    }
+}
+
+// How many cases are the same, and how many are not.
+pub fn print_counts(w: Walk)
+    requires { ⌜ w .different ≤ w .cases ⌝ }
+{
+    print_count(b"same ", w.cases - w.different);
+    print_count(b" different ", w.different);
     print(b"\n");
 }

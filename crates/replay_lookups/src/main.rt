@@ -7,8 +7,9 @@
 //     W raw demangled wanted index    with a wanted version, `!` where it is unknown
 //     L raw demangled locality        0 for nothing, 1 for global, 2 for local
 //     C raw demangled 0|1             whether it is in the list
-ghost use Prim.Native.Nat.{_+_, _≤_, _<_};
+ghost use Prim.Native.Nat.{_≤_, _<_};
 ghost use lib.ListN.{length};
+ghost use Rattle.replay.specs.Walks.{Further, Onward, Walks};
 use book::Counts;
 use book_opening::Opened;
 use counting::Count;
@@ -22,12 +23,16 @@ use lookups::locality_lookup::locality;
 use lookups::version_lookup::version_for_symbol;
 use meanings::front;
 use numbers::UNKNOWN_VERSION;
+use replay::Walk;
 use replay::byte_or_zero;
+use replay::counted;
 use replay::digit;
+use replay::line_at;
+use replay::passed;
 use replay::print_counts;
-use replay::print_different;
 use replay::read_cases;
 use replay::read_field;
+use replay::start;
 
 // An answer that no case has.
 const OTHER: u8 = b'?';
@@ -205,55 +210,30 @@ fn same_question(
     )
 }
 
-// The place behind some lines, and how many lines were met up to there, and how many of them are different.
-struct Walked {
-    at: usize,
-    lines: u64,
-    different: u64,
-}
-
 // The questions from a place on, up to the next text.
 fn ask_all(
     text: &[u8],
-    from: usize,
+    from: Walk,
     c: Counts,
     nodes: &[u32],
     names: &[u8],
     rows: &[u32],
     pool: &[u8],
     journal: &[u32],
-    met: u64,
-    unlike: u64,
-) -> Walked
-    requires { ⌜ (from ≤ length (now text) + 1) × (met ≤ from) × (unlike ≤ met) ⌝ }
-    ensures { λ r. ⌜ (from ≤ r .at) × (r .at ≤ length (now (text .entry)) + 1) × (r .lines ≤ r .at) × (r .different ≤ r .lines) ⌝ }
+) -> Walk
+    requires { ⌜ Walks (length (now text)) from ⌝ }
+    ensures { λ r. ⌜ Onward (length (now (text .entry))) (from .at) r ⌝ }
 {
-    let mut at = from;
-    let mut lines = met;
-    let mut different = unlike;
-    while at < text.len() {
-        if text[at] == b'S' {
-            return Walked {
-                at,
-                lines,
-                different,
-            };
+    let mut walk = from;
+    while walk.at < text.len() {
+        let line = line_at(text, walk.at);
+        if byte_or_zero(line, 0) == b'S' {
+            return walk;
         }
-        let end = bytes::scan::find(text, at, text.len(), b'\n');
-        let same = same_question(&text[at..end], c, nodes, names, rows, pool, journal);
-        lines += 1;
-        at = end + 1;
-        if same {
-            continue;
-        }
-        different += 1;
-        print_different(lines);
+        let same = same_question(line, c, nodes, names, rows, pool, journal);
+        walk = counted(passed(text, walk), same);
     }
-    Walked {
-        at,
-        lines,
-        different,
-    }
+    walk
 }
 
 fn open(
@@ -355,9 +335,9 @@ fn open_text(line: &[u8]) -> Book {
     open_book(line, field.next, source, front(&bytes, n))
 }
 
-fn ask_book(text: &[u8], from: usize, book: Book, met: u64, unlike: u64) -> Walked
-    requires { ⌜ (from ≤ length (now text) + 1) × (met ≤ from) × (unlike ≤ met) ⌝ }
-    ensures { λ r. ⌜ (from ≤ r .at) × (r .at ≤ length (now (text .entry)) + 1) × (r .lines ≤ r .at) × (r .different ≤ r .lines) ⌝ }
+fn ask_book(text: &[u8], from: Walk, book: Book) -> Walk
+    requires { ⌜ Walks (length (now text)) from ⌝ }
+    ensures { λ r. ⌜ Onward (length (now (text .entry))) (from .at) r ⌝ }
 {
     let nodes = book.nodes;
     let names = book.names;
@@ -373,40 +353,28 @@ fn ask_book(text: &[u8], from: usize, book: Book, met: u64, unlike: u64) -> Walk
         &rows,
         &pool,
         &journal,
-        met,
-        unlike,
     )
 }
 
 // A text, and the questions that are asked of it.
-fn replay_text(text: &[u8], from: usize, met: u64, unlike: u64) -> Walked
-    requires { ⌜ (from < length (now text)) × (met ≤ from) × (unlike ≤ met) ⌝ }
-    ensures { λ r. ⌜ (from < r .at) × (r .at ≤ length (now (text .entry)) + 1) × (r .lines ≤ r .at) × (r .different ≤ r .lines) ⌝ }
+fn replay_text(text: &[u8], from: Walk) -> Walk
+    requires { ⌜ Walks (length (now text)) from × (from .at < length (now text)) ⌝ }
+    ensures { λ r. ⌜ Further (length (now (text .entry))) (from .at) r ⌝ }
 {
-    let end = bytes::scan::find(text, from, text.len(), b'\n');
-    let next = end + 1;
-    let lines = met + 1;
-    let book = open_text(&text[from..end]);
-    if book.same {
-        return ask_book(text, next, book, lines, unlike);
-    }
-    print_different(lines);
-    ask_book(text, next, book, lines, unlike + 1)
+    let book = open_text(line_at(text, from.at));
+    let same = book.same;
+    let walk = counted(passed(text, from), same);
+    ask_book(text, walk, book)
 }
 
-fn replay(text: &[u8]) -> replay::Counts
-    ensures { λ r. ⌜ r .different ≤ r .lines ⌝ }
+fn replay(text: &[u8]) -> Walk
+    ensures { λ r. ⌜ r .different ≤ r .cases ⌝ }
 {
-    let mut lines: u64 = 0;
-    let mut different: u64 = 0;
-    let mut at = 0;
-    while at < text.len() {
-        let walked = replay_text(text, at, lines, different);
-        at = walked.at;
-        lines = walked.lines;
-        different = walked.different;
+    let mut walk = start(text);
+    while walk.at < text.len() {
+        walk = replay_text(text, walk);
     }
-    replay::Counts { lines, different }
+    walk
 }
 
 fn main() {

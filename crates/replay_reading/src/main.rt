@@ -17,13 +17,16 @@ use meanings::front;
 use numbers::BAD_EXTERN;
 use numbers::UNREADABLE;
 use reading_rows::reading_events;
-use replay::Counts;
+use replay::Walk;
 use replay::byte_or_zero;
+use replay::counted;
 use replay::digit;
+use replay::line_at;
+use replay::passed;
 use replay::print_counts;
-use replay::print_different;
 use replay::read_cases;
 use replay::read_field;
+use replay::start;
 
 // The kinds of the rows.
 const NODE: u64 = 1;
@@ -251,24 +254,15 @@ fn same_line(line: &[u8]) -> bool {
     same_accepted(line, at, text, rows_of(&rows, told / 256))
 }
 
-fn replay(text: &[u8]) -> Counts
-    ensures { λ r. ⌜ r .different ≤ r .lines ⌝ }
+fn replay(text: &[u8]) -> Walk
+    ensures { λ r. ⌜ r .different ≤ r .cases ⌝ }
 {
-    let mut lines: u64 = 0;
-    let mut different: u64 = 0;
-    let mut at = 0;
-    while at < text.len() {
-        let end = bytes::scan::find(text, at, text.len(), b'\n');
-        let same = same_line(&text[at..end]);
-        lines += 1;
-        at = end + 1;
-        if same {
-            continue;
-        }
-        different += 1;
-        print_different(lines);
+    let mut walk = start(text);
+    while walk.at < text.len() {
+        let same = same_line(line_at(text, walk.at));
+        walk = counted(passed(text, walk), same);
     }
-    Counts { lines, different }
+    walk
 }
 
 fn main() {

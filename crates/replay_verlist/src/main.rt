@@ -11,13 +11,16 @@ ghost use lib.ListN.{length};
 use libc::STDOUT_FILENO;
 use meanings::front;
 use printing_listing::render_listing;
-use replay::Counts;
+use replay::Walk;
 use replay::byte_or_zero;
+use replay::counted;
 use replay::digit;
 use replay::hex_digit;
+use replay::line_at;
+use replay::passed;
 use replay::print_counts;
-use replay::print_different;
 use replay::read_cases;
+use replay::start;
 
 // The largest number that is read: more than any case has.
 const MOST: u64 = 100000;
@@ -190,18 +193,8 @@ fn same_bytes(a: &[u8], b: &[u8]) -> bool {
     true
 }
 
-// Whether the output is the one expected. One that is not is printed.
-fn told_same(line: u64, told: &[u8], expected: &[u8]) -> bool {
-    if same_bytes(told, expected) {
-        return true;
-    }
-    print_different(line);
-    io::write_all(STDOUT_FILENO, front(told, SHOWN));
-    false
-}
-
-// Whether an input is answered as expected, in the room that verlist has.
-fn same_listed(line: u64, text: &[u8], expected: &[u8], out: &mut [u8]) -> bool {
+// How many bytes an input's output is, in the room that verlist has.
+fn list(text: &[u8], out: &mut [u8]) -> usize {
     let mut nodes = [0u32; 3072];
     let mut names = [0u8; 65536];
     let mut lines = [0u32; 8192];
@@ -216,57 +209,46 @@ fn same_listed(line: u64, text: &[u8], expected: &[u8], out: &mut [u8]) -> bool 
         &mut journal,
         out,
     );
-    told_same(line, front(out, listed.length), expected)
+    listed.length
 }
 
-fn same_case(line: u64, input: &[u8], output: &[u8], out: &mut [u8]) -> bool {
+fn list_case(input: &[u8], out: &mut [u8]) -> usize {
     let mut text = [0u8; ROOM];
     let n = expand(input, &mut text);
+    list(front(&text, n), out)
+}
+
+// Whether an output is the one that the case's second line says.
+fn same_output(told: &[u8], output: &[u8]) -> bool {
     let mut expected = [0u8; ROOM];
-    let m = expand(output, &mut expected);
-    if byte_or_zero(output, 0) != b'>' {
-        print_different(line);
-        return false;
-    }
-    same_listed(line, front(&text, n), front(&expected, m), out)
+    let n = expand(output, &mut expected);
+    byte_or_zero(output, 0) == b'>' && same_bytes(told, front(&expected, n))
 }
 
-// The line that begins at a place, no bytes behind the last one.
-fn line_at(text: &[u8], from: usize) -> &[u8] {
-    if text.len() < from {
-        return &text[0..0];
+// What came, where it differs.
+fn show(told: &[u8], same: bool) {
+    if same {
+        return;
     }
-    let end = bytes::scan::find(text, from, text.len(), b'\n');
-    &text[from..end]
+    io::write_all(STDOUT_FILENO, front(told, SHOWN));
 }
 
-fn replay(text: &[u8], out: &mut [u8]) -> Counts
-    ensures { λ r. ⌜ r .different ≤ r .lines ⌝ }
+fn replay(text: &[u8], out: &mut [u8]) -> Walk
+    ensures { λ r. ⌜ r .different ≤ r .cases ⌝ }
 {
-    let mut line: u64 = 0;
-    let mut cases: u64 = 0;
-    let mut different: u64 = 0;
-    let mut at = 0;
-    while at < text.len() {
-        let end = bytes::scan::find(text, at, text.len(), b'\n');
-        let begins = text[at];
-        let input = &text[at..end];
-        line += 1;
-        at = end + 1;
-        if begins != b'<' {
+    let mut walk = start(text);
+    while walk.at < text.len() {
+        let input = line_at(text, walk.at);
+        walk = passed(text, walk);
+        if byte_or_zero(input, 0) != b'<' {
             continue;
         }
-        cases += 1;
-        let same = same_case(line, input, line_at(text, at), out);
-        if same {
-            continue;
-        }
-        different += 1;
+        let n = list_case(input, out);
+        let same = same_output(front(out, n), line_at(text, walk.at));
+        walk = counted(walk, same);
+        show(front(out, n), same);
     }
-    Counts {
-        lines: cases,
-        different,
-    }
+    walk
 }
 
 // Room for what the longest input prints: 48 bytes, and 15 for each of 65,537.
@@ -276,8 +258,8 @@ fn output_room() -> [u8; 983104]
     [0; 983104]
 }
 
-fn replay_all(text: &[u8]) -> Counts
-    ensures { λ r. ⌜ r .different ≤ r .lines ⌝ }
+fn replay_all(text: &[u8]) -> Walk
+    ensures { λ r. ⌜ r .different ≤ r .cases ⌝ }
 {
     let mut out = output_room();
     replay(text, &mut out)

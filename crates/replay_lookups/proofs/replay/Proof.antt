@@ -1,15 +1,19 @@
--- `replay` is safe and ends, and counts no more differences than lines: each turn passes a text and its questions. Assumes nothing.
-use Prim.Native.Nat.{_+_, _-_, _≤_}
+-- `replay` is safe and ends, and counts no more differences than cases: each turn passes a text and its questions. Assumes nothing.
+use Prim.Native.Nat.{_-_}
 use lib.ListN.{length}
 use borrow.Author.Needs.{needs}
+use Rattle.replay.specs.Walks.{Walks}
 use Rattle.replay_lookups.proofs.replay.Statement.{statement}
 use Rattle.replay_lookups.proofs.replay.Tie as tie
 
 abbrev Inv-loop : tie.InvT-loop
-Inv-loop text lines₀ different₀ at₀ lines different at = (at ≤ length text + 1) × (lines ≤ at) × (different ≤ lines)
+Inv-loop text walk₀ walk = Walks (length text) walk
 
 abbrev μ-loop : tie.MeasureT-loop
-μ-loop text lines₀ different₀ at₀ lines different at = length text - at
+μ-loop text walk₀ walk = length text - walk .at
+
+start-requires : tie.Need-start-requires Inv-loop μ-loop
+start-requires c κs = search needs
 
 loop-holds : tie.Need-loop-holds Inv-loop μ-loop
 loop-holds c = search needs
@@ -32,6 +36,7 @@ replay-spec =
     (tie.spec
     Inv-loop
     μ-loop
+    start-requires
     loop-holds
     replay-text-requires
     loop-less

@@ -1,40 +1,33 @@
 -- `replay` is safe and ends, and counts no more differences than cases: each turn passes a line. Assumes nothing.
-use Prim.Native.Nat.{_+_, _-_, _≤_}
+use Prim.Native.Nat.{_-_}
 use mathlib.Core.Path.{_≡_}
+use native.Mathlib.Omega.{arith}
 use lib.ListN.{length}
 use borrow.Author.Needs.{needs}
+use Rattle.replay.specs.Walks.{Walks}
 use Rattle.replay_verlist.proofs.replay.Statement.{statement}
 use Rattle.replay_verlist.proofs.replay.Tie as tie
 
 abbrev Inv-loop : tie.InvT-loop
-Inv-loop text out₀ line₀ cases₀ different₀ at₀ out line cases different at = (at ≤ length text + 1) × (line ≤ at) × (cases ≤ line) × (different ≤ cases) × (length out ≡ length out₀)
+Inv-loop text out₀ walk₀ out walk = Walks (length text) walk × (length out ≡ length out₀)
 
 abbrev μ-loop : tie.MeasureT-loop
-μ-loop text out₀ line₀ cases₀ different₀ at₀ out line cases different at = length text - at
+μ-loop text out₀ walk₀ out walk = length text - walk .at
+
+start-requires : tie.Need-start-requires Inv-loop μ-loop
+start-requires c κs = search needs
 
 loop-holds : tie.Need-loop-holds Inv-loop μ-loop
 loop-holds c = search needs
 
-find-requires : tie.Need-find-requires Inv-loop μ-loop
-find-requires c κs = search needs
+line-at-requires : tie.Need-line-at-requires Inv-loop μ-loop
+line-at-requires c κs = search needs
 
-shared-slice-read-begins : tie.Need-shared-slice-read-begins Inv-loop μ-loop
-shared-slice-read-begins c = search needs
+passed-requires : tie.Need-passed-requires Inv-loop μ-loop
+passed-requires c κs = search needs
 
-sub-input : tie.Need-sub-input Inv-loop μ-loop
-sub-input c = search needs
-
-part-input-start : tie.Need-part-input-start Inv-loop μ-loop
-part-input-start c = search needs
-
-part-input-end : tie.Need-part-input-end Inv-loop μ-loop
-part-input-end c = search needs
-
-add-line : tie.Need-add-line Inv-loop μ-loop
-add-line c = search needs
-
-add-at : tie.Need-add-at Inv-loop μ-loop
-add-at c = search needs
+byte-or-zero-requires : tie.Need-byte-or-zero-requires Inv-loop μ-loop
+byte-or-zero-requires c κs = search needs
 
 loop-less : tie.Need-loop-less Inv-loop μ-loop
 loop-less c = search needs
@@ -42,29 +35,34 @@ loop-less c = search needs
 loop-again : tie.Need-loop-again Inv-loop μ-loop
 loop-again c = search needs
 
-add-cases : tie.Need-add-cases Inv-loop μ-loop
-add-cases c = search needs
+list-case-requires : tie.Need-list-case-requires Inv-loop μ-loop
+list-case-requires c κs = search needs
 
-line-at-requires : tie.Need-line-at-requires Inv-loop μ-loop
-line-at-requires c κs = search needs
+front-requires : tie.Need-front-requires Inv-loop μ-loop
+front-requires c κs = search needs
 
-same-case-requires : tie.Need-same-case-requires Inv-loop μ-loop
-same-case-requires c κs = search needs
+line-at-requires-2 : tie.Need-line-at-requires-2 Inv-loop μ-loop
+line-at-requires-2 c κs = search needs
+
+same-output-requires : tie.Need-same-output-requires Inv-loop μ-loop
+same-output-requires c κs = search needs
+
+counted-requires : tie.Need-counted-requires Inv-loop μ-loop
+counted-requires c κs = search needs
+
+front-requires-2 : tie.Need-front-requires-2 Inv-loop μ-loop
+front-requires-2 c κs = search needs
+
+show-requires : tie.Need-show-requires Inv-loop μ-loop
+show-requires c κs = search needs
 
 loop-less-2 : tie.Need-loop-less-2 Inv-loop μ-loop
 loop-less-2 c = search needs
 
 loop-again-2 : tie.Need-loop-again-2 Inv-loop μ-loop
-loop-again-2 c = search needs
-
-add-different : tie.Need-add-different Inv-loop μ-loop
-add-different c = search needs
-
-loop-less-3 : tie.Need-loop-less-3 Inv-loop μ-loop
-loop-less-3 c = search needs
-
-loop-again-3 : tie.Need-loop-again-3 Inv-loop μ-loop
-loop-again-3 c = search needs
+loop-again-2 c =
+    let at-out = c .before .before .before .before .before .before .before .before .before in
+    (search needs, omega (arith, at-out .out .given, at-out .before .before .before .before .before .before .before .before .before .loop .inv .1))
 
 same-length : tie.Need-same-length Inv-loop μ-loop
 same-length c = search needs
@@ -78,23 +76,21 @@ replay-spec =
     (tie.spec
     Inv-loop
     μ-loop
+    start-requires
     loop-holds
-    find-requires
-    shared-slice-read-begins
-    sub-input
-    part-input-start
-    part-input-end
-    add-line
-    add-at
+    line-at-requires
+    passed-requires
+    byte-or-zero-requires
     loop-less
     loop-again
-    add-cases
-    line-at-requires
-    same-case-requires
+    list-case-requires
+    front-requires
+    line-at-requires-2
+    same-output-requires
+    counted-requires
+    front-requires-2
+    show-requires
     loop-less-2
     loop-again-2
-    add-different
-    loop-less-3
-    loop-again-3
     same-length
     returns)
