@@ -2,7 +2,7 @@
 use Prim.Native.Nat.{ℕ, _+_, _<_, _≤_}
 use mathlib.Core.Path.{_≡_, sym, ap, _∙_}
 use mathlib.Core.List.{List, [], _∷_, append-assoc}
-use native.Mathlib.Numerals.{add-one, add-two, add-three}
+use native.Mathlib.Numerals.{add-one, add-two}
 use native.Mathlib.Omega.{arith}
 use lib.ListN.{length, take, drop, getD, set, length-drop, take-append-drop}
 use lib.Seq.{paste, sets-eq, drop-drop, getD-drop, getD-take, length-take-le, take-take}
@@ -45,7 +45,7 @@ module _ (d : List ℕ) (from to n : ℕ) where
       pub move-ends : n ≤ i → l ≡ paste d to (take n (drop from d)) n
       move-ends h = paste-ends d to (take n (drop from d)) l i z (omega (arith, long)) ∙ ap (paste d to (take n (drop from d))) long
 
--- ---- a row of two, three or four numbers, stored one by one
+-- ---- a row of two or three numbers, stored one by one
 module _ (l : List ℕ) (at a b : ℕ) where
   -- two stores are a paste of two
   pub two-stored : at + 2 ≤ length l → set (set l at a) (at + 1) b ≡ paste l at (a ∷ b ∷ []) 2
@@ -54,7 +54,3 @@ module _ (l : List ℕ) (at a b : ℕ) where
   -- three are a paste of three
   pub three-stored : (c : ℕ) → at + 3 ≤ length l → set (set (set l at a) (at + 1) b) (at + 2) c ≡ paste l at (a ∷ b ∷ c ∷ []) 3
   three-stored c h = rw (add-one, add-two) (sets-eq (a ∷ b ∷ c ∷ []) l at h)
-
-  -- four are a paste of four
-  pub four-stored : (c d : ℕ) → at + 4 ≤ length l → set (set (set (set l at a) (at + 1) b) (at + 2) c) (at + 3) d ≡ paste l at (a ∷ b ∷ c ∷ d ∷ []) 4
-  four-stored c d h = rw (add-one, add-two, add-three) (sets-eq (a ∷ b ∷ c ∷ d ∷ []) l at h)

@@ -32,7 +32,7 @@ pub fn move_down(bytes: &mut [u8], from: usize, to: usize, n: usize)
     }
 }
 
-// Rows of two, three and four numbers, from a place on.
+// Rows of two and three numbers, from a place on.
 pub fn put_two(rows: &mut [u32], at: usize, a: u32, b: u32)
     requires { ⌜ at + 2 ≤ length (now rows) ⌝ }
     ensures { λ _. ⌜ now (rows .exit) ≡ paste (now (rows .entry)) at (a ∷ b ∷ []) 2 ⌝ }
@@ -48,14 +48,4 @@ pub fn put_three(rows: &mut [u32], at: usize, a: u32, b: u32, c: u32)
     rows[at] = a;
     rows[at + 1] = b;
     rows[at + 2] = c;
-}
-
-pub fn put_four(rows: &mut [u32], at: usize, a: u32, b: u32, c: u32, d: u32)
-    requires { ⌜ at + 4 ≤ length (now rows) ⌝ }
-    ensures { λ _. ⌜ now (rows .exit) ≡ paste (now (rows .entry)) at (a ∷ b ∷ c ∷ d ∷ []) 4 ⌝ }
-{
-    rows[at] = a;
-    rows[at + 1] = b;
-    rows[at + 2] = c;
-    rows[at + 3] = d;
 }

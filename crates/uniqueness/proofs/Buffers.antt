@@ -11,7 +11,6 @@ use Rattle.copying.proofs.put_bytes
 use Rattle.copying.proofs.move_down
 use Rattle.copying.proofs.put_two
 use Rattle.copying.proofs.put_three
-use Rattle.copying.proofs.put_four
 use Rattle.book_rooms.proofs.has_row
 use Rattle.book_rooms.proofs.has_edit
 use Rattle.book_rooms.proofs.pool_end
@@ -52,9 +51,6 @@ put-two-unique κs a x y v w p q = (refl, λ i. same p q i ▹ tt ▹ tt ▹ tt 
 
 pub put-three-unique : Unique put_three.ended put_three.Reads.Post
 put-three-unique κs a x y v w p q = (refl, λ i. same p q i ▹ tt ▹ tt ▹ tt ▹ tt ▹ tt)
-
-pub put-four-unique : Unique put_four.ended put_four.Reads.Post
-put-four-unique κs a x y v w p q = (refl, λ i. same p q i ▹ tt ▹ tt ▹ tt ▹ tt ▹ tt ▹ tt)
 
 -- ---- rooms
 pub has-row-unique : Unique has_row.ended has_row.Reads.Post
