@@ -119,7 +119,7 @@ unfolding opening reading reading-from
 viewable how b s w h k e = go (ltb script-limit (length s)) (leb node-width (length (b .nodes))) refl e
   where
     go : (x y : Bool) → leb node-width (length (b .nodes)) ≡ y
-        → cond x (declined too-long 0) (cond y (build-reading reld (how .place) b s nothing-yet (reading reld (how .place) s)) (declined no-room 0)) ≡ opens w
+        → cond x (declined too-long 0) (cond y (build-reading (how .place) b s nothing-yet (reading reld (how .place) s)) (declined no-room 0)) ≡ opens w
         → Viewable b w
     go true y z f = absurd (true≢false (cc))
     go false false z f = absurd (true≢false (cc))

@@ -50,8 +50,8 @@ pub record Going (place : ℕ) (s n m l q n′ m′ l′ q′ : List ℕ) (c : C
   pub marked : Marked c
   pub holds : built g (four n′ m′ l′ q′) ≡ true
   pub alike : Alike (four n m l q) (four n′ m′ l′ q′)
-  pub whole : build-reading reld place (four n m l q) s nothing-yet (reading reld place s)
-      ≡ build-reading reld place (four n′ m′ l′ q′) s (building g (four n′ m′ l′ q′)) (reading-from s c)
+  pub whole : build-reading place (four n m l q) s nothing-yet (reading reld place s)
+      ≡ build-reading place (four n′ m′ l′ q′) s (building g (four n′ m′ l′ q′)) (reading-from s c)
 
 -- behind an opening that is known
 ended-open : (o : Opening) (w : Book) (r : Built) (b b′ : Buffers) → o ≡ opens w → r ≡ Done (counts-of w) → b′ ≡ laid-out b w → Ended o r b b′
@@ -77,9 +77,9 @@ module _ (place : ℕ) (s n m l q : List ℕ) where
   module _ (n′ m′ l′ q′ : List ℕ) (c : Cursor) (g : Progress) (i : Going place s n m l q n′ m′ l′ q′ c g) (x : Step) (k : x ≡ next s c) where
     -- what is left, by the next step
     left-to-read : (y : Step) → x ≡ y
-        → build-reading reld place (four n m l q) s nothing-yet (reading reld place s)
-        ≡ build-reading reld place (four n′ m′ l′ q′) s (building g (four n′ m′ l′ q′)) (on-step y (λ d. reading-from s d))
-    left-to-read y z = i .whole ∙ ap (build-reading reld place (four n′ m′ l′ q′) s (building g (four n′ m′ l′ q′))) (reading-step s c (i .stands) ∙ rw (← k, z))
+        → build-reading place (four n m l q) s nothing-yet (reading reld place s)
+        ≡ build-reading place (four n′ m′ l′ q′) s (building g (four n′ m′ l′ q′)) (on-step y (λ d. reading-from s d))
+    left-to-read y z = i .whole ∙ ap (build-reading place (four n′ m′ l′ q′) s (building g (four n′ m′ l′ q′))) (reading-step s c (i .stands) ∙ rw (← k, z))
 
     -- what `finished` asks
     pub finished-asks : (g .nodes ≤ node-limit) × (g .names ≤ script-limit * node-limit) × (g .lines ≤ line-limit) × (g .pool ≤ pool-limit)
@@ -163,7 +163,7 @@ module _ (how : How) (s n m l q : List ℕ) where
 
   -- row 0 has room
   pub filled-on : (r : Opened) (b′ : Buffers) → length s ≤ script-limit → node-width ≤ length n
-      → Filled (build-reading reld (how .place) (four n m l q) s nothing-yet (reading reld (how .place) s)) r (four n m l q) b′
+      → Filled (build-reading (how .place) (four n m l q) s nothing-yet (reading reld (how .place) s)) r (four n m l q) b′
       → Opens how (four n m l q) s r b′
   unfolding opening
   filled-on r b′ h k t = rw (le-ltb script-limit (length s) h, le-leb node-width (length n) k) t

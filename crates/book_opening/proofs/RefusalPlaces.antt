@@ -92,7 +92,7 @@ module _ (s : List ℕ) where
     opening-within = go (ltb script-limit (length s)) (leb node-width (length (b .nodes)))
       where
         go : (x y : Bool)
-            → Within (cond x (declined too-long 0) (cond y (build-reading reld (how .place) b s nothing-yet (reading reld (how .place) s)) (declined no-room 0)))
+            → Within (cond x (declined too-long 0) (cond y (build-reading (how .place) b s nothing-yet (reading reld (how .place) s)) (declined no-room 0)))
         go true y = omega arith
         go false true =
             build-within (how .place) b _ (start reld (how .place) s) nothing-yet (start-stands reld (how .place) s) (start-marked reld (how .place) s)

@@ -143,7 +143,7 @@ unfolding opening build-reading
 opening-says how b s = go (ltb script-limit (length s)) (leb node-width (length (b .nodes)))
   where
     go : (x y : Bool)
-        → Says-declined (cond x (declined too-long 0) (cond y (build-reading reld (how .place) b s nothing-yet (reading reld (how .place) s)) (declined no-room 0)))
+        → Says-declined (cond x (declined too-long 0) (cond y (build-reading (how .place) b s nothing-yet (reading reld (how .place) s)) (declined no-room 0)))
     go true y = (omega arith, omega arith)
     go false true =
         let r = reading reld (how .place) s in

@@ -67,7 +67,7 @@ build-reading place b s g r = build place b s g (r .events) (r .outcome)
 unfoldable pub opening : How → Buffers → List ℕ → Opening
 opening how b s =
     cond (over script-limit s) (declined too-long 0)
-    (cond (leb node-width (length (b .nodes))) (build-reading reld (how .place) b s nothing-yet (reading reld (how .place) s))
+    (cond (leb node-width (length (b .nodes))) (build-reading (how .place) b s nothing-yet (reading reld (how .place) s))
     (declined no-room 0))
 
 -- ---- what is answered, and what is left in the buffers: "A refused opening returns zero counts and zero buffers"

@@ -57,7 +57,7 @@ module _ (how : How) (b : Buffers) (s : List ℕ) (w : Book) where
   opened-edits e = go (ltb script-limit (length s)) (leb node-width (length (b .nodes))) e
     where
       go : (x y : Bool)
-          → cond x (declined too-long 0) (cond y (build-reading reld (how .place) b s nothing-yet (reading reld (how .place) s)) (declined no-room 0)) ≡ opens w
+          → cond x (declined too-long 0) (cond y (build-reading (how .place) b s nothing-yet (reading reld (how .place) s)) (declined no-room 0)) ≡ opens w
           → w .edits ≡ []
       go true y f = absurd (true≢false (cc))
       go false false f = absurd (true≢false (cc))
