@@ -12,8 +12,8 @@ use Rattle.lists.specs.Each.{every}
 use Rattle.packing.specs.Tables.{packs}
 use Rattle.packing.proofs.Packings.{is-packs}
 use Rattle.book.specs.declared.Counts.{Counts}
-use Rattle.book.specs.Books.{Book}
-use Rattle.book.specs.Layout.{node-form, line-form, Buffers}
+use Rattle.book.specs.Books.{Book, book-frame}
+use Rattle.book.specs.Layout.{node-form, line-form, Buffers, frame-of}
 use Rattle.book.specs.Sanity.{in-range, line-ok, sane}
 use Rattle.book.specs.View.{any-node, laid, book-of, holds, view}
 use Rattle.book.proofs.Forms.{node-laws, line-laws}
@@ -24,7 +24,7 @@ use Rattle.book.proofs.Views.{laid-packs, layout-of-view}
 pub record Held (c : Counts) (b : Buffers) : Type 0 where
   pub viewed : view c b ≡ some (book-of c b)
   pub nodes : packs node-form any-node (c .nodes) (c .names) (b .nodes) (b .names) ≡ true
-  pub lines : packs line-form (line-ok (c .kind) (c .nodes)) (c .lines) (c .pool) (b .lines) (b .pool) ≡ true
+  pub lines : packs line-form (line-ok (frame-of c)) (c .lines) (c .pool) (b .lines) (b .pool) ≡ true
   pub few : c .nodes ≤ node-limit
   pub count : length (book-of c b .nodes) ≡ c .nodes
   pub good : sane (book-of c b) ≡ true
@@ -37,7 +37,7 @@ held-book c b e =
     record {
       viewed = rw (g .0, g .1);
       nodes = is-packs node-form node-laws (c .nodes) (c .names) (b .nodes) (b .names) (book-of c b .nodes) (t .nodes) .0;
-      lines = is-packs line-form (line-laws (c .kind) (c .nodes)) (c .lines) (c .pool) (b .lines) (b .pool) (book-of c b .lines) (t .lines) .0;
+      lines = is-packs line-form (line-laws (frame-of c)) (c .lines) (c .pool) (b .lines) (b .pool) (book-of c b .lines) (t .lines) .0;
       few = t .limits .nodes;
       count = sym (t .nodes .count);
       good = g .1;
@@ -55,4 +55,4 @@ module _ (c : Counts) (b : Buffers) (x : Bool) (e : x ≡ holds c b) where
 
 -- the lines of a book that is viewed are in range
 pub viewed-in-range : (c : Counts) (b : Buffers) (w : Book) → view c b ≡ some w → every (in-range (length (w .nodes))) (w .lines) ≡ true
-viewed-in-range c b w e = lines-in-range (w .kind) (length (w .nodes)) (w .lines) (layout-of-view c b w e .2 .lines-ok)
+viewed-in-range c b w e = lines-in-range (book-frame w) (w .lines) (layout-of-view c b w e .2 .lines-ok)

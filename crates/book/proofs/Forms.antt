@@ -9,6 +9,7 @@ use borrow.Author.Tests.{eqb-true, eq-eqb, leb-true, ltb-true}
 use lib.ListN.{length, drop, getD}
 use Rattle.lists.proofs.Tests.{both}
 use Rattle.packing.proofs.TableLaws.{Laws}
+use Rattle.book.specs.declared.Frame.{Frame}
 use Rattle.book.specs.Books.{Node, Line, Edit}
 use Rattle.book.specs.Layout.{node-form, line-form, edit-form, code-of, line-of}
 use Rattle.book.specs.Sanity.{in-range, line-ok, edit-ok}
@@ -71,10 +72,10 @@ ranged nodes x w =
     let e = both _ _ (d .1) in
     record { node = ltb-true _ _ (a .0); class = leb-true _ _ (b .0); section = leb-true _ _ (c .0); language = leb-true _ _ (d .0); struck = leb-true _ _ (e .0) }
 
-line-row-back : (kind nodes o : ℕ) (x : Line) (t : List ℕ) → line-ok kind nodes x ≡ true → line-form .back (line-form .row o x ++ t) (line-form .bytes x) ≡ x
+line-row-back : (frame : Frame) (o : ℕ) (x : Line) (t : List ℕ) → line-ok frame x ≡ true → line-form .back (line-form .row o x ++ t) (line-form .bytes x) ≡ x
 unfolding line-form line-ok
-line-row-back kind nodes o x t w =
-    let r = ranged nodes x (both _ _ w .0) in
+line-row-back frame o x t w =
+    let r = ranged (frame .nodes) x (both _ _ w .0) in
     let a : code-of x % 32 / 4 ≡ x .class = omega arith in
     let b : code-of x % 4 / 2 ≡ x .section = omega arith in
     let c : code-of x % 2 ≡ x .language = omega arith in
@@ -93,13 +94,13 @@ line-back-row o l bs wide g sized =
     let k : code-of (line-of (getD l 0 0) (getD l 1 0) bs) ≡ getD l 1 0 = code-back (getD l 0 0) (getD l 1 0) bs in
     simp (k, ← e, sized) (four l wide)
 
-pub line-laws : (kind nodes : ℕ) → Laws line-form (line-ok kind nodes)
+pub line-laws : (frame : Frame) → Laws line-form (line-ok frame)
 unfolding line-form
-line-laws kind nodes = record {
+line-laws frame = record {
   long = λ o x. refl;
   row-starts = λ o x t. eq-eqb o o refl;
   row-size = λ o x t. refl;
-  row-back = line-row-back kind nodes;
+  row-back = line-row-back frame;
   back-row = line-back-row;
   back-bytes = λ l bs e. refl;
 }

@@ -18,8 +18,8 @@ use Rattle.packing.proofs.PaddingLaws.{length-pad}
 use Rattle.packing.proofs.TableLaws.{length-rows}
 use Rattle.packing.proofs.Packings.{Packs, packs-is, is-packs, packs-from, packs-rooms}
 use Rattle.book.specs.declared.Counts.{Counts}
-use Rattle.book.specs.Books.{Node, Edit, Book}
-use Rattle.book.specs.Layout.{node-form, line-form, edit-form, Buffers, laid-out, counts-of}
+use Rattle.book.specs.Books.{Node, Edit, Book, book-frame, frame-with}
+use Rattle.book.specs.Layout.{node-form, line-form, edit-form, Buffers, laid-out, counts-of, frame-of}
 use Rattle.book.specs.Sanity.{edit-ok, line-ok, sane}
 use Rattle.book.specs.View.{any-node, within-limits, laid, book-of, holds, view, Fits}
 use Rattle.book.proofs.Forms.{node-laws, line-laws, edit-laws}
@@ -48,7 +48,7 @@ pub record Layout (c : Counts) (b : Buffers) (w : Book) : Type 0 where
   pub kind : c .kind ≡ w .kind
   pub limits : Within c
   pub nodes : Packs node-form any-node (c .nodes) (c .names) (b .nodes) (b .names) (w .nodes)
-  pub lines : Packs line-form (line-ok (c .kind) (c .nodes)) (c .lines) (c .pool) (b .lines) (b .pool) (w .lines)
+  pub lines : Packs line-form (line-ok (frame-of c)) (c .lines) (c .pool) (b .lines) (b .pool) (w .lines)
   pub edits : Packs edit-form edit-ok (c .edits) 0 (b .journal) [] (w .edits)
 
 pub every-node : (xs : List Node) → every any-node xs ≡ true
@@ -67,12 +67,12 @@ unfolding laid book-of
 laid-packs c b e =
     let x = both (within-limits c) _ e in
     let y = both (packs node-form any-node (c .nodes) (c .names) (b .nodes) (b .names)) _ (x .1) in
-    let z = both (packs line-form (line-ok (c .kind) (c .nodes)) (c .lines) (c .pool) (b .lines) (b .pool)) _ (y .1) in
+    let z = both (packs line-form (line-ok (frame-of c)) (c .lines) (c .pool) (b .lines) (b .pool)) _ (y .1) in
     record {
       kind = refl;
       limits = within-is c (x .0);
       nodes = packs-is node-form node-laws (c .nodes) (c .names) (b .nodes) (b .names) (y .0);
-      lines = packs-is line-form (line-laws (c .kind) (c .nodes)) (c .lines) (c .pool) (b .lines) (b .pool) (z .0);
+      lines = packs-is line-form (line-laws (frame-of c)) (c .lines) (c .pool) (b .lines) (b .pool) (z .0);
       edits = packs-is edit-form edit-laws (c .edits) 0 (b .journal) [] (z .1);
     }
 
@@ -82,7 +82,7 @@ module _ (c : Counts) (b : Buffers) (w : Book) (t : Layout c b w) where
   unfolding laid book-of
   laid-from =
       let n = is-packs node-form node-laws (c .nodes) (c .names) (b .nodes) (b .names) (w .nodes) (t .nodes) in
-      let l = is-packs line-form (line-laws (c .kind) (c .nodes)) (c .lines) (c .pool) (b .lines) (b .pool) (w .lines) (t .lines) in
+      let l = is-packs line-form (line-laws (frame-of c)) (c .lines) (c .pool) (b .lines) (b .pool) (w .lines) (t .lines) in
       let e = is-packs edit-form edit-laws (c .edits) 0 (b .journal) [] (w .edits) (t .edits) in (
         rw (is-within c (t .limits), n .0, l .0) (e .0),
         λ i. record { kind = t .kind i; nodes = n .1 i; lines = l .1 i; edits = e .1 i },
@@ -122,7 +122,7 @@ module _ (c : Counts) (b : Buffers) (w : Book) (t : Layout c b w) where
     few-lines = omega (arith, t .lines .count, t .limits .lines);
     few-bytes = omega (arith, t .lines .total, t .limits .pool);
     few-edits = omega (arith, t .edits .count, t .limits .edits);
-    lines-ok = ap₂ (λ (k n : ℕ). every (line-ok k n) (w .lines)) (sym (t .kind)) (sym (t .nodes .count)) ∙ t .lines .all;
+    lines-ok = ap₂ (λ (k n : ℕ). every (line-ok (frame-with k n)) (w .lines)) (sym (t .kind)) (sym (t .nodes .count)) ∙ t .lines .all;
     edits-ok = t .edits .all;
   }
 
@@ -172,7 +172,7 @@ module _ (b : Buffers) (w : Book) (f : Fits b w) where
     kind = refl;
     limits = record { nodes = f .few-nodes; lines = f .few-lines; pool = f .few-bytes; edits = f .few-edits };
     nodes = packs-rooms node-form node-laws (length (b .nodes)) (length (b .names)) (w .nodes) (f .node-room) (f .name-room) (every-node (w .nodes));
-    lines = packs-rooms line-form (line-laws (w .kind) (length (w .nodes))) (length (b .lines)) (length (b .pool)) (w .lines) (f .line-room) (f .pool-room) (f .lines-ok);
+    lines = packs-rooms line-form (line-laws (book-frame w)) (length (b .lines)) (length (b .pool)) (w .lines) (f .line-room) (f .pool-room) (f .lines-ok);
     edits = packs-from edit-form edit-laws (length (w .edits)) 0 (length (b .journal)) 0 (pad (length (b .journal)) (rows edit-form 0 (w .edits))) [] (w .edits) refl
         (ap length (sym (no-bytes (w .edits)))) (f .edits-ok) refl (ap (pad 0) (sym (no-bytes (w .edits)))) (f .edit-room) (omega arith);
   }
@@ -186,7 +186,7 @@ module _ (b : Buffers) (w : Book) (f : Fits b w) where
   laid-out-rooms = record {
     nodes = length-pad _ (rows node-form 0 (w .nodes)) (rw (length-rows node-form node-laws 0 (w .nodes)) (f .node-room));
     names = length-pad _ (packed node-form (w .nodes)) (f .name-room);
-    lines = length-pad _ (rows line-form 0 (w .lines)) (rw (length-rows line-form (line-laws 0 0) 0 (w .lines)) (f .line-room));
+    lines = length-pad _ (rows line-form 0 (w .lines)) (rw (length-rows line-form (line-laws (book-frame w)) 0 (w .lines)) (f .line-room));
     pool = length-pad _ (packed line-form (w .lines)) (f .pool-room);
     journal = length-pad _ (rows edit-form 0 (w .edits)) (rw (length-rows edit-form edit-laws 0 (w .edits)) (f .edit-room));
   }

@@ -8,6 +8,7 @@ use Rattle.numbers.specs.Marks.{general, global}
 use Rattle.lists.specs.Same.{same}
 use Rattle.numbers.specs.declared.Edition.{Edition}
 use Rattle.numbers.specs.declared.Edition.the-variants.{Reld}
+use Rattle.book.specs.declared.Frame.{Frame}
 
 -- the kinds of a book, by number: a Regular version script, one of the Rust kind, an export list
 abbrev pub regular : ℕ
@@ -61,9 +62,16 @@ with-lines w ls = record { kind = w .kind; nodes = w .nodes; lines = ls; edits =
 abbrev pub no-edits : List Edit → Bool
 no-edits es = eqb (length es) 0
 
--- how a book's patterns are read. There is one way today
-abbrev pub edition-of : ℕ → Edition
-edition-of kind = Reld
+-- ---- what a book's lines are read and ranked by: its kind, and how many nodes it has
+abbrev pub frame-with : ℕ → ℕ → Frame
+frame-with kind nodes = record { kind = kind; nodes = nodes }
+
+abbrev pub book-frame : Book → Frame
+book-frame w = frame-with (w .kind) (length (w .nodes))
+
+-- how its patterns are read. There is one way today
+abbrev pub edition-of : Frame → Edition
+edition-of f = Reld
 
 -- what stands for a node or a line past the last
 abbrev pub no-node : Node

@@ -7,7 +7,8 @@ use lib.ListN.{length, getD}
 use Rattle.packing.specs.Padding.{pad}
 use Rattle.packing.specs.Tables.{Form, rows, packed}
 use Rattle.book.specs.declared.Counts.{Counts}
-use Rattle.book.specs.Books.{Node, Line, Edit, Book}
+use Rattle.book.specs.declared.Frame.{Frame}
+use Rattle.book.specs.Books.{Node, Line, Edit, Book, frame-with}
 
 -- "nodes (u32, three per node: name start, length, parent number or 0), names (bytes)"
 abbrev pub node-width : ℕ
@@ -121,6 +122,10 @@ counts-of w = record {
   pool = length (packed line-form (w .lines));
   edits = length (w .edits);
 }
+
+-- the frame of a book with those counts
+abbrev pub frame-of : Counts → Frame
+frame-of c = frame-with (c .kind) (c .nodes)
 
 -- the counts of no book: "A refused opening returns zero counts"
 abbrev pub no-counts : Counts

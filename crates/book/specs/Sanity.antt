@@ -15,10 +15,11 @@ use Rattle.numbers.specs.declared.Edition.{Edition}
 use Rattle.pattern.specs.Patterns.{refusal}
 use Rattle.pattern.specs.Storing.{stored}
 use Rattle.reading_tokens.specs.Tokens.{named}
+use Rattle.book.specs.declared.Frame.{Frame}
 use Rattle.book.specs.Books.{Node, Line, Edit, Book, add, edition-of, export, first-named, no-edits, no-node, regular, rust, strike}
 use Rattle.book.specs.Edits.{journal-fits}
 
--- ---- a line, of a book of that kind with that many nodes
+-- ---- a line, of a book with that frame
 -- "a field out of range": its node, its class, section and language, its mark; "All (length 0)"; "token … 65,536"
 unfoldable pub in-range : ℕ → Line → Bool
 in-range nodes x =
@@ -44,8 +45,8 @@ kind-allows kind x =
     (cond (eqb kind export) (eqb (x .section) global)
     true)
 
-unfoldable pub line-ok : ℕ → ℕ → Line → Bool
-line-ok kind nodes x = in-range nodes x && (kind-allows kind x && content-good (edition-of kind) x)
+unfoldable pub line-ok : Frame → Line → Bool
+line-ok f x = in-range (f .nodes) x && (kind-allows (f .kind) x && content-good (edition-of f) x)
 
 unfoldable pub edit-ok : Edit → Bool
 edit-ok e = eqb (e .what) add || eqb (e .what) strike

@@ -10,8 +10,8 @@ use Rattle.numbers.specs.Limits.{edit-limit, line-limit, node-limit, pool-limit
 use Rattle.lists.specs.Each.{every}
 use Rattle.packing.specs.Tables.{packed, packs, things}
 use Rattle.book.specs.declared.Counts.{Counts}
-use Rattle.book.specs.Books.{Node, Book}
-use Rattle.book.specs.Layout.{node-form, node-width, line-form, line-width, edit-form, edit-width, Buffers}
+use Rattle.book.specs.Books.{Node, Book, book-frame}
+use Rattle.book.specs.Layout.{node-form, node-width, line-form, line-width, edit-form, edit-width, Buffers, frame-of}
 use Rattle.book.specs.Sanity.{edit-ok, line-ok, sane}
 
 -- "a count over its … limit": names have none of their own
@@ -26,7 +26,7 @@ unfoldable pub laid : Counts → Buffers → Bool
 laid c b =
     within-limits c
     && (packs node-form any-node (c .nodes) (c .names) (b .nodes) (b .names)
-    && (packs line-form (line-ok (c .kind) (c .nodes)) (c .lines) (c .pool) (b .lines) (b .pool)
+    && (packs line-form (line-ok (frame-of c)) (c .lines) (c .pool) (b .lines) (b .pool)
     && packs edit-form edit-ok (c .edits) 0 (b .journal) []))
 
 -- the book that they would hold
@@ -56,5 +56,5 @@ pub record Fits (b : Buffers) (w : Book) : Type 0 where
   pub few-lines : length (w .lines) ≤ line-limit
   pub few-bytes : length (packed line-form (w .lines)) ≤ pool-limit
   pub few-edits : length (w .edits) ≤ edit-limit
-  pub lines-ok : every (line-ok (w .kind) (length (w .nodes))) (w .lines) ≡ true
+  pub lines-ok : every (line-ok (book-frame w)) (w .lines) ≡ true
   pub edits-ok : every edit-ok (w .edits) ≡ true

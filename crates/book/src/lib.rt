@@ -2,7 +2,7 @@
 // specs/Layout.antt (how it stands in lent buffers), specs/Edits.antt, specs/Sanity.antt and specs/View.antt (what is one, and what is refused 14), from
 // document 01, 'The book' and 'Numbers that say no'.
 ghost use mathlib.Core.Path.{_≡_};
-ghost use Rattle.book.specs.Layout.{counts-with, no-counts};
+ghost use Rattle.book.specs.Layout.{counts-with, frame-of, no-counts};
 
 pub mod codes;
 pub mod editions;
@@ -17,6 +17,12 @@ pub struct Counts {
     pub lines: u32,
     pub pool: u32,
     pub edits: u32,
+}
+
+// What a book's lines are read and ranked by: its kind, and how many nodes it has.
+pub struct Frame {
+    pub kind: u32,
+    pub nodes: u32,
 }
 
 // The kinds of a book.
@@ -35,6 +41,16 @@ pub const EDIT_WIDTH: usize = 2;
 
 // "32 is added to a struck line's code."
 pub const STRUCK: u32 = 32;
+
+// The frame of a book with those counts.
+pub fn frame_of(c: Counts) -> Frame
+    ensures { λ r. ⌜ r ≡ frame-of c ⌝ }
+{
+    Frame {
+        kind: c.kind,
+        nodes: c.nodes,
+    }
+}
 
 // The counts of no book.
 pub fn no_counts() -> Counts

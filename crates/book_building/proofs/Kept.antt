@@ -22,7 +22,7 @@ use Rattle.classes.specs.declared.Class.the-variants.{Exact, Escaped, NonStar, 
 use Rattle.classes.specs.Classes.{class-number, class-of}
 use Rattle.storing.specs.Keeping.{Keep, kept, refused, inside-kept, keep, keep-as, keep-glob, keep-when}
 use Rattle.storing.proofs.Keeping.{bytes, keep-few}
-use Rattle.book.specs.Books.{edition-of, new-line, regular}
+use Rattle.book.specs.Books.{edition-of, frame-with, new-line, regular}
 use Rattle.book.specs.Sanity.{content-good, glob-stands, in-range, kind-allows, line-ok}
 
 -- ---- storing twice changes nothing
@@ -101,31 +101,32 @@ class-few Star = omega arith
 class-few All = omega arith
 
 -- ---- a line of what is kept
-module _ (t : List ℕ) (k : Class) (bs : List ℕ) (h : keep (edition-of regular) t ≡ kept k bs) where
+-- in a Regular book
+module _ (nodes : ℕ) (t : List ℕ) (k : Class) (bs : List ℕ) (h : keep (edition-of (frame-with regular nodes)) t ≡ kept k bs) where
   pub kept-few : length bs ≤ token-limit
-  kept-few = omega (arith, keep-few (edition-of regular) t, ap (λ (x : Keep). length (bytes x)) h)
+  kept-few = omega (arith, keep-few (edition-of (frame-with regular nodes)) t, ap (λ (x : Keep). length (bytes x)) h)
 
-  kept-fine : Fine (edition-of regular) k bs
-  kept-fine = rw h at (keep-fine (edition-of regular) t)
+  kept-fine : Fine (edition-of (frame-with regular nodes)) k bs
+  kept-fine = rw h at (keep-fine (edition-of (frame-with regular nodes)) t)
 
-  all-empty : (j : Class) → Fine (edition-of regular) j bs → (not (eqb (class-number j) all-class) || eqb (length bs) 0) ≡ true
+  all-empty : (j : Class) → Fine (edition-of (frame-with regular nodes)) j bs → (not (eqb (class-number j) all-class) || eqb (length bs) 0) ≡ true
   all-empty Exact f = refl
   all-empty Escaped f = refl
   all-empty NonStar f = refl
   all-empty Star f = refl
   all-empty All f = eq-eqb (length bs) 0 f
 
-  globs-stand : (j : Class) → Fine (edition-of regular) j bs → (not (eqb (class-number j) nonstar-class || eqb (class-number j) star-class) || glob-stands (edition-of regular) bs) ≡ true
+  globs-stand : (j : Class) → Fine (edition-of (frame-with regular nodes)) j bs → (not (eqb (class-number j) nonstar-class || eqb (class-number j) star-class) || glob-stands (edition-of (frame-with regular nodes)) bs) ≡ true
   globs-stand Exact f = refl
   globs-stand Escaped f = refl
   globs-stand NonStar f = f
   globs-stand Star f = f
   globs-stand All f = refl
 
-  pub kept-line : (nodes node section language : ℕ) → node < nodes → section ≤ local → language ≤ cxx
-      → line-ok regular nodes (new-line node section language (class-number k) bs) ≡ true
+  pub kept-line : (node section language : ℕ) → node < nodes → section ≤ local → language ≤ cxx
+      → line-ok (frame-with regular nodes) (new-line node section language (class-number k) bs) ≡ true
   unfolding line-ok in-range kind-allows content-good
-  kept-line nodes node section language a b c =
+  kept-line node section language a b c =
       rw (
         lt-ltb node nodes a,
         le-leb (class-number k) all-class (class-few k),

@@ -18,8 +18,8 @@ use Rattle.storing.specs.declared.Stored.the-variants.{As}
 use Rattle.storing.specs.declared.Stored.the-variants as stored
 use Rattle.classes.specs.Classes.{class-number}
 use Rattle.storing.specs.Keeping.{Keep, kept, refused, keep}
-use Rattle.book.specs.Books.{Line, edition-of, new-line, regular}
-use Rattle.book.specs.Layout.{code-of, five, line-form, line-width, row-of-line, standing-code}
+use Rattle.book.specs.Books.{Line, edition-of, new-line}
+use Rattle.book.specs.Layout.{code-of, five, frame-of, line-form, line-width, row-of-line, standing-code}
 use Rattle.book.specs.Sanity.{line-ok}
 use Rattle.book.proofs.Forms.{line-laws}
 use Rattle.book_rooms.specs.Rooms.{Put, fits-row, line-room, pool-room}
@@ -29,7 +29,7 @@ use Rattle.book_rooms.proofs.Rows.{row-number, row-within}
 use Rattle.book_building.specs.declared.Progress.{Progress}
 use Rattle.book_building.specs.declared.Taking.the-variants.{On, No}
 use Rattle.book_building.specs.Building.{no as says-no, mixed-behind, starred-behind, take-kept}
-use Rattle.book_building.specs.State.{Took-line, building, built}
+use Rattle.book_building.specs.State.{Took-line, building, built, counts-so-far}
 use Rattle.book_building.proofs.Kept.{kept-line}
 use Rattle.book_building.proofs.States.{State, building-is, is-state, lines-of, nodes-of, state-is}
 
@@ -61,19 +61,19 @@ module _ (g : Progress) (p section language : ℕ) (t l q : List ℕ) where
       ∙ ap (λ (k : ℕ). says-no k p) (sym (v .1))
 
   -- ---- r is what `put_token` answers, with the edition x that `edition_of` answered, and q′ the pool behind it
-  module _ (x : Edition) (y : x ≡ edition-of regular) (r : Stored) (q′ : List ℕ) (a : g .pool ≤ pool-room q)
+  module _ (x : Edition) (y : x ≡ edition-of (frame-of (counts-so-far g))) (r : Stored) (q′ : List ℕ) (a : g .pool ≤ pool-room q)
       (u : Put (keep x t) q (g .pool) r q′) where
-    puts : Put (keep (edition-of regular) t) q (g .pool) r q′
+    puts : Put (keep (edition-of (frame-of (counts-so-far g))) t) q (g .pool) r q′
     puts = rw (← y) u
 
     -- the token is refused, or has no room in the pool
     pub line-refused : (i : ℕ) (l′ q″ : List ℕ) → r ≡ stored.Refused i → Took-line g p section language t l q (No i p) l′ q″
     line-refused i l′ q″ z n m e =
-        refuses (keep (edition-of regular) t) i n m e (was-refused (keep (edition-of regular) t) q (g .pool) r q′ i a puts z .0)
+        refuses (keep (edition-of (frame-of (counts-so-far g))) t) i n m e (was-refused (keep (edition-of (frame-of (counts-so-far g))) t) q (g .pool) r q′ i a puts z .0)
 
     -- what is kept of the token, where it is put there
-    keeps : (k : Class) (i : ℕ) → r ≡ As k i → Kept (keep (edition-of regular) t) q (g .pool) q′ k i
-    keeps k i z = was-kept (keep (edition-of regular) t) q (g .pool) r q′ k i a puts z
+    keeps : (k : Class) (i : ℕ) → r ≡ As k i → Kept (keep (edition-of (frame-of (counts-so-far g))) t) q (g .pool) q′ k i
+    keeps k i z = was-kept (keep (edition-of (frame-of (counts-so-far g))) t) q (g .pool) r q′ k i a puts z
 
     -- its bytes end within the pool's limit
     pub line-ends : (k : Class) (i : ℕ) → r ≡ As k i → g .pool + i ≤ pool-limit
@@ -90,7 +90,7 @@ module _ (g : Progress) (p section language : ℕ) (t l q : List ℕ) where
         rw (w .keeps) (no-line k (w .bytes) n m (no-row (five n m l q []) (lines-of g n m l q) (g .lines) (g .pool) (s .count) (s .total) (w .bytes) f))
 
     -- it is there
-    stands : (k : Class) (i c code : ℕ) (bs l′ : List ℕ) → keep (edition-of regular) t ≡ kept k bs → i ≡ length bs → Line-room (g .lines) (g .pool) l q (length bs)
+    stands : (k : Class) (i c code : ℕ) (bs l′ : List ℕ) → keep (edition-of (frame-of (counts-so-far g))) t ≡ kept k bs → i ≡ length bs → Line-room (g .lines) (g .pool) l q (length bs)
         → q′ ≡ paste q (g .pool) bs (length bs) → section ≤ local → language ≤ cxx → c ≡ class-number k
         → code ≡ standing-code c section language
         → l′ ≡ paste l (line-width * g .lines) (row-of-line (g .nodes - 1) code (g .pool) i) line-width
@@ -100,9 +100,9 @@ module _ (g : Progress) (p section language : ℕ) (t l q : List ℕ) where
         let s = is-state g n m l q e in
         let x : Line = new-line (g .nodes - 1) section language (class-number k) bs in
         let h : code-of x ≡ code = omega arith in
-        let v : Packs line-form (line-ok regular (g .nodes)) (g .lines + 1) (g .pool + length bs) l′ q′ (lines-of g n m l q ++ (x ∷ []))
-        = put-thing line-form (line-laws regular (g .nodes)) (g .lines) (g .pool) l q (lines-of g n m l q) (s .lines) x l′ q′
-        (kept-line t k bs keeps (g .nodes) (g .nodes - 1) section language (omega (arith, s .few .some)) f b)
+        let v : Packs line-form (line-ok (frame-of (counts-so-far g))) (g .lines + 1) (g .pool + length bs) l′ q′ (lines-of g n m l q ++ (x ∷ []))
+        = put-thing line-form (line-laws (frame-of (counts-so-far g))) (g .lines) (g .pool) l q (lines-of g n m l q) (s .lines) x l′ q′
+        (kept-line (g .nodes) t k bs keeps (g .nodes - 1) section language (omega (arith, s .few .some)) f b)
         (omega (arith, room .row)) (omega (arith, room .pool, room-length q)) (rw (h, ← size) d) put in
         let r : State (line-more g i (mixed-behind (g .mixed) section c) (starred-behind (g .starred) (g .inside) section c)) n m l′ q′ (nodes-of g n m l q) (lines-of g n m l q ++ (x ∷ [])) = record {
           few = record {

@@ -15,7 +15,7 @@ use Rattle.lists.proofs.Tests.{both, fails}
 use Rattle.lists.specs.Each.{every}
 use Rattle.packing.specs.Tables.{things}
 use Rattle.packing.proofs.Packings.{Packs, put-thing, set-thing}
-use Rattle.book.specs.Books.{Node, Line, first-named, no-node, regular}
+use Rattle.book.specs.Books.{Node, Line, first-named, frame-with, no-node, regular}
 use Rattle.book.specs.Layout.{five, line-form, node-form, node-width}
 use Rattle.book.specs.Sanity.{in-range, line-ok}
 use Rattle.book.specs.View.{any-node}
@@ -28,7 +28,7 @@ use Rattle.book_building.specs.State.{Took-node, Took-parent, built}
 use Rattle.book_building.proofs.States.{State, building-is, is-state, lines-of, nodes-of, state-is}
 
 -- ---- one node more: the lines are as good as they were
-ok-more : (n : ℕ) (x : Line) → line-ok regular n x ≡ true → line-ok regular (n + 1) x ≡ true
+ok-more : (n : ℕ) (x : Line) → line-ok (frame-with regular n) x ≡ true → line-ok (frame-with regular (n + 1)) x ≡ true
 unfolding line-ok in-range
 ok-more n x e =
     let a = both _ _ e in
@@ -36,14 +36,14 @@ ok-more n x e =
     let h : x .node < n = ltb-true (x .node) n (b .0) in
     rw (lt-ltb (x .node) (n + 1) (omega arith), b .1) (a .1)
 
-pub every-more : (n : ℕ) (xs : List Line) → every (line-ok regular n) xs ≡ true → every (line-ok regular (n + 1)) xs ≡ true
+pub every-more : (n : ℕ) (xs : List Line) → every (line-ok (frame-with regular n)) xs ≡ true → every (line-ok (frame-with regular (n + 1))) xs ≡ true
 unfolding every
 every-more n [] e = refl
 every-more n (x ∷ xs) e =
-    let a = both (line-ok regular n x) _ e in
+    let a = both (line-ok (frame-with regular n) x) _ e in
     rw (ok-more n x (a .0)) (every-more n xs (a .1))
 
-pub lines-more : (n k p : ℕ) (l q : List ℕ) (ys : List Line) → Packs line-form (line-ok regular n) k p l q ys → Packs line-form (line-ok regular (n + 1)) k p l q ys
+pub lines-more : (n k p : ℕ) (l q : List ℕ) (ys : List Line) → Packs line-form (line-ok (frame-with regular n)) k p l q ys → Packs line-form (line-ok (frame-with regular (n + 1))) k p l q ys
 lines-more n k p l q ys t = record {
   count = t .count;
   total = t .total;

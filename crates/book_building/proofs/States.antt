@@ -13,7 +13,7 @@ use Rattle.lists.specs.Each.{every}
 use Rattle.packing.specs.Tables.{packed, rows, things}
 use Rattle.packing.proofs.Packings.{Packs}
 use Rattle.book.specs.Books.{Node, Line, Book, regular}
-use Rattle.book.specs.Layout.{edit-form, five, line-form, node-form}
+use Rattle.book.specs.Layout.{edit-form, five, frame-of, line-form, node-form}
 use Rattle.book.specs.Sanity.{edit-ok, line-ok}
 use Rattle.book.specs.View.{any-node, book-of}
 use Rattle.book.proofs.Views.{Layout, laid-from, laid-packs}
@@ -32,7 +32,7 @@ pub record Few (g : Progress) : Type 0 where
 pub record State (g : Progress) (n m l q : List ℕ) (xs : List Node) (ys : List Line) : Type 0 where
   pub few : Few g
   pub nodes : Packs node-form any-node (g .nodes) (g .names) n m xs
-  pub lines : Packs line-form (line-ok regular (g .nodes)) (g .lines) (g .pool) l q ys
+  pub lines : Packs line-form (line-ok (frame-of (counts-so-far g))) (g .lines) (g .pool) l q ys
 
 -- the book so far
 abbrev pub book-so-far : List Node → List Line → Progress → Building

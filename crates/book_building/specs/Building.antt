@@ -12,7 +12,8 @@ use Rattle.classes.specs.Classes.{class-number}
 use Rattle.storing.specs.Keeping.{Keep, keep, kept-where}
 use Rattle.reading_cursors.specs.declared.Event.{Event}
 use Rattle.reading_cursors.specs.declared.Event.the-variants.{Node, Body, Section, Extern, Closed, Line, Parent}
-use Rattle.book.specs.Books.{edition-of, first-named, new-line, no-node, regular}
+use Rattle.book.specs.declared.Frame.{Frame}
+use Rattle.book.specs.Books.{edition-of, first-named, frame-with, new-line, no-node, regular}
 use Rattle.book.specs.Books as book
 use Rattle.book.specs.Layout.{Buffers}
 use Rattle.book_rooms.specs.Rooms.{line-room, node-room}
@@ -25,6 +26,10 @@ pub record Building : Type 0 where
   pub inside : Bool
   pub mixed : Bool
   pub starred : Bool
+
+-- the frame of what is there so far
+abbrev pub frame-so-far : Building → Frame
+frame-so-far g = frame-with regular (length (g .nodes))
 
 -- what an event makes of it, or the number that says no and the place
 pub data Taken : Type 0 where
@@ -100,5 +105,5 @@ take-event b s g Body = on g
 take-event b s g (Section section) = on g
 take-event b s g (Extern section language) = on (in-block g section)
 take-event b s g Closed = on (out-of-block g)
-take-event b s g (Line section language p n) = take-kept b g p section language (keep (edition-of regular) (part s p n))
+take-event b s g (Line section language p n) = take-kept b g p section language (keep (edition-of (frame-so-far g)) (part s p n))
 take-event b s g (Parent p n) = take-parent g p (part s p n)

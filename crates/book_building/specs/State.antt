@@ -10,7 +10,7 @@ use Rattle.storing.specs.Keeping.{keep}
 use Rattle.reading_cursors.specs.declared.Event.{Event}
 use Rattle.book.specs.declared.Counts.{Counts}
 use Rattle.book.specs.Books.{edition-of, regular}
-use Rattle.book.specs.Layout.{Buffers, five}
+use Rattle.book.specs.Layout.{Buffers, five, frame-of}
 use Rattle.book.specs.View.{book-of, laid}
 use Rattle.book_building.specs.declared.Progress.{Progress}
 use Rattle.book_building.specs.declared.Taking.{Taking}
@@ -62,8 +62,8 @@ Took-parent g p t n m r n′ =
 abbrev pub Took-line : Progress → ℕ → ℕ → ℕ → List ℕ → List ℕ → List ℕ → Taking → List ℕ → List ℕ → Type 0
 Took-line g p section language t l q r l′ q′ =
     (n m : List ℕ)
-    → built g (five n m l q []) ≡ true
-    → Took (take-kept (five n m l q []) (building g (five n m l q [])) p section language (keep (edition-of regular) t)) r (five n m l′ q′ [])
+    → built g (four n m l q) ≡ true
+    → Took (take-kept (four n m l q) (building g (four n m l q)) p section language (keep (edition-of (frame-of (counts-so-far g))) t)) r (four n m l′ q′)
 
 -- ---- an extern block opens, and closes: `in-block` and `out-of-block`, where nothing is written
 abbrev pub inside-block : Progress → ℕ → Progress

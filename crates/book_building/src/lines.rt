@@ -9,6 +9,7 @@ ghost use Rattle.book_building.specs.Building.{mixed-behind, starred-beh
 ghost use Rattle.book_building.specs.State.{Took-line};
 use crate::Progress;
 use crate::Taking;
+use book::Frame;
 use book::REGULAR;
 use book::codes::code_of;
 use book::editions::edition_of;
@@ -67,7 +68,11 @@ pub fn take_line(
 {
     let n = g.lines;
     let at = g.pool;
-    match put_token(edition_of(REGULAR), token, at, pool) {
+    let frame = Frame {
+        kind: REGULAR,
+        nodes: g.nodes as u32,
+    };
+    match put_token(edition_of(frame), token, at, pool) {
         Stored::Refused(no) => Taking::No(no, p),
         Stored::As(class, size) => {
             if !has_row(lines, n) {

@@ -11,9 +11,10 @@ use Rattle.numbers.specs.Limits.{edit-limit, line-limit, node-limit, pool-limit
 use Rattle.packing.specs.Tables.{packs, things}
 use Rattle.packing.proofs.Packings.{is-packs}
 use Rattle.book.specs.declared.Counts.{Counts}
+use Rattle.book.specs.declared.Frame.{Frame}
 use Rattle.book.specs.Books.{regular, rust, export}
 use Rattle.book.specs.Edits.{journal-fits}
-use Rattle.book.specs.Layout.{node-form, line-form, edit-form, five}
+use Rattle.book.specs.Layout.{node-form, line-form, edit-form, five, frame-of}
 use Rattle.book.specs.Sanity.{edit-ok, line-ok, nodes-good, kind-good, some-star, sane}
 use Rattle.book.specs.View.{any-node, within-limits, laid, book-of, holds}
 use Rattle.book.proofs.Forms.{node-laws}
@@ -56,14 +57,15 @@ module _ (c : Counts) (n m l p j : List ℕ) (x : Bool) (e : x ≡ within-limits
     unfolding laid
     nodes-fail i = rw (passes x _ e h, fails y _ f i)
 
-    module _ (i : not y ≡ false) (z : Bool) (g : z ≡ packs line-form (line-ok (c .kind) (c .nodes)) (c .lines) (c .pool) l p) where
+    module _ (i : not y ≡ false) (frame : Frame) (u : frame ≡ frame-of c) (z : Bool)
+        (g : z ≡ packs line-form (line-ok frame) (c .lines) (c .pool) l p) where
       pub lines-fail : not z ≡ true → false ≡ laid c (five n m l p j)
       unfolding laid
-      lines-fail k = rw (passes x _ e h, passes y _ f i, fails z _ g k)
+      lines-fail k = rw (passes x _ e h, passes y _ f i, fails z _ (rw u at g) k)
 
       pub journal-decides : not z ≡ false → (r : Bool) → r ≡ packs edit-form edit-ok (c .edits) 0 j [] → r ≡ laid c (five n m l p j)
       unfolding laid
-      journal-decides k r q = rw (passes x _ e h, passes y _ f i, passes z _ g k) q
+      journal-decides k r q = rw (passes x _ e h, passes y _ f i, passes z _ (rw u at g) k) q
 
 -- ---- is_kind_good
 module _ (c : Counts) (n m l p j : List ℕ) (g : laid c (five n m l p j) ≡ true) where

@@ -16,6 +16,7 @@ use Rattle.lists.specs.Same.{same}
 use Rattle.numbers.specs.declared.Edition.{Edition}
 use Rattle.pattern.specs.Patterns.{refusal}
 use Rattle.pattern.specs.Storing.{stored, negated-from, stored-byte}
+use Rattle.book.specs.declared.Frame.{Frame}
 use Rattle.book.specs.Books.{edition-of}
 use Rattle.book.specs.Layout.{line-of}
 use Rattle.book.specs.Sanity.{bare-star, content-good, glob-stands, in-range, kind-allows, line-ok}
@@ -146,18 +147,18 @@ module _ (e : Edition) (code : ℕ) (bs : List ℕ) where
   content-plain f g = simp (ne-eqb (code % 32 / 4) 2 f, ne-eqb (code % 32 / 4) 3 g)
 
 -- ---- all of it
-module _ (kind nodes node code : ℕ) (bs : List ℕ) (a : Bool) (h : a ≡ in-range nodes (line-of node code bs)) where
-  pub line-out : not a ≡ true → false ≡ line-ok kind nodes (line-of node code bs)
+module _ (frame : Frame) (node code : ℕ) (bs : List ℕ) (a : Bool) (h : a ≡ in-range (frame .nodes) (line-of node code bs)) where
+  pub line-out : not a ≡ true → false ≡ line-ok frame (line-of node code bs)
   unfolding line-ok
   line-out f = rw (← h, not-true a f)
 
-  module _ (b : Bool) (k : b ≡ kind-allows kind (line-of 0 code [])) (f : not a ≡ false) where
-    pub line-barred : not b ≡ true → false ≡ line-ok kind nodes (line-of node code bs)
+  module _ (b : Bool) (k : b ≡ kind-allows (frame .kind) (line-of 0 code [])) (f : not a ≡ false) where
+    pub line-barred : not b ≡ true → false ≡ line-ok frame (line-of node code bs)
     unfolding line-ok kind-allows
     line-barred g = rw (← h, not-false a f, ← k, not-true b g)
 
-    pub line-rest : (e : Edition) (r : Bool) → not b ≡ false → e ≡ edition-of kind → r ≡ content-good e (line-of 0 code bs)
-        → r ≡ line-ok kind nodes (line-of node code bs)
+    pub line-rest : (e : Edition) (r : Bool) → not b ≡ false → e ≡ edition-of frame → r ≡ content-good e (line-of 0 code bs)
+        → r ≡ line-ok frame (line-of node code bs)
     unfolding line-ok kind-allows content-good
     line-rest e r g d q = rw (← h, not-false a f, ← k, not-false b g) (rw d at q)
 

@@ -14,17 +14,18 @@ use Rattle.packing.specs.Padding.{all-zero}
 use Rattle.lists.specs.Each.{any}
 use Rattle.packing.specs.Tables.{Form, fine, packs, things}
 use Rattle.packing.proofs.Turns.{left, starts-at, size-at, thing-at, left-all, row-bad, size-bad, thing-bad, row-more, end-bad, end-good, packs-no, packs-zero, packs-rows}
+use Rattle.book.specs.declared.Frame.{Frame}
 use Rattle.book.specs.Books.{Line, no-line}
 use Rattle.book.specs.Layout.{line-form, line-of}
 use Rattle.book.specs.Sanity.{bare-star, line-ok, some-star}
 use Rattle.book.proofs.Forms.{line-laws}
 
 -- ---- the check of n rows: row i starts at `at`, its bytes at o, and what is left from there on decides
-pub record Lined (kind nodes : ℕ) (l ps : List ℕ) (n p i at o : ℕ) : Type 0 where
+pub record Lined (frame : Frame) (l ps : List ℕ) (n p i at o : ℕ) : Type 0 where
   pub within : i ≤ n
   pub place : at ≡ 4 * i
   pub upto : o ≤ p
-  pub goes : fine line-form (line-ok kind nodes) p n 0 l ps ≡ left line-form (line-ok kind nodes) p n i o l ps
+  pub goes : fine line-form (line-ok frame) p n 0 l ps ≡ left line-form (line-ok frame) p n i o l ps
 
 -- a number of a row
 row-number : (l : List ℕ) (i at j : ℕ) → at ≡ 4 * i → getD (drop (4 * i) l) j 0 ≡ getD l (at + j) 0
@@ -33,11 +34,11 @@ row-number l i at j e = getD-drop (4 * i) l j 0 ∙ ap (λ (k : ℕ). getD l (k 
 row-first : (l : List ℕ) (i at : ℕ) → at ≡ 4 * i → getD (drop (4 * i) l) 0 0 ≡ getD l at 0
 row-first l i at e = let z : at + 0 ≡ at = omega arith in row-number l i at 0 e ∙ ap (λ (k : ℕ). getD l k 0) z
 
-module _ (kind nodes : ℕ) (l ps : List ℕ) (n p : ℕ) where
-  pub lines-start : Lined kind nodes l ps n p 0 0 0
-  lines-start = record { within = omega arith; place = omega arith; upto = omega arith; goes = left-all line-form (line-ok kind nodes) p n l ps }
+module _ (frame : Frame) (l ps : List ℕ) (n p : ℕ) where
+  pub lines-start : Lined frame l ps n p 0 0 0
+  lines-start = record { within = omega arith; place = omega arith; upto = omega arith; goes = left-all line-form (line-ok frame) p n l ps }
 
-  module _ (i at o : ℕ) (z : Lined kind nodes l ps n p i at o) where
+  module _ (i at o : ℕ) (z : Lined frame l ps n p i at o) where
     module _ (room : 4 * n ≤ length l) (more : i < n) where
       sized : size-at line-form i l ≡ getD l (at + 3) 0
       unfolding line-form
@@ -48,21 +49,21 @@ module _ (kind nodes : ℕ) (l ps : List ℕ) (n p : ℕ) where
       started s = eq-eqb _ _ (row-number l i at 2 (z .place) ∙ s)
 
       -- a row that does not tell o as its start
-      pub start-wrong : (getD l (at + 2) 0 ≡ o → ⊥) → false ≡ fine line-form (line-ok kind nodes) p n 0 l ps
+      pub start-wrong : (getD l (at + 2) 0 ≡ o → ⊥) → false ≡ fine line-form (line-ok frame) p n 0 l ps
       unfolding line-form
       start-wrong f =
-          sym (z .goes ∙ row-bad line-form (line-ok kind nodes) p n l ps i o more room (ne-eqb _ _ (λ e. f (sym (row-number l i at 2 (z .place)) ∙ e))))
+          sym (z .goes ∙ row-bad line-form (line-ok frame) p n l ps i o more room (ne-eqb _ _ (λ e. f (sym (row-number l i at 2 (z .place)) ∙ e))))
 
       module _ (s : getD l (at + 2) 0 ≡ o) where
         -- a row that tells bytes past p
-        pub size-wrong : p - o < getD l (at + 3) 0 → false ≡ fine line-form (line-ok kind nodes) p n 0 l ps
+        pub size-wrong : p - o < getD l (at + 3) 0 → false ≡ fine line-form (line-ok frame) p n 0 l ps
         unfolding line-form
-        size-wrong h = sym (z .goes ∙ size-bad line-form (line-ok kind nodes) p n l ps i o more room (started s) (omega (arith, sized)))
+        size-wrong h = sym (z .goes ∙ size-bad line-form (line-ok frame) p n l ps i o more room (started s) (omega (arith, sized)))
 
         module _ (h : getD l (at + 3) 0 ≤ p - o) (r : Bool)
-            (t : r ≡ line-ok kind nodes (line-of (getD l at 0) (getD l (at + 1) 0) (take (o + getD l (at + 3) 0 - o) (drop o ps)))) where
+            (t : r ≡ line-ok frame (line-of (getD l at 0) (getD l (at + 1) 0) (take (o + getD l (at + 3) 0 - o) (drop o ps)))) where
           -- the line that the row and its bytes are
-          lined : r ≡ line-ok kind nodes (thing-at line-form i o l ps)
+          lined : r ≡ line-ok frame (thing-at line-form i o l ps)
           unfolding line-form
           lined =
               t ∙ rw (
@@ -72,46 +73,46 @@ module _ (kind nodes : ℕ) (l ps : List ℕ) (n p : ℕ) where
                 add-sub-cancel-left o (getD l (at + 3) 0),
               )
 
-          pub line-wrong : not r ≡ true → false ≡ fine line-form (line-ok kind nodes) p n 0 l ps
+          pub line-wrong : not r ≡ true → false ≡ fine line-form (line-ok frame) p n 0 l ps
           unfolding line-form
           line-wrong f =
-              sym (z .goes ∙ thing-bad line-form (line-ok kind nodes) p n l ps i o more room (started s) (omega (arith, sized)) (sym lined ∙ not-true r f))
+              sym (z .goes ∙ thing-bad line-form (line-ok frame) p n l ps i o more room (started s) (omega (arith, sized)) (sym lined ∙ not-true r f))
 
-          pub line-right : not r ≡ false → Lined kind nodes l ps n p (i + 1) (at + 4) (o + getD l (at + 3) 0)
+          pub line-right : not r ≡ false → Lined frame l ps n p (i + 1) (at + 4) (o + getD l (at + 3) 0)
           unfolding line-form
           line-right f = record {
             within = omega arith;
             place = omega (arith, z .place);
             upto = omega (arith, z .upto);
-            goes = z .goes ∙ row-more line-form (line-ok kind nodes) p n l ps i o more room (started s) (omega (arith, sized)) (sym lined ∙ not-false r f)
-                ∙ ap (λ (k : ℕ). left line-form (line-ok kind nodes) p n (i + 1) (o + k) l ps) sized;
+            goes = z .goes ∙ row-more line-form (line-ok frame) p n l ps i o more room (started s) (omega (arith, sized)) (sym lined ∙ not-false r f)
+                ∙ ap (λ (k : ℕ). left line-form (line-ok frame) p n (i + 1) (o + k) l ps) sized;
           }
 
     module _ (done : n ≤ i) where
       -- bytes that do not end at p
-      pub end-wrong : (o ≡ p → ⊥) → false ≡ fine line-form (line-ok kind nodes) p n 0 l ps
-      end-wrong f = sym (z .goes ∙ end-bad line-form (line-ok kind nodes) p n l ps i o (omega (arith, z .within)) f)
+      pub end-wrong : (o ≡ p → ⊥) → false ≡ fine line-form (line-ok frame) p n 0 l ps
+      end-wrong f = sym (z .goes ∙ end-bad line-form (line-ok frame) p n l ps i o (omega (arith, z .within)) f)
 
-      pub lines-end : (r : Bool) → o ≡ p → r ≡ all-zero (drop at l) → r ≡ fine line-form (line-ok kind nodes) p n 0 l ps
+      pub lines-end : (r : Bool) → o ≡ p → r ≡ all-zero (drop at l) → r ≡ fine line-form (line-ok frame) p n 0 l ps
       unfolding line-form
       lines-end r f e =
           let k : at ≡ 4 * n = omega (arith, z .within, z .place) in
-          e ∙ ap (λ (m : ℕ). all-zero (drop m l)) k ∙ sym (z .goes ∙ end-good line-form (line-ok kind nodes) p n l ps i o (omega (arith, z .within)) f)
+          e ∙ ap (λ (m : ℕ). all-zero (drop m l)) k ∙ sym (z .goes ∙ end-good line-form (line-ok frame) p n l ps i o (omega (arith, z .within)) f)
 
   -- ---- the test of the packing, from its parts
-  pub pool-short : length ps < p → false ≡ packs line-form (line-ok kind nodes) n p l ps
-  pool-short h = packs-no line-form (line-laws kind nodes) n p l ps (λ t. omega (arith, t .byteroom))
+  pub pool-short : length ps < p → false ≡ packs line-form (line-ok frame) n p l ps
+  pool-short h = packs-no line-form (line-laws frame) n p l ps (λ t. omega (arith, t .byteroom))
 
-  pub lines-short : length l / 4 < n → false ≡ packs line-form (line-ok kind nodes) n p l ps
+  pub lines-short : length l / 4 < n → false ≡ packs line-form (line-ok frame) n p l ps
   unfolding line-form
-  lines-short h = packs-no line-form (line-laws kind nodes) n p l ps (λ t. omega (arith, t .rowroom))
+  lines-short h = packs-no line-form (line-laws frame) n p l ps (λ t. omega (arith, t .rowroom))
 
   module _ (h : p ≤ length ps) (z : Bool) (e : z ≡ all-zero (drop p ps)) where
-    pub pool-left : not z ≡ true → false ≡ packs line-form (line-ok kind nodes) n p l ps
-    pool-left f = packs-zero line-form (line-laws kind nodes) n p l ps z h e (not-true z f)
+    pub pool-left : not z ≡ true → false ≡ packs line-form (line-ok frame) n p l ps
+    pool-left f = packs-zero line-form (line-laws frame) n p l ps z h e (not-true z f)
 
-    pub lines-left : (r : Bool) → not z ≡ false → r ≡ fine line-form (line-ok kind nodes) p n 0 l ps → r ≡ packs line-form (line-ok kind nodes) n p l ps
-    lines-left r f q = packs-rows line-form (line-laws kind nodes) n p l ps z r h e (not-false z f) q
+    pub lines-left : (r : Bool) → not z ≡ false → r ≡ fine line-form (line-ok frame) p n 0 l ps → r ≡ packs line-form (line-ok frame) n p l ps
+    lines-left r f q = packs-rows line-form (line-laws frame) n p l ps z r h e (not-false z f) q
 
 -- ---- things of rows, and what the code in a line's row tells of it
 module _ {X : Type 0} (F : Form X) where

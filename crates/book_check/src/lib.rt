@@ -14,6 +14,7 @@ use book::Counts;
 use book::EXPORT;
 use book::REGULAR;
 use book::RUST;
+use book::frame_of;
 use numbers::EDIT_LIMIT;
 use numbers::LINE_LIMIT;
 use numbers::NODE_LIMIT;
@@ -82,7 +83,7 @@ fn is_laid(
     if !nodes_packed(nodes, names, c.nodes, c.names) {
         return false;
     }
-    if !lines_packed(c.kind, c.nodes, lines, pool, c.lines, c.pool) {
+    if !lines_packed(frame_of(c), lines, pool, c.lines, c.pool) {
         return false;
     }
     edits_packed(journal, c.edits)

@@ -10,6 +10,7 @@ ghost use Rattle.pattern.specs.Storing.{stored};
 ghost use Rattle.book.specs.Layout.{line-form, line-of, line-width};
 ghost use Rattle.book.specs.Sanity.{bare-star, content-good, glob-stands, in-range, kind-allows, line-ok, some-star};
 use book::EXPORT;
+use book::Frame;
 use book::LINE_WIDTH;
 use book::RUST;
 use book::STRUCK;
@@ -105,22 +106,22 @@ fn content_good(edition: Edition, code: u32, bytes: &[u8]) -> bool
     true
 }
 
-fn line_good(kind: u32, nodes: u32, node: u32, code: u32, bytes: &[u8]) -> bool
-    ensures { λ r. ⌜ r ≡ line-ok kind nodes (line-of node code (now (bytes .entry))) ⌝ }
+fn line_good(frame: Frame, node: u32, code: u32, bytes: &[u8]) -> bool
+    ensures { λ r. ⌜ r ≡ line-ok frame (line-of node code (now (bytes .entry))) ⌝ }
 {
-    if !is_in_range(nodes, node, code, bytes) {
+    if !is_in_range(frame.nodes, node, code, bytes) {
         return false;
     }
-    if !kind_allows(kind, code) {
+    if !kind_allows(frame.kind, code) {
         return false;
     }
-    content_good(edition_of(kind), code, bytes)
+    content_good(edition_of(frame), code, bytes)
 }
 
 // Whether n rows of lines are packed up to the byte p of the pool, each a line of such a book.
-fn line_rows(kind: u32, nodes: u32, lines: &[u32], pool: &[u8], n: usize, p: usize) -> bool
+fn line_rows(frame: Frame, lines: &[u32], pool: &[u8], n: usize, p: usize) -> bool
     requires { ⌜ (line-width * n ≤ length (now lines)) × (p ≤ length (now pool)) ⌝ }
-    ensures { λ r. ⌜ r ≡ fine line-form (line-ok kind nodes) p n 0 (now (lines .entry)) (now (pool .entry)) ⌝ }
+    ensures { λ r. ⌜ r ≡ fine line-form (line-ok frame) p n 0 (now (lines .entry)) (now (pool .entry)) ⌝ }
 {
     let mut i = 0;
     let mut at = 0;
@@ -134,7 +135,7 @@ fn line_rows(kind: u32, nodes: u32, lines: &[u32], pool: &[u8], n: usize, p: usi
             return false;
         }
         let end = o + size;
-        if !line_good(kind, nodes, lines[at], lines[at + 1], &pool[o..end]) {
+        if !line_good(frame, lines[at], lines[at + 1], &pool[o..end]) {
             return false;
         }
         o = end;
@@ -147,8 +148,8 @@ fn line_rows(kind: u32, nodes: u32, lines: &[u32], pool: &[u8], n: usize, p: usi
     zero_numbers(lines, at)
 }
 
-pub fn lines_packed(kind: u32, nodes: u32, lines: &[u32], pool: &[u8], n: u32, p: u32) -> bool
-    ensures { λ r. ⌜ r ≡ packs line-form (line-ok kind nodes) n p (now (lines .entry)) (now (pool .entry)) ⌝ }
+pub fn lines_packed(frame: Frame, lines: &[u32], pool: &[u8], n: u32, p: u32) -> bool
+    ensures { λ r. ⌜ r ≡ packs line-form (line-ok frame) n p (now (lines .entry)) (now (pool .entry)) ⌝ }
 {
     if pool.len() < (p as usize) {
         return false;
@@ -159,7 +160,7 @@ pub fn lines_packed(kind: u32, nodes: u32, lines: &[u32], pool: &[u8], n: u32, p
     if !zero_bytes(pool, p as usize) {
         return false;
     }
-    line_rows(kind, nodes, lines, pool, n as usize, p as usize)
+    line_rows(frame, lines, pool, n as usize, p as usize)
 }
 
 fn is_bare_star(code: u32) -> bool

@@ -14,7 +14,7 @@ use Rattle.lists.proofs.Tests.{both}
 use Rattle.lists.specs.Each.{any, every}
 use Rattle.packing.specs.Tables.{packed, rows}
 use Rattle.packing.proofs.TableLaws.{every-append}
-use Rattle.book.specs.Books.{Node, Line, Book, regular, rust}
+use Rattle.book.specs.Books.{Node, Line, Book, frame-with, regular, rust}
 use Rattle.book.specs.Layout.{Buffers, edit-form}
 use Rattle.book.specs.Edits.{all-back, journal-fits, stands}
 use Rattle.book.specs.Sanity.{bare-star, in-range, kind-allows, kind-good, line-ok, sane, some-star}
@@ -89,11 +89,11 @@ module _ (mixed starred inside : Bool) (ys : List Line) (y : Line) (t : Rust-lin
       go false z e = rw (new-star e) (or-true (some-star ys))
 
 -- ---- a book of a kind that its lines allow
-allowed : (kind n : ℕ) (ys : List Line) → every (line-ok regular n) ys ≡ true → every (kind-allows kind) ys ≡ true → every (line-ok kind n) ys ≡ true
+allowed : (kind n : ℕ) (ys : List Line) → every (line-ok (frame-with regular n)) ys ≡ true → every (kind-allows kind) ys ≡ true → every (line-ok (frame-with kind n)) ys ≡ true
 unfolding every line-ok
 allowed kind n [] e f = refl
 allowed kind n (y ∷ ys) e f =
-    let a = both (line-ok regular n y) _ e in
+    let a = both (line-ok (frame-with regular n) y) _ e in
     let b = both (in-range n y) _ (a .0) in
     let c = both (kind-allows regular y) _ (b .1) in
     let d = both (kind-allows kind y) _ f in
@@ -105,7 +105,7 @@ regular-allows [] = refl
 regular-allows (y ∷ ys) = regular-allows ys
 
 module _ (b : Buffers) (kind : ℕ) (xs : List Node) (ys : List Line) (r : Roomy b xs ys) (n : Nodes-good xs)
-    (ok : every (line-ok regular (length xs)) ys ≡ true) (stand : every stands ys ≡ true) (allows : every (kind-allows kind) ys ≡ true) where
+    (ok : every (line-ok (frame-with regular (length xs))) ys ≡ true) (stand : every stands ys ≡ true) (allows : every (kind-allows kind) ys ≡ true) where
   abbrev book : Book
   book = record { kind = kind; nodes = xs; lines = ys; edits = [] }
 

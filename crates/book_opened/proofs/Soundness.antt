@@ -23,12 +23,12 @@ use Rattle.reading_cursors.specs.Places.{at-list, at-symbol}
 use Rattle.reading.proofs.Parts.{Marked, Parts, node, start-marked}
 use Rattle.reading.proofs.Origins.{Near, Origin, block-place}
 use Rattle.reading.proofs.Origins as origin
-use Rattle.book.specs.Books.{Node, Line, edition-of, export, first-named, new-line, no-node, regular}
+use Rattle.book.specs.Books.{Node, Line, edition-of, export, first-named, frame-with, new-line, no-node, regular}
 use Rattle.book.specs.Edits.{stands}
 use Rattle.book.specs.Layout.{Buffers, node-width}
 use Rattle.book.specs.Sanity.{kind-allows, line-ok, name-good, no-semicolon}
 use Rattle.book_rooms.specs.Rooms.{line-room, node-room}
-use Rattle.book_building.specs.Building.{Building, Taken, on, no, in-block, out-of-block, take-event, take-kept, take-node, take-parent}
+use Rattle.book_building.specs.Building.{Building, Taken, on, no, in-block, out-of-block, take-event, take-kept, take-node, take-parent, frame-so-far}
 use Rattle.book_opening.specs.Opening.{nothing-yet}
 use Rattle.book_building.proofs.Kept.{kept-line}
 use Rattle.book_building.proofs.NodeEvents.{every-more}
@@ -41,7 +41,7 @@ use Rattle.book_opened.proofs.Nodes.{Nodes-good, every-part, fresh, nam
 pub record Good (b : Buffers) (xs : List Node) (ys : List Line) : Type 0 where
   pub rooms : Roomy b xs ys
   pub nodes : Nodes-good xs
-  pub lines : every (line-ok regular (length xs)) ys ≡ true
+  pub lines : every (line-ok (frame-with regular (length xs))) ys ≡ true
   pub stand : every stands ys ≡ true
 
 -- of where the reading stands: outside an extern block there is no language, and one among the globals makes a script mixed
@@ -97,13 +97,13 @@ good-parent b xs ys name t h k = record {
 }
 
 -- a line more
-good-line : (b : Buffers) (xs : List Node) (ys : List Line) (y : Line) → Good b xs ys → line-ok regular (length xs) y ≡ true → stands y ≡ true
+good-line : (b : Buffers) (xs : List Node) (ys : List Line) (y : Line) → Good b xs ys → line-ok (frame-with regular (length xs)) y ≡ true → stands y ≡ true
     → line-room b ys (y .bytes) ≡ true → Good b xs (ys ++ y ∷ [])
 unfolding every
 good-line b xs ys y t h k e = record {
   rooms = roomy-line b xs ys (t .rooms) y e;
   nodes = t .nodes;
-  lines = every-append (line-ok regular (length xs)) ys (y ∷ []) (t .lines) (rw h);
+  lines = every-append (line-ok (frame-with regular (length xs))) ys (y ∷ []) (t .lines) (rw h);
   stand = every-append stands ys (y ∷ []) (t .stand) (rw k);
 }
 
@@ -217,7 +217,7 @@ module _ (place : ℕ) (b : Buffers) (c d : Cursor) (g : Building) (t : Sound pl
   export-line y e = eq-eqb (y .section) global e
 
   sound-kept : (p : ℕ) (token : List ℕ) → block-place (d .place) ≡ block-place (c .place) → d .section ≡ c .section → d .language ≡ c .language
-      → (K : Keep) → keep (edition-of regular) token ≡ K → Holds (Sound place b d) (take-kept b g p (c .section) (c .language) K)
+      → (K : Keep) → keep (edition-of (frame-so-far g)) token ≡ K → Holds (Sound place b d) (take-kept b g p (c .section) (c .language) K)
   unfolding take-kept every
   sound-kept p token k z w (kept j bs) q = holds-cond (line-room b (g .lines) bs) (λ r.
       let y : Line = new-line (length (g .nodes) - 1) (c .section) (c .language) (class-number j) bs in
@@ -227,7 +227,7 @@ module _ (place : ℕ) (b : Buffers) (c d : Cursor) (g : Building) (t : Sound pl
         side = behind;
         marked = m;
         good = good-line b (g .nodes) (g .lines) y (t .good)
-            (kept-line token j bs q (length (g .nodes)) (length (g .nodes) - 1) (c .section) (c .language) (omega (arith, t .good .nodes .some)) (t .marked .section) (t .marked .language))
+            (kept-line (length (g .nodes)) token j bs q (length (g .nodes) - 1) (c .section) (c .language) (omega (arith, t .good .nodes .some)) (t .marked .section) (t .marked .language))
             refl r;
         agrees = record {
           block = i ∙ sym k;
@@ -257,5 +257,5 @@ sound-event place b s c g t e d i m (origin.body h k) r = takes (stays place b c
 sound-event place b s c g t e d i m (origin.section l h) r = takes (stays place b c d g t m r h h refl (λ j. absurd (omega arith)))
 sound-event place b s c g t e d i m (origin.extern h k) r = takes (sound-extern place b c d g t m r k refl)
 sound-event place b s c g t e d i m (origin.closed h k) r = takes (sound-closed place b c d g t m r k refl refl)
-sound-event place b s c g t e d i m (origin.line {p} {n} k) r = sound-kept place b c d g t m r p (part s p n) k refl refl (keep (edition-of regular) (part s p n)) refl
+sound-event place b s c g t e d i m (origin.line {p} {n} k) r = sound-kept place b c d g t m r p (part s p n) k refl refl (keep (edition-of (frame-so-far g)) (part s p n)) refl
 sound-event place b s c g t e d i m (origin.parent {p} {n} l h f) r = sound-parent place b c d g t m r p (part s p n) l h refl refl (no-semicolons s p n f)

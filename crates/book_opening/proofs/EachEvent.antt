@@ -10,10 +10,10 @@ use Rattle.reading_cursors.specs.declared.Event.{Event}
 use Rattle.reading_cursors.specs.declared.Event.the-variants.{Node, Body, Section, Extern, Closed, Line, Parent}
 use Rattle.reading.specs.Events.{Outcome, reading}
 use Rattle.reading.proofs.Parts.{Parts, node, body, section as section-word, extern, closed, line, parent}
-use Rattle.book.specs.Books.{edition-of, regular}
+use Rattle.book.specs.Books.{edition-of}
 use Rattle.book.specs.Layout.{Buffers}
 use Rattle.book_rooms.specs.Rooms.{line-room, node-room}
-use Rattle.book_building.specs.Building.{Building, Taken, on, no, take-event, take-kept, take-node}
+use Rattle.book_building.specs.Building.{Building, Taken, on, no, take-event, take-kept, take-node, frame-so-far}
 use Rattle.book_building.specs.Events.{Lies}
 use Rattle.book_opening.specs.declared.How.{How}
 use Rattle.book_opening.specs.Opening.{Opening, build, build-reading, nothing-yet, on-taken, opening}
@@ -48,7 +48,7 @@ module _ (b b′ : Buffers) (a : Alike b b′) where
   event-alike s g (Section k) = refl
   event-alike s g (Extern k l) = refl
   event-alike s g Closed = refl
-  event-alike s g (Line k l p n) = kept-alike g p k l (keep (edition-of regular) (part s p n))
+  event-alike s g (Line k l p n) = kept-alike g p k l (keep (edition-of (frame-so-far g)) (part s p n))
   event-alike s g (Parent p n) = refl
 
   same-on : (t : Taken) (f f′ : Building → Opening) → ((h : Building) → f h ≡ f′ h) → on-taken t f ≡ on-taken t f′

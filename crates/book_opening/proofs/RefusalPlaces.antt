@@ -22,10 +22,10 @@ use Rattle.reading.specs.Events.{on-step, reading, reading-from, reading-within
 use Rattle.reading.proofs.Onward.{Standing, next-stands, start-stands}
 use Rattle.reading.proofs.Parts.{Marked, next-parts, start-marked}
 use Rattle.reading.proofs.Refusals.{standing-refuses}
-use Rattle.book.specs.Books.{edition-of, first-named, regular}
+use Rattle.book.specs.Books.{edition-of, first-named}
 use Rattle.book.specs.Layout.{Buffers, node-width}
 use Rattle.book_rooms.specs.Rooms.{line-room, node-room}
-use Rattle.book_building.specs.Building.{Building, Taken, no, on, take-event, take-kept, take-node, take-parent}
+use Rattle.book_building.specs.Building.{Building, Taken, frame-so-far, no, on, take-event, take-kept, take-node, take-parent}
 use Rattle.book_building.specs.Events.{Lies}
 use Rattle.book_opening.specs.declared.How.{How}
 use Rattle.book_opening.specs.Opening.{Opening, build, build-reading, declined, nothing-yet, on-taken, opening, opens}
@@ -63,7 +63,7 @@ module _ (s : List ℕ) where
   event-within b g (Section k) h = tt
   event-within b g (Extern k l) h = tt
   event-within b g Closed h = tt
-  event-within b g (Line k l p n) h = kept-within b g p k l (keep (edition-of regular) (part s p n)) (omega arith)
+  event-within b g (Line k l p n) h = kept-within b g p k l (keep (edition-of (frame-so-far g)) (part s p n)) (omega arith)
   event-within b g (Parent p n) h = parent-within g p (part s p n) (omega arith)
 
   -- ---- the whole

@@ -24,10 +24,10 @@ use Rattle.reading_cursors.specs.declared.Event.the-variants.{Node, Body, Secti
 use Rattle.reading.specs.Events.{Outcome, accepted, reading}
 use Rattle.reading.specs.Events as events
 use Rattle.reading.proofs.Refusals.{of-reader, reading-refuses}
-use Rattle.book.specs.Books.{edition-of, first-named, regular}
+use Rattle.book.specs.Books.{edition-of, first-named}
 use Rattle.book.specs.Layout.{Buffers, node-width}
 use Rattle.book_rooms.specs.Rooms.{line-room, node-room}
-use Rattle.book_building.specs.Building.{Building, Taken, no, on, take-event, take-kept, take-node, take-parent}
+use Rattle.book_building.specs.Building.{Building, Taken, frame-so-far, no, on, take-event, take-kept, take-node, take-parent}
 use Rattle.book_opening.specs.declared.How.{How}
 use Rattle.book_opening.specs.Opening.{Opening, build, build-reading, declined, ended, nothing-yet, on-taken, opening, opens}
 
@@ -95,7 +95,7 @@ event-says b s g Body = tt
 event-says b s g (Section k) = tt
 event-says b s g (Extern k l) = tt
 event-says b s g Closed = tt
-event-says b s g (Line k l p n) = kept-says b g p k l (keep (edition-of regular) (part s p n)) (keep-says (edition-of regular) (part s p n))
+event-says b s g (Line k l p n) = kept-says b g p k l (keep (edition-of (frame-so-far g)) (part s p n)) (keep-says (edition-of (frame-so-far g)) (part s p n))
 event-says b s g (Parent p n) = parent-says g p (part s p n)
 
 -- ---- a reading's own refusal

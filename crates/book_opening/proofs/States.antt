@@ -11,7 +11,7 @@ use Rattle.packing.specs.Tables.{packed, rows}
 use Rattle.packing.proofs.PaddingLaws.{pad-nil}
 use Rattle.packing.proofs.Packings.{packs-from}
 use Rattle.book.specs.declared.Counts.{Counts}
-use Rattle.book.specs.Books.{no-node, regular}
+use Rattle.book.specs.Books.{frame-with, no-node, regular}
 use Rattle.book.specs.Layout.{counts-of, laid-out, line-form, node-form, node-width}
 use Rattle.book.specs.View.{book-of}
 use Rattle.book.proofs.Forms.{line-laws, node-laws}
@@ -37,7 +37,7 @@ module _ (n m l q : List ℕ) (a : Clear n) (b : Clear m) (c : Clear l) (d : Cle
   starts = record {
     few = record { some = omega arith; names = omega arith; nodes = omega arith; lines = omega arith; pool = omega arith };
     nodes = packs-from node-form node-laws 1 0 (length n) (length m) n m (no-node ∷ []) refl refl refl (zero-row n a h) (b ∙ pad-nil (length m)) h (omega arith);
-    lines = packs-from line-form (line-laws regular 1) 0 0 (length l) (length q) l q [] refl refl refl (c ∙ pad-nil (length l)) (d ∙ pad-nil (length q)) (omega arith) (omega arith);
+    lines = packs-from line-form (line-laws (frame-with regular 1)) 0 0 (length l) (length q) l q [] refl refl refl (c ∙ pad-nil (length l)) (d ∙ pad-nil (length q)) (omega arith) (omega arith);
   }
 
   pub starts-built : (building none-yet (four n m l q) ≡ nothing-yet) × (built none-yet (four n m l q) ≡ true)

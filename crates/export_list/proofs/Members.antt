@@ -12,8 +12,9 @@ use Rattle.numbers.specs.Refusals.{no-book, wrong-kind}
 use Rattle.lists.specs.Each.{any, every}
 use Rattle.packing.specs.Tables.{packs, things}
 use Rattle.book.specs.declared.Counts.{Counts}
+use Rattle.book.specs.declared.Frame.{Frame}
 use Rattle.book.specs.Books.{Line, edition-of, export, no-line}
-use Rattle.book.specs.Layout.{five, line-form}
+use Rattle.book.specs.Layout.{five, frame-of, line-form}
 use Rattle.book.specs.Sanity.{in-range, line-ok}
 use Rattle.book.specs.View.{book-of, holds, view}
 use Rattle.book.proofs.LineRows.{lines-in-range, lines-packed}
@@ -22,7 +23,7 @@ use Rattle.ranking.specs.declared.Deciding.{Deciding}
 use Rattle.ranking.specs.declared.Deciding.the-variants as answer
 use Rattle.ranking.specs.Matching.{line-matches, name-of}
 use Rattle.ranking.specs.Names.{name-refusal}
-use Rattle.ranking.specs.Walk.{decided, stages, walk}
+use Rattle.ranking.specs.Walk.{decided, deciding-among}
 use Rattle.ranking.proofs.Answers.{decided-line, decided-none}
 use Rattle.ranking.proofs.Deciders.{walk-decides, walk-nothing}
 use Rattle.ranking.proofs.NameTests.{short-names}
@@ -61,22 +62,26 @@ module _ (c : Counts) (n m l p j raw demangled : List ℕ) (x : Bool) (e : x ≡
       unfolding contains-asked book-of
       list-no-name g = rw (held .viewed, eq-eqb _ _ k, ← f, ne-eqb _ _ g)
 
-      module _ (g : no ≡ 0) where
-        -- what the search for the deciding line asks
-        pub asks-match : (packs line-form (line-ok (c .kind) (c .nodes)) (c .lines) (c .pool) l p ≡ true) × (c .nodes ≤ node-limit)
+      -- the search for the deciding line is given the frame `given`
+      module _ (g : no ≡ 0) (given : Frame) (u : given ≡ frame-of c) where
+        -- what it asks
+        pub asks-match : (packs line-form (line-ok given) (c .lines) (c .pool) l p ≡ true) × (given .nodes ≤ node-limit)
             × (length raw ≤ name-limit) × (length demangled ≤ name-limit)
-        asks-match = let s = short-names (name-of raw demangled) false (sym f ∙ g) in (held .lines, held .few, omega (arith, s .raw), s .demangled)
+        asks-match = let s = short-names (name-of raw demangled) false (sym f ∙ g) in rw u (held .lines, held .few, omega (arith, s .raw), s .demangled)
 
         in-order : every (in-range (c .nodes)) (things line-form (c .lines) l p) ≡ true
-        in-order = lines-in-range (c .kind) (c .nodes) _ (lines-packed (c .kind) (c .nodes) (c .lines) (c .pool) l p (held .lines) .all)
+        in-order = lines-in-range (frame-of c) _ (lines-packed (frame-of c) (c .lines) (c .pool) l p (held .lines) .all)
 
         abbrev asked : Line → Bool
-        asked = line-matches (edition-of (c .kind)) (name-of raw demangled)
+        asked = line-matches (edition-of (frame-of c)) (name-of raw demangled)
 
         abbrev xs : List Line
         xs = things line-form (c .lines) l p
 
-        module _ (d : Deciding) (w : d ≡ decided (walk asked (stages (c .nodes)) xs)) where
+        module _ (d : Deciding) (s : d ≡ decided (deciding-among given (name-of raw demangled) xs)) where
+          w : d ≡ decided (deciding-among (frame-of c) (name-of raw demangled) xs)
+          w = rw u at s
+
           pub list-within : (i : ℕ) → d ≡ answer.Line i → membership.Within ≡ contains-asked (view c (five n m l p j)) (name-of raw demangled)
           unfolding contains-asked member-of book-of
           list-within i q =

@@ -5,7 +5,7 @@ use mathlib.Core.Option.{Option, some, none}
 use lib.Dec.{eqb}
 use Rattle.numbers.specs.Refusals.{no-book, wrong-kind}
 use Rattle.lists.specs.Each.{any}
-use Rattle.book.specs.Books.{Book, edition-of, export}
+use Rattle.book.specs.Books.{Book, book-frame, edition-of, export}
 use Rattle.ranking.specs.Matching.{Name, line-matches}
 use Rattle.ranking.specs.Names.{name-refusal}
 use Rattle.export_list.specs.declared.Membership.{Membership}
@@ -13,7 +13,7 @@ use Rattle.export_list.specs.declared.Membership.the-variants as members
 
 -- "A name is in an export list exactly when some line matches."
 unfoldable pub member-of : Book → Name → Membership
-member-of w n = cond (any (line-matches (edition-of (w .kind)) n) (w .lines)) membership.Within membership.Without
+member-of w n = cond (any (line-matches (edition-of (book-frame w)) n) (w .lines)) membership.Within membership.Without
 
 -- "export query … on a version book" is 13; "Order: 14, 13, … 1, 9"
 unfoldable pub contains-asked : Option Book → Name → Membership

@@ -7,6 +7,7 @@ ghost use Rattle.export_list.specs.Membership.{contains-asked};
 use crate::Membership;
 use book::Counts;
 use book::EXPORT;
+use book::frame_of;
 use book_check::is_book;
 use numbers::NO_BOOK;
 use numbers::WRONG_KIND;
@@ -39,8 +40,7 @@ pub fn contains(
         return Membership::Refused(no);
     }
     match find_match(
-        c.kind,
-        c.nodes,
+        frame_of(c),
         lines,
         pool,
         c.lines as usize,

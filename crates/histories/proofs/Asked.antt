@@ -7,7 +7,7 @@ use mathlib.Core.Option.{Option, some, none}
 use lib.Dec.{eqb}
 use lib.ListN.{length}
 use Rattle.numbers.specs.Marks.{global}
-use Rattle.book.specs.Books.{Book, Edit, Line, edition-of, rust, with-lines}
+use Rattle.book.specs.Books.{Book, Edit, Line, book-frame, edition-of, rust, with-lines}
 use Rattle.book.specs.Edits.{stands}
 use Rattle.ranking.specs.Matching.{Name, line-matches}
 use Rattle.ranking.specs.Walk.{deciding, stages}
@@ -45,7 +45,7 @@ locality-is ls none = refl
 -- "32 is added to a struck line's code": it matches nothing
 module _ (w : Book) (ls : List Line) (es : List Edit) (n : Name) where
   abbrev matching : Line → Bool
-  matching = line-matches (edition-of (w .kind)) n
+  matching = line-matches (edition-of (book-frame w)) n
 
   struck-out : (x : Line) → stands x ≡ false → matching x ≡ false
   unfolding line-matches

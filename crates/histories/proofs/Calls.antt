@@ -16,7 +16,7 @@ use Rattle.linker_script.specs.Trim.{trim-end}
 use Rattle.lists.specs.Each.{every}
 use Rattle.classes.specs.Classes.{class-number}
 use Rattle.storing.specs.Keeping.{Keep, kept, refused, keep}
-use Rattle.book.specs.Books.{Book, Edit, Line, add, edition-of, export, new-line, rust, strike}
+use Rattle.book.specs.Books.{Book, Edit, Line, add, book-frame, edition-of, export, new-line, rust, strike}
 use Rattle.book.specs.Edits.{line-at, marked, stands, take-back}
 use Rattle.book.specs.Layout.{Buffers, counts-of}
 use Rattle.book.specs.Sanity.{edit-ok}
@@ -85,7 +85,7 @@ module _ (a b : Buffers) (r : Rooms a b) (w : Book) (k : eqb (w .kind) rust ≡ 
 
   -- a line of a token
   pub append-leads : (node section language : ℕ) → node < length (w .nodes) → section ≤ 1 → language ≤ 1
-      → (eqb (w .kind) export ≡ true → section ≡ global) → (s : List ℕ) (K : Keep) → keep (edition-of (w .kind)) s ≡ K
+      → (eqb (w .kind) export ≡ true → section ≡ global) → (s : List ℕ) (K : Keep) → keep (edition-of (book-frame w)) s ≡ K
       → Leads b w (with-kept d node section language K) (append-kept a held node section language K)
   unfolding append-kept
   append-leads node section language i j l f s (kept c bs) q = leads-cond (line-room a (d .lines) bs && edit-room a es) roomy (declined (λ h. omega arith))
@@ -96,17 +96,17 @@ module _ (a b : Buffers) (r : Rooms a b) (w : Book) (k : eqb (w .kind) rust ≡ 
           let x : Line = new-line node section language (class-number c) bs in
           let e : Edit = record { what = add; line = length (d .lines) } in
           let z : take-back e (d .lines ++ x ∷ []) ≡ some (d .lines) = added-back (d .lines) x refl in
-          let o = added-ok (w .kind) k s c bs q (length (w .nodes)) node section language i j l f in
+          let o = added-ok (book-frame w) k s c bs q node section language i j l f in
           done (es ++ e ∷ []) (record {
             viewable = viewable-line b w (d .lines) es (g .viewable) k x o (sym (line-room-same a b r (d .lines) bs) ∙ p .0)
                 (sym (edit-room-same a b r es) ∙ p .1) z;
             trail = goes es e (d .lines) refl z (g .viewable) (g .trail);
           })
-  append-leads node section language i j l f s (refused n) q = declined (rw q at (keep-numbered (edition-of (w .kind)) s))
+  append-leads node section language i j l f s (refused n) q = declined (rw q at (keep-numbered (edition-of (book-frame w)) s))
 
   -- what may stand
   pub add-leads : (node section language : ℕ) (s : List ℕ)
-      → Leads b w (with-kept d node section language (keep (edition-of (w .kind)) (trim-end s))) (add-asked a (some held) node section language s)
+      → Leads b w (with-kept d node section language (keep (edition-of (book-frame w)) (trim-end s))) (add-asked a (some held) node section language s)
   unfolding add-asked append may-stand
   add-leads node section language s = rw k (leads-cond (may-stand held node section language) stood (declined (λ h. omega arith)))
     where
@@ -115,13 +115,13 @@ module _ (a b : Buffers) (r : Rooms a b) (w : Book) (k : eqb (w .kind) rust ≡ 
       globals false e h = absurd (true≢false (sym e))
 
       stood : may-stand held node section language ≡ true
-          → Leads b w (with-kept d node section language (keep (edition-of (w .kind)) (trim-end s))) (append a held node section language (trim-end s))
+          → Leads b w (with-kept d node section language (keep (edition-of (book-frame w)) (trim-end s))) (append a held node section language (trim-end s))
       stood m =
           let f = both (ltb node (length (w .nodes))) _ m in
           let c = both (leb section local) _ (f .1) in
           let h = both (leb language cxx) _ (c .1) in
           append-leads node section language (ltb-true _ _ (f .0)) (leb-true _ _ (c .0)) (leb-true _ _ (h .0))
-          (λ e. globals (eqb (w .kind) export) e (h .1)) (trim-end s) (keep (edition-of (w .kind)) (trim-end s)) refl
+          (λ e. globals (eqb (w .kind) export) e (h .1)) (trim-end s) (keep (edition-of (book-frame w)) (trim-end s)) refl
 
   pub strike-leads : (i : ℕ) → Leads b w (edited-to d (set (d .lines) i (marked 1 (line-at (d .lines) i)))) (strike-asked a (some held) i)
   unfolding strike-asked strike-line edit-ok

@@ -17,7 +17,7 @@ use Rattle.classes.specs.declared.Class.{Class}
 use Rattle.storing.specs.Keeping.{kept, keep}
 use Rattle.reading_cursors.specs.declared.Event.{Event}
 use Rattle.reading.specs.Events.{Outcome, accepted, refused, reading}
-use Rattle.book.specs.Books.{Book, Edit, Line, edition-of, rust, with-lines}
+use Rattle.book.specs.Books.{Book, Edit, Line, book-frame, edition-of, rust, with-lines}
 use Rattle.book.specs.Edits.{line-at, stands, take-back}
 use Rattle.book.specs.Layout.{Buffers, node-width}
 use Rattle.book.proofs.Views.{laid-out-same}
@@ -105,7 +105,7 @@ module _ (b : Buffers) (w : Book) (k : eqb (w .kind) rust ≡ false) (d : Desk) 
   stands-now node section language m = m
 
   add-done : (node section language : ℕ) (t bs : List ℕ) (c : Class) → may-stand w node section language ≡ true
-      → keep (edition-of (w .kind)) (trim-end t) ≡ kept c bs → line-room b (d .lines) bs ≡ true → edit-room b (h .edits) ≡ true
+      → keep (edition-of (book-frame w)) (trim-end t) ≡ kept c bs → line-room b (d .lines) bs ≡ true → edit-room b (h .edits) ≡ true
       → answer x (adds node section language t) ≡ 0
   unfolding answer change add-asked append append-kept edited
   add-done node section language t bs c m q l e =

@@ -23,7 +23,7 @@ use Rattle.reading.specs.Scripts.{next}
 use Rattle.reading.specs.Events.{Reading, on-step, reading, reading-from, reading-within}
 use Rattle.reading.proofs.Parts.{Marked, Parts, line, next-parts, start-marked}
 use Rattle.reading.proofs.Refusals.{next-refuses}
-use Rattle.book.specs.Books.{Book, Edit, edition-of, export, rust}
+use Rattle.book.specs.Books.{Book, Edit, book-frame, edition-of, export, rust}
 use Rattle.book.specs.Layout.{Buffers}
 use Rattle.book.specs.Sanity.{nodes-good, sane}
 use Rattle.book.proofs.Views.{Rooms}
@@ -45,7 +45,7 @@ module _ (a b : Buffers) (r : Rooms a b) (w : Book) (k : eqb (w .kind) rust ≡ 
 
   -- the line of an event
   event-leads : (d : Desk) (es : List Edit) → Sound b w d es → (x : Event) → Parts s x
-      → Leads b w (with-event (edition-of (w .kind)) s d x) (add-event a s (book-with w (d .lines) es) x)
+      → Leads b w (with-event (edition-of (book-frame w)) s d x) (add-event a s (book-with w (d .lines) es) x)
   unfolding add-event append sane
   event-leads d es g (Node p n) h = done es g
   event-leads d es g Body h = done es g
@@ -54,14 +54,14 @@ module _ (a b : Buffers) (r : Rooms a b) (w : Book) (k : eqb (w .kind) rust ≡ 
   event-leads d es g Closed h = done es g
   event-leads d es g (Line section language p n) (line m h) =
       let i = some-node (w .nodes) (both (nodes-good (w .nodes)) _ (g .viewable .sane) .0) in
-      append-leads a b r w k d es g 0 global language i (omega arith) (m .language) (λ _. refl) (part s p n) (keep (edition-of (w .kind)) (part s p n)) refl
+      append-leads a b r w k d es g 0 global language i (omega arith) (m .language) (λ _. refl) (part s p n) (keep (edition-of (book-frame w)) (part s p n)) refl
   event-leads d es g (Parent p n) h = done es g
 
   -- the events of a reading, each behind the other
   abbrev Along : Reading → Type 0
   Along q =
       (d : Desk) (es : List Edit) → Sound b w d es
-      → Leads b w (with-events (edition-of (w .kind)) s d (q .events)) (add-reading a s (book-with w (d .lines) es) q)
+      → Leads b w (with-events (edition-of (book-frame w)) s d (q .events)) (add-reading a s (book-with w (d .lines) es) q)
 
   -- with at most n of them
   along : (n : ℕ) (c : Cursor) → Marked c → Along (reading-within n s c)
@@ -72,13 +72,13 @@ module _ (a b : Buffers) (r : Rooms a b) (w : Book) (k : eqb (w .kind) rust ≡ 
       go : (q : Step) → next s c ≡ q → ((c : Cursor) → Marked c → Along (reading-within n s c)) → Along (on-step q (λ c′. reading-within n s c′))
       go (Go x c′) z more d es g =
           let p = next-parts s c m x c′ z in
-          let d′ : Desk = with-event (edition-of (w .kind)) s d x in
+          let d′ : Desk = with-event (edition-of (book-frame w)) s d x in
           on-leads d′ _ (add-event a s (book-with w (d .lines) es) x) _ (event-leads d es g x (p .0)) (λ fs o. more c′ (p .1) d′ fs o)
       go End z more d es g = done es g
       go (Refused i p) z more d es g = declined (reader-numbered i (next-refuses s c i p z .0))
 
   pub symbol-leads : (bare : Bool) (d : Desk) (es : List Edit) → Sound b w d es
-      → Leads b w (with-events (edition-of (w .kind)) s d (reading reld (symbol-place bare) s .events)) (symbol-asked a (some (book-with w (d .lines) es)) s bare)
+      → Leads b w (with-events (edition-of (book-frame w)) s d (reading reld (symbol-place bare) s .events)) (symbol-asked a (some (book-with w (d .lines) es)) s bare)
   unfolding symbol-asked reading reading-from
   symbol-leads bare d es g =
       let c : Cursor = start reld (symbol-place bare) s in

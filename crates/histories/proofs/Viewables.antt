@@ -16,7 +16,7 @@ use Rattle.lists.proofs.Tests.{both}
 use Rattle.lists.specs.Each.{every}
 use Rattle.packing.specs.Tables.{packed}
 use Rattle.packing.proofs.TableLaws.{every-append, every-at, every-set, packed-set}
-use Rattle.book.specs.Books.{Book, Edit, Line, add, no-line, rust}
+use Rattle.book.specs.Books.{Book, Edit, Line, add, book-frame, no-line, rust}
 use Rattle.book.specs.Edits.{all-back, journal-fits, line-at, marked, take-back}
 use Rattle.book.specs.Layout.{Buffers, edit-width, line-form}
 use Rattle.book.specs.Sanity.{content-good, edit-ok, in-range, kind-allows, kind-good, line-ok, nodes-good, sane}
@@ -59,7 +59,7 @@ module _ (b : Buffers) (w : Book) (ls : List Line) (es : List Edit) (v : Viewabl
     unfolding every
     edits-more e o = every-append edit-ok es (e ∷ []) (v .fits .edits-ok) (rw o)
 
-    pub viewable-line : (x : Line) → line-ok (w .kind) (length (w .nodes)) x ≡ true → line-room b ls (x .bytes) ≡ true → edit-room b es ≡ true
+    pub viewable-line : (x : Line) → line-ok (book-frame w) x ≡ true → line-room b ls (x .bytes) ≡ true → edit-room b es ≡ true
         → take-back (record { what = add; line = length ls }) (ls ++ x ∷ []) ≡ some ls → Viewable b (with-line (book-with w ls es) x)
     viewable-line x o r q z =
         let e : Edit = record { what = add; line = length ls } in
@@ -76,8 +76,8 @@ module _ (b : Buffers) (w : Book) (ls : List Line) (es : List Edit) (v : Viewabl
         let m = more-edits e q in
         let l : length (set ls i y) ≡ length ls = length-set ls i y in
         let c : packed line-form (set ls i y) ≡ packed line-form ls = packed-set line-form ls i y no-line refl in
-        let ok : Line → Bool = line-ok (w .kind) (length (w .nodes)) in
-        let o : ok y ≡ true = marked-ok (w .kind) (length (w .nodes)) 1 (line-at ls i) (omega arith) (every-at ok ls i no-line (v .fits .lines-ok) h) in
+        let ok : Line → Bool = line-ok (book-frame w) in
+        let o : ok y ≡ true = marked-ok (book-frame w) 1 (line-at ls i) (omega arith) (every-at ok ls i no-line (v .fits .lines-ok) h) in
         record {
           fits = record {
             node-room = v .fits .node-room;
@@ -109,7 +109,7 @@ module _ (b : Buffers) (w : Book) (ls : List Line) (es : List Edit) (v : Viewabl
         few-lines = omega (arith, standing-length ls, v .fits .few-lines);
         few-bytes = omega (arith, standing-bytes ls, v .fits .few-bytes);
         few-edits = omega arith;
-        lines-ok = standing-every (line-ok (w .kind) (length (w .nodes))) ls (v .fits .lines-ok);
+        lines-ok = standing-every (line-ok (book-frame w)) ls (v .fits .lines-ok);
         edits-ok = refl;
       };
       sane = sane-again (standing ls) [] (standing-stand ls);

@@ -10,7 +10,7 @@ use lib.ListN.{length}
 use Rattle.classes.specs.declared.Class.{Class}
 use Rattle.storing.specs.Keeping.{kept, keep}
 use Rattle.linker_script.specs.Trim.{trim-end}
-use Rattle.book.specs.Books.{Book, Edit, edition-of, rust, with-lines}
+use Rattle.book.specs.Books.{Book, Edit, book-frame, edition-of, rust, with-lines}
 use Rattle.lists.specs.Each.{every}
 use Rattle.book.specs.Edits.{line-at, stands}
 use Rattle.book.specs.Layout.{Buffers, counts-of, laid-out}
@@ -49,7 +49,7 @@ pub record Holds (b : Buffers) (w : Book) (y : Lent) (d : Desk) : Type 0 where
   pub undone : run y (undos (length (d .earlier))) ≡ lent-book b (with-lines w (d .moment))
   -- an add is done wherever the lines and the journal leave room
   pub added : (node section language : ℕ) (t bs : List ℕ) (k : Class)
-      → may-stand w node section language ≡ true → keep (edition-of (w .kind)) (trim-end t) ≡ kept k bs
+      → may-stand w node section language ≡ true → keep (edition-of (book-frame w)) (trim-end t) ≡ kept k bs
       → line-room b (d .lines) bs ≡ true → edit-room b edits ≡ true
       → answer y (adds node section language t) ≡ 0
   -- and a strike of a line that stands, wherever the journal leaves room
@@ -61,7 +61,7 @@ pub record Holds (b : Buffers) (w : Book) (y : Lent) (d : Desk) : Type 0 where
   pub settled : view (lent-after y settles .counts) (lent-after y settles .buffers)
       ≡ some (record { kind = w .kind; nodes = w .nodes; lines = standing (d .lines); edits = journal })
   pub freed : (node section language : ℕ) (t bs : List ℕ) (k : Class)
-      → may-stand w node section language ≡ true → keep (edition-of (w .kind)) (trim-end t) ≡ kept k bs
+      → may-stand w node section language ≡ true → keep (edition-of (book-frame w)) (trim-end t) ≡ kept k bs
       → line-room b (standing (d .lines)) bs ≡ true → edit-room b journal ≡ true
       → answer (lent-after y settles) (adds node section language t) ≡ 0
 
@@ -71,7 +71,7 @@ abbrev pub lent-behind : How → Buffers → List ℕ → List Call → Lent
 lent-behind how b s ks = run (lent-opening b (opening how b s)) ks
 
 abbrev pub desk-behind : How → Buffers → List ℕ → Book → List Call → Desk
-desk-behind how b s w ks = leads (edition-of (w .kind)) (desk-at (w .lines)) (history (lent-opening b (opening how b s)) ks)
+desk-behind how b s w ks = leads (edition-of (book-frame w)) (desk-at (w .lines)) (history (lent-opening b (opening how b s)) ks)
 
 abbrev pub Demand-3 : Type 0
 Demand-3 =

@@ -12,7 +12,7 @@ use lib.Dec.{eqb}
 use lib.ListN.{length, getD}
 use Rattle.numbers.specs.Marks.{global}
 use Rattle.book.specs.declared.Counts.{Counts}
-use Rattle.book.specs.Books.{Line, Book, edition-of, no-line, regular}
+use Rattle.book.specs.Books.{Line, Book, book-frame, edition-of, no-line, regular}
 use Rattle.book.specs.Layout.{Buffers}
 use Rattle.book.specs.View.{holds, view}
 use Rattle.book.proofs.Asking.{viewed-in-range}
@@ -41,7 +41,7 @@ module _ (c : Counts) (b : Buffers) (w : Book) (v : view c b ≡ some w) (k : w 
   by-ranking = rw k
 
   pub locality-nothing : (locality-of w nm ≡ locality.Nothing)
-      ↔ ((i : ℕ) → i < length (w .lines) → line-matches (edition-of (w .kind)) nm (getD (w .lines) i no-line) ≡ false)
+      ↔ ((i : ℕ) → i < length (w .lines) → line-matches (edition-of (book-frame w)) nm (getD (w .lines) i no-line) ≡ false)
   locality-nothing =
       let g = viewed-in-range c b w v in (
         λ e. deciding-nothing nm w g .0 (undecided (w .lines) (deciding nm w) (sym by-ranking ∙ e)),

@@ -11,14 +11,14 @@ use Rattle.numbers.specs.Limits.{name-limit, node-limit}
 use Rattle.numbers.specs.Refusals.{no-book, wrong-kind}
 use Rattle.packing.specs.Tables.{packs, things}
 use Rattle.book.specs.declared.Counts.{Counts}
-use Rattle.book.specs.Books.{edition-of, export, rust}
-use Rattle.book.specs.Layout.{five, line-form}
+use Rattle.book.specs.Books.{export, rust}
+use Rattle.book.specs.Layout.{five, frame-of, line-form}
 use Rattle.book.specs.Sanity.{line-ok}
 use Rattle.book.specs.View.{book-of, holds, view}
 use Rattle.book.proofs.Asking.{Held, asked-none, asked-held}
-use Rattle.ranking.specs.Matching.{line-matches, name-of}
+use Rattle.ranking.specs.Matching.{name-of}
 use Rattle.ranking.specs.Names.{name-refusal}
-use Rattle.ranking.specs.Walk.{deciding, stages, walk}
+use Rattle.ranking.specs.Walk.{deciding, deciding-among}
 use Rattle.ranking.proofs.NameTests.{short-names}
 use Rattle.lookups.specs.declared.answers.Locality.{Locality}
 use Rattle.lookups.specs.declared.answers.Locality.the-variants as locality
@@ -43,7 +43,7 @@ module _ (c : Counts) (n m l p j raw demangled : List ℕ) (x : Bool) (e : x ≡
       locality-no-name g = rw (held-here .viewed, ne-eqb _ _ k, ← f, ne-eqb _ _ g)
 
       module _ (g : no ≡ 0) where
-        pub asks-listed : packs line-form (line-ok (c .kind) (c .nodes)) (c .lines) (c .pool) l p ≡ true
+        pub asks-listed : packs line-form (line-ok (frame-of c)) (c .lines) (c .pool) l p ≡ true
         asks-listed = held-here .lines
 
         module _ (q : c .kind ≡ rust) (r : Bool) (u : r ≡ listed (things line-form (c .lines) l p) raw) where
@@ -56,13 +56,13 @@ module _ (c : Counts) (n m l p j raw demangled : List ℕ) (x : Bool) (e : x ≡
           rust-unlisted t = rw (held-here .viewed, ne-eqb _ _ k, ← f, eq-eqb _ _ g, eq-eqb _ _ q, ← u, t)
 
         module _ (q : c .kind ≡ rust → ⊥) where
-          pub asks-decider : (packs line-form (line-ok (c .kind) (c .nodes)) (c .lines) (c .pool) l p ≡ true) × (c .nodes ≤ node-limit)
+          pub asks-decider : (packs line-form (line-ok (frame-of c)) (c .lines) (c .pool) l p ≡ true) × (c .nodes ≤ node-limit)
               × (length raw ≤ name-limit) × (length demangled ≤ name-limit)
           asks-decider = let s = short-names (name-of raw demangled) false (sym f ∙ g) in (held-here .lines, held-here .few, omega (arith, s .raw), s .demangled)
 
           pub locality-decided : (r : Locality)
               → r ≡ decided-locality (things line-form (c .lines) l p)
-              (walk (line-matches (edition-of (c .kind)) (name-of raw demangled)) (stages (c .nodes)) (things line-form (c .lines) l p))
+              (deciding-among (frame-of c) (name-of raw demangled) (things line-form (c .lines) l p))
               → r ≡ locality-asked (view c (five n m l p j)) (name-of raw demangled)
           unfolding locality-asked locality-of deciding book-of
           locality-decided r u = rw (held-here .viewed, ne-eqb _ _ k, ← f, eq-eqb _ _ g, ne-eqb _ _ q, held-here .count) u

@@ -12,14 +12,14 @@ use Rattle.numbers.specs.Limits.{name-limit, node-limit, version-limit}
 use Rattle.numbers.specs.Refusals.{no-book, wrong-kind}
 use Rattle.packing.specs.Tables.{packs, things}
 use Rattle.book.specs.declared.Counts.{Counts}
-use Rattle.book.specs.Books.{edition-of, export, rust}
-use Rattle.book.specs.Layout.{five, line-form, node-form}
+use Rattle.book.specs.Books.{export, rust}
+use Rattle.book.specs.Layout.{five, frame-of, line-form, node-form}
 use Rattle.book.specs.Sanity.{line-ok}
 use Rattle.book.specs.View.{any-node, book-of, holds, view}
 use Rattle.book.proofs.Asking.{Held, asked-none, asked-held}
-use Rattle.ranking.specs.Matching.{line-matches, name-of}
+use Rattle.ranking.specs.Matching.{name-of}
 use Rattle.ranking.specs.Names.{name-refusal}
-use Rattle.ranking.specs.Walk.{deciding, stages, walk}
+use Rattle.ranking.specs.Walk.{deciding, deciding-among}
 use Rattle.ranking.proofs.NameTests.{short-names}
 use Rattle.lookups.specs.declared.answers.Version.{Version}
 use Rattle.lookups.specs.declared.answers.Version.the-variants as version
@@ -65,13 +65,13 @@ module _ (c : Counts) (n m l p j raw demangled : List ℕ) (has : Bool) (v : Lis
           unfolding version-asked version-of book-of
           version-wanted t r u = rw (held .viewed, ne-eqb _ _ k, ← y, ← f, eq-eqb _ _ g, ne-eqb _ _ q, t) u
 
-          pub asks-decided : (packs line-form (line-ok (c .kind) (c .nodes)) (c .lines) (c .pool) l p ≡ true) × (c .nodes ≤ node-limit)
+          pub asks-decided : (packs line-form (line-ok (frame-of c)) (c .lines) (c .pool) l p ≡ true) × (c .nodes ≤ node-limit)
               × (length raw ≤ name-limit) × (length demangled ≤ name-limit)
           asks-decided = let s = short-names (name-of raw demangled) long (sym f ∙ g) in (held .lines, held .few, omega (arith, s .raw), s .demangled)
 
           pub version-decided : has ≡ false → (r : Version)
               → r ≡ decided-version (things line-form (c .lines) l p)
-              (walk (line-matches (edition-of (c .kind)) (name-of raw demangled)) (stages (c .nodes)) (things line-form (c .lines) l p))
+              (deciding-among (frame-of c) (name-of raw demangled) (things line-form (c .lines) l p))
               → r ≡ version-asked (view c (five n m l p j)) (name-of raw demangled) (wanted-of has v)
           unfolding version-asked version-of deciding book-of
           version-decided t r u = rw (held .viewed, ne-eqb _ _ k, ← y, ← f, eq-eqb _ _ g, ne-eqb _ _ q, t, held .count) u

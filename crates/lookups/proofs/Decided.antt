@@ -10,6 +10,7 @@ use lib.ListN.{getD}
 use Rattle.numbers.specs.Limits.{node-limit}
 use Rattle.lists.specs.Each.{every}
 use Rattle.packing.specs.Tables.{packs, things}
+use Rattle.book.specs.declared.Frame.{Frame}
 use Rattle.book.specs.Books.{Line, edition-of, no-line}
 use Rattle.book.specs.Layout.{line-form}
 use Rattle.book.specs.Sanity.{in-range, line-ok}
@@ -17,7 +18,7 @@ use Rattle.book.proofs.LineRows.{Row, lines-count, lines-in-range, lines-packed
 use Rattle.ranking.specs.declared.Deciding.{Deciding}
 use Rattle.ranking.specs.declared.Deciding.the-variants as answer
 use Rattle.ranking.specs.Matching.{line-matches, name-of}
-use Rattle.ranking.specs.Walk.{decided, stages, walk}
+use Rattle.ranking.specs.Walk.{decided, deciding-among}
 use Rattle.ranking.proofs.Answers.{decided-line, decided-none}
 use Rattle.ranking.proofs.Deciders.{walk-decides}
 use Rattle.lookups.specs.declared.answers.Version.{Version}
@@ -26,20 +27,24 @@ use Rattle.lookups.specs.declared.answers.Locality.the-variants as local
 use Rattle.lookups.specs.Lookups.{decided-locality, decided-version, node-version}
 
 -- the section that a row's code tells
-pub row-section : (kind nodes n : ℕ) (l m : List ℕ) (i at : ℕ) → Row kind nodes n l m i at → getD l (at + 1) 0 % 4 / 2 ≡ getD (things line-form n l m) i no-line .section
-row-section kind nodes n l m i at r = let g = row-ranged kind nodes n l m i at r in omega (arith, r .code)
+pub row-section : (frame : Frame) (n : ℕ) (l m : List ℕ) (i at : ℕ) → Row frame n l m i at → getD l (at + 1) 0 % 4 / 2 ≡ getD (things line-form n l m) i no-line .section
+row-section frame n l m i at r = let g = row-ranged frame n l m i at r in omega (arith, r .code)
 
 -- ---- the line that decides
-module _ (kind nodes n p : ℕ) (l m raw demangled : List ℕ) (g : packs line-form (line-ok kind nodes) n p l m ≡ true) (d : Deciding)
-    (w : d ≡ decided (walk (line-matches (edition-of kind) (name-of raw demangled)) (stages nodes) (things line-form n l m))) where
+-- d is what the search answered, which was given the frame `given`
+module _ (frame : Frame) (n p : ℕ) (l m raw demangled : List ℕ) (g : packs line-form (line-ok frame) n p l m ≡ true) (given : Frame) (u : given ≡ frame)
+    (d : Deciding) (s : d ≡ decided (deciding-among given (name-of raw demangled) (things line-form n l m))) where
   abbrev xs : List Line
   xs = things line-form n l m
 
   abbrev found : Option ℕ
-  found = walk (line-matches (edition-of kind) (name-of raw demangled)) (stages nodes) (things line-form n l m)
+  found = deciding-among frame (name-of raw demangled) (things line-form n l m)
 
-  in-order : every (in-range nodes) (things line-form n l m) ≡ true
-  in-order = lines-in-range kind nodes (things line-form n l m) (lines-packed kind nodes n p l m g .all)
+  w : d ≡ decided found
+  w = rw u at s
+
+  in-order : every (in-range (frame .nodes)) (things line-form n l m) ≡ true
+  in-order = lines-in-range frame (things line-form n l m) (lines-packed frame n p l m g .all)
 
   pub unversioned : d ≡ answer.Nothing → version.Unversioned ≡ decided-version xs found
   unversioned q = rw (decided-none found d w q)
@@ -51,19 +56,19 @@ module _ (kind nodes n p : ℕ) (l m raw demangled : List ℕ) (g : packs line-f
     one-found : found ≡ some i
     one-found = decided-line found d i w q
 
-    pub decider-row : Row kind nodes n l m i (4 * i)
+    pub decider-row : Row frame n l m i (4 * i)
     decider-row =
-        line-row kind nodes n p l m g i
-        (omega (arith, lines-count kind nodes n p l m g, walk-decides nodes (line-matches (edition-of kind) (name-of raw demangled)) xs in-order i .0 one-found .there))
+        line-row frame n p l m g i
+        (omega (arith, lines-count frame n p l m g, walk-decides (frame .nodes) (line-matches (edition-of frame) (name-of raw demangled)) xs in-order i .0 one-found .there))
 
-    pub decider-node : nodes ≤ node-limit → getD l (4 * i) 0 < node-limit
-    decider-node f = let r = row-ranged kind nodes n l m i (4 * i) decider-row in omega (arith, decider-row .node)
+    pub decider-node : frame .nodes ≤ node-limit → getD l (4 * i) 0 < node-limit
+    decider-node f = let r = row-ranged frame n l m i (4 * i) decider-row in omega (arith, decider-row .node)
 
     pub decider-version : (v : Version) → v ≡ node-version (getD l (4 * i) 0) → v ≡ decided-version xs found
     decider-version v e = e ∙ rw (one-found, decider-row .node)
 
     pub decider-global : getD l (4 * i + 1) 0 % 4 / 2 ≡ 0 → locality.Global ≡ decided-locality xs found
-    decider-global h = rw (one-found, eq-eqb _ _ (sym (row-section kind nodes n l m i (4 * i) decider-row) ∙ h))
+    decider-global h = rw (one-found, eq-eqb _ _ (sym (row-section frame n l m i (4 * i) decider-row) ∙ h))
 
     pub decider-local : (getD l (4 * i + 1) 0 % 4 / 2 ≡ 0 → ⊥) → locality.Local ≡ decided-locality xs found
-    decider-local h = rw (one-found, ne-eqb _ _ (λ y. h (row-section kind nodes n l m i (4 * i) decider-row ∙ y)))
+    decider-local h = rw (one-found, ne-eqb _ _ (λ y. h (row-section frame n l m i (4 * i) decider-row ∙ y)))

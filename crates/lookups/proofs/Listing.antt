@@ -14,6 +14,7 @@ use Rattle.numbers.specs.Marks.{global}
 use Rattle.lists.specs.Same.{same}
 use Rattle.lists.specs.Each.{any}
 use Rattle.packing.specs.Tables.{packs, things}
+use Rattle.book.specs.declared.Frame.{Frame}
 use Rattle.book.specs.Books.{Line, no-line}
 use Rattle.book.specs.Layout.{line-form}
 use Rattle.book.specs.Sanity.{line-ok}
@@ -30,9 +31,9 @@ pub record Listing (n : ℕ) (l m t : List ℕ) (i at : ℕ) : Type 0 where
 pub listing-starts : (n : ℕ) (l m t : List ℕ) → Listing n l m t 0 0
 listing-starts n l m t = record { within = omega arith; place = omega arith; goes = refl }
 
-module _ (kind nodes n p : ℕ) (l m t : List ℕ) (g : packs line-form (line-ok kind nodes) n p l m ≡ true) (i at : ℕ) (z : Listing n l m t i at) where
-  pub listing-row : i < n → Row kind nodes n l m i at
-  listing-row h = row-at kind nodes n p l m g i at (z .place) h
+module _ (frame : Frame) (n p : ℕ) (l m t : List ℕ) (g : packs line-form (line-ok frame) n p l m ≡ true) (i at : ℕ) (z : Listing n l m t i at) where
+  pub listing-row : i < n → Row frame n l m i at
+  listing-row h = row-at frame n p l m g i at (z .place) h
 
   module _ (h : i < n) where
     abbrev line : Line
@@ -40,10 +41,10 @@ module _ (kind nodes n p : ℕ) (l m t : List ℕ) (g : packs line-form (line-ok
 
     next : listed (drop i (things line-form n l m)) t ≡ (eqb (line .section) global && same (line .bytes) t) || listed (drop (i + 1) (things line-form n l m)) t
     unfolding any listed
-    next = rw (drop-cons (things line-form n l m) i no-line (omega (arith, lines-count kind nodes n p l m g)), add-one)
+    next = rw (drop-cons (things line-form n l m) i no-line (omega (arith, lines-count frame n p l m g)), add-one)
 
     section-is : getD l (at + 1) 0 % 4 / 2 ≡ line .section
-    section-is = row-section kind nodes n l m i at (listing-row h)
+    section-is = row-section frame n l m i at (listing-row h)
 
     -- the line is local
     pub listing-local : (getD l (at + 1) 0 % 4 / 2 ≡ 0 → ⊥) → Listing n l m t (i + 1) (at + 4)
@@ -56,7 +57,7 @@ module _ (kind nodes n p : ℕ) (l m t : List ℕ) (g : packs line-form (line-ok
     module _ (y : getD l (at + 1) 0 % 4 / 2 ≡ 0) (r : Bool)
         (e : r ≡ same (take (getD l (at + 2) 0 + getD l (at + 3) 0 - getD l (at + 2) 0) (drop (getD l (at + 2) 0) m)) t) where
       asked : r ≡ same (line .bytes) t
-      asked = e ∙ ap (λ (u : List ℕ). same u t) (row-bytes kind nodes n l m i at (listing-row h))
+      asked = e ∙ ap (λ (u : List ℕ). same u t) (row-bytes frame n l m i at (listing-row h))
 
       -- it is the name's
       pub listing-found : r ≡ true → true ≡ listed (things line-form n l m) t
@@ -73,4 +74,4 @@ module _ (kind nodes n p : ℕ) (l m t : List ℕ) (g : packs line-form (line-ok
   -- none is
   pub listing-none : n ≤ i → false ≡ listed (things line-form n l m) t
   unfolding any listed
-  listing-none h = sym (z .goes ∙ rw (drop-of-length-le (things line-form n l m) {i = i} (omega (arith, lines-count kind nodes n p l m g))))
+  listing-none h = sym (z .goes ∙ rw (drop-of-length-le (things line-form n l m) {i = i} (omega (arith, lines-count frame n p l m g))))

@@ -6,7 +6,7 @@ ghost use Prim.Native.Nat.{_≤_, _<_};
 ghost use lib.ListN.{length};
 ghost use Rattle.numbers.specs.Limits.{name-limit, node-limit};
 ghost use Rattle.packing.specs.Tables.{packs, things};
-ghost use Rattle.book.specs.Layout.{five, line-form};
+ghost use Rattle.book.specs.Layout.{five, frame-of, line-form};
 ghost use Rattle.book.specs.Sanity.{line-ok};
 ghost use Rattle.book.specs.View.{holds, view};
 ghost use Rattle.ranking.specs.Matching.{name-of};
@@ -20,6 +20,7 @@ use book::Counts;
 use book::EXPORT;
 use book::LINE_WIDTH;
 use book::RUST;
+use book::frame_of;
 use book_check::is_book;
 use numbers::NO_BOOK;
 use numbers::VERSION_LIMIT;
@@ -41,15 +42,14 @@ fn node_version(node: u32) -> Version
 
 // The version of the deciding line's node.
 fn decided_version(c: Counts, lines: &[u32], pool: &[u8], raw: &[u8], demangled: &[u8]) -> Version
-    requires { ⌜ (packs line-form (line-ok (c .kind) (c .nodes)) (c .lines) (c .pool) (now lines) (now pool) ≡ true) × (c .nodes ≤ node-limit)
+    requires { ⌜ (packs line-form (line-ok (frame-of c)) (c .lines) (c .pool) (now lines) (now pool) ≡ true) × (c .nodes ≤ node-limit)
         × (length (now raw) ≤ name-limit) × (length (now demangled) ≤ name-limit) ⌝ }
     ensures { λ r. ⌜ r ≡ decided-version (things line-form (c .lines) (now (lines .entry)) (now (pool .entry)))
-        (deciding-among (c .kind) (c .nodes) (name-of (now (raw .entry)) (now (demangled .entry)))
+        (deciding-among (frame-of c) (name-of (now (raw .entry)) (now (demangled .entry)))
         (things line-form (c .lines) (now (lines .entry)) (now (pool .entry)))) ⌝ }
 {
     match find_match(
-        c.kind,
-        c.nodes,
+        frame_of(c),
         lines,
         pool,
         c.lines as usize,

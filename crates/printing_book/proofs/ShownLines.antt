@@ -11,7 +11,7 @@ use Rattle.packing.specs.Tables.{packed, packs, things}
 use Rattle.packing.proofs.Packings.{bytes-within}
 use Rattle.book.specs.declared.Counts.{Counts}
 use Rattle.book.specs.Books.{Line, no-line}
-use Rattle.book.specs.Layout.{Buffers, line-form, line-of}
+use Rattle.book.specs.Layout.{Buffers, frame-of, line-form, line-of}
 use Rattle.book.specs.Sanity.{line-ok}
 use Rattle.book.specs.View.{book-of, holds}
 use Rattle.book.proofs.Asking.{held-book}
@@ -60,14 +60,14 @@ module _ (c : Counts) (b : Buffers) (held : holds c b ≡ true) where
   abbrev ls : List Line
   ls = things line-form (c .lines) (b .lines) (b .pool)
 
-  rows : packs line-form (line-ok (c .kind) (c .nodes)) (c .lines) (c .pool) (b .lines) (b .pool) ≡ true
+  rows : packs line-form (line-ok (frame-of c)) (c .lines) (c .pool) (b .lines) (b .pool) ≡ true
   rows = held-book c b held .lines
 
   count : length ls ≡ c .lines
-  count = lines-count (c .kind) (c .nodes) (c .lines) (c .pool) (b .lines) (b .pool) rows
+  count = lines-count (frame-of c) (c .lines) (c .pool) (b .lines) (b .pool) rows
 
-  pub row : (i : ℕ) → i < c .lines → Row (c .kind) (c .nodes) (c .lines) (b .lines) (b .pool) i (4 * i)
-  row i h = line-row (c .kind) (c .nodes) (c .lines) (c .pool) (b .lines) (b .pool) rows i h
+  pub row : (i : ℕ) → i < c .lines → Row (frame-of c) (c .lines) (b .lines) (b .pool) i (4 * i)
+  row i h = line-row (frame-of c) (c .lines) (c .pool) (b .lines) (b .pool) rows i h
 
   module _ (d : List ℕ) (room : shown-room c ≤ length d) where
     module _ (out : List ℕ) (end i : ℕ) (inv : Listed ls d out end i) where
@@ -87,8 +87,8 @@ module _ (c : Counts) (b : Buffers) (held : holds c b ≡ true) where
             let k = room in
             let f = few-lines 0 (take i ls) in
             let g = length-take-le i ls (inv .within) in
-            let w = bytes-within line-form (line-laws (c .kind) (c .nodes)) (c .lines) (c .pool) (b .lines) (b .pool) ls
-            (lines-packed (c .kind) (c .nodes) (c .lines) (c .pool) (b .lines) (b .pool) rows) i no-line there in
+            let w = bytes-within line-form (line-laws (frame-of c)) (c .lines) (c .pool) (b .lines) (b .pool) ls
+            (lines-packed (frame-of c) (c .lines) (c .pool) (b .lines) (b .pool) rows) i no-line there in
             omega (arith, inv .put .0, inv .long)
 
         -- its bytes, as they are lent
@@ -96,12 +96,12 @@ module _ (c : Counts) (b : Buffers) (held : holds c b ≡ true) where
         bytes = take (getD (b .lines) (4 * i + 2) 0 + getD (b .lines) (4 * i + 3) 0 - getD (b .lines) (4 * i + 2) 0) (drop (getD (b .lines) (4 * i + 2) 0) (b .pool))
 
         same-bytes : bytes ≡ getD ls i no-line .bytes
-        same-bytes = row-bytes (c .kind) (c .nodes) (c .lines) (b .lines) (b .pool) i (4 * i) (row i h)
+        same-bytes = row-bytes (frame-of c) (c .lines) (b .lines) (b .pool) i (4 * i) (row i h)
 
         pub line-fits : (end + 78 + length bytes ≤ length out) × (length bytes < 4294967296)
         line-fits =
             let e = ap length same-bytes in
-            let s = row-short (c .kind) (c .nodes) (c .lines) (b .lines) (b .pool) i (4 * i) (row i h) in
+            let s = row-short (frame-of c) (c .lines) (b .lines) (b .pool) i (4 * i) (row i h) in
             (omega (arith, line-room), omega (arith, row i h .size))
 
         pub line-listed : (out′ : List ℕ) (r : ℕ)
@@ -110,7 +110,7 @@ module _ (c : Counts) (b : Buffers) (held : holds c b ≡ true) where
             let x : Line = getD ls i no-line in
             let e : line-of (getD (b .lines) (4 * i) 0) (getD (b .lines) (4 * i + 1) 0) bytes ≡ x =
             ap (λ (m : List ℕ). line-of (getD (b .lines) (4 * i) 0) (getD (b .lines) (4 * i + 1) 0) m) same-bytes
-            ∙ sym (row-line (c .kind) (c .nodes) (c .lines) (b .lines) (b .pool) i (4 * i) (row i h)) in
+            ∙ sym (row-line (frame-of c) (c .lines) (b .lines) (b .pool) i (4 * i) (row i h)) in
             let q : Puts out end (line-shown i x) out′ r = subst (λ (y : Line). Puts out end (line-shown i y) out′ r) e p in
             let f = few-line i x in
             let g = line-room in

@@ -13,7 +13,7 @@ use lib.ListN.{length, getD}
 use Rattle.lists.proofs.Tests.{both, fails}
 use Rattle.lists.specs.Each.{every}
 use Rattle.packing.proofs.TableLaws.{every-at}
-use Rattle.book.specs.Books.{Line, Book, edition-of, no-line}
+use Rattle.book.specs.Books.{Line, Book, book-frame, edition-of, no-line}
 use Rattle.book.specs.Edits.{line-at}
 use Rattle.book.specs.Sanity.{in-range}
 use Rattle.book.proofs.Forms.{Ranged, ranged}
@@ -152,10 +152,10 @@ module _ (n : ℕ) (m : Line → Bool) (ls : List Line) where
 
 -- ---- the same of a book whose lines are in range
 module _ (nm : Name) (w : Book) (g : every (in-range (length (w .nodes))) (w .lines) ≡ true) where
-  pub deciding-exactly : (i : ℕ) → (deciding nm w ≡ some i) ↔ Decides (length (w .nodes)) (line-matches (edition-of (w .kind)) nm) (w .lines) i
+  pub deciding-exactly : (i : ℕ) → (deciding nm w ≡ some i) ↔ Decides (length (w .nodes)) (line-matches (edition-of (book-frame w)) nm) (w .lines) i
   unfolding deciding
-  deciding-exactly i = walk-decides (length (w .nodes)) (line-matches (edition-of (w .kind)) nm) (w .lines) g i
+  deciding-exactly i = walk-decides (length (w .nodes)) (line-matches (edition-of (book-frame w)) nm) (w .lines) g i
 
-  pub deciding-nothing : (deciding nm w ≡ none) ↔ ((j : ℕ) → j < length (w .lines) → line-matches (edition-of (w .kind)) nm (getD (w .lines) j no-line) ≡ false)
+  pub deciding-nothing : (deciding nm w ≡ none) ↔ ((j : ℕ) → j < length (w .lines) → line-matches (edition-of (book-frame w)) nm (getD (w .lines) j no-line) ≡ false)
   unfolding deciding
-  deciding-nothing = walk-nothing (length (w .nodes)) (line-matches (edition-of (w .kind)) nm) (w .lines) g
+  deciding-nothing = walk-nothing (length (w .nodes)) (line-matches (edition-of (book-frame w)) nm) (w .lines) g

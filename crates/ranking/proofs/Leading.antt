@@ -11,6 +11,7 @@ use Rattle.lists.proofs.Tests.{fails}
 use Rattle.lists.specs.Each.{every}
 use Rattle.packing.specs.Tables.{packs, things}
 use Rattle.numbers.specs.declared.Edition.{Edition}
+use Rattle.book.specs.declared.Frame.{Frame}
 use Rattle.book.specs.Books.{Line, edition-of, no-line}
 use Rattle.book.specs.Edits.{line-at}
 use Rattle.book.specs.Layout.{line-form, line-of}
@@ -92,10 +93,10 @@ module _ (n : ℕ) (m : Line → Bool) (ls : List Line) where
 
 -- ---- in the rows of a book
 -- i lines are passed, and the next row starts at `at`
-pub record Seeking (kind nodes n : ℕ) (l m raw demangled : List ℕ) (best line i at : ℕ) : Type 0 where
+pub record Seeking (frame : Frame) (n : ℕ) (l m raw demangled : List ℕ) (best line i at : ℕ) : Type 0 where
   pub within : i ≤ n
   pub place : at ≡ 4 * i
-  pub leads : Leading nodes (line-matches (edition-of kind) (name-of raw demangled)) (things line-form n l m) i best line
+  pub leads : Leading (frame .nodes) (line-matches (edition-of frame) (name-of raw demangled)) (things line-form n l m) i best line
 
 -- neither rank nor match asks what a line's row tells elsewhere
 same-rank : (nodes node code : ℕ) (bs : List ℕ) → rank nodes (line-of node code []) ≡ rank nodes (line-of node code bs)
@@ -107,73 +108,73 @@ same-match : (e : Edition) (raw demangled : List ℕ) (node code : ℕ) (bs : Li
 unfolding line-matches seen
 same-match e raw demangled node code bs = refl
 
-module _ (kind nodes n p : ℕ) (l m raw demangled : List ℕ) (g : packs line-form (line-ok kind nodes) n p l m ≡ true) where
+module _ (frame : Frame) (n p : ℕ) (l m raw demangled : List ℕ) (g : packs line-form (line-ok frame) n p l m ≡ true) where
   abbrev asked : Line → Bool
-  asked = line-matches (edition-of kind) (name-of raw demangled)
+  asked = line-matches (edition-of frame) (name-of raw demangled)
 
   abbrev xs : List Line
   xs = things line-form n l m
 
-  all-ranged : every (in-range nodes) (things line-form n l m) ≡ true
-  all-ranged = lines-in-range kind nodes (things line-form n l m) (lines-packed kind nodes n p l m g .all)
+  all-ranged : every (in-range (frame .nodes)) (things line-form n l m) ≡ true
+  all-ranged = lines-in-range frame (things line-form n l m) (lines-packed frame n p l m g .all)
 
-  pub seek-starts : Seeking kind nodes n l m raw demangled (10 * nodes) n 0 0
+  pub seek-starts : Seeking frame n l m raw demangled (10 * frame .nodes) n 0 0
   seek-starts = record {
     within = omega arith;
     place = omega arith;
-    leads = subst (λ (k : ℕ). Leading nodes asked xs 0 (10 * nodes) k) (lines-count kind nodes n p l m g) (leading-starts nodes asked xs);
+    leads = subst (λ (k : ℕ). Leading (frame .nodes) asked xs 0 (10 * frame .nodes) k) (lines-count frame n p l m g) (leading-starts (frame .nodes) asked xs);
   }
 
-  module _ (best line i at : ℕ) (z : Seeking kind nodes n l m raw demangled best line i at) where
-    pub seek-row : i < n → Row kind nodes n l m i at
-    seek-row h = row-at kind nodes n p l m g i at (z .place) h
+  module _ (best line i at : ℕ) (z : Seeking frame n l m raw demangled best line i at) where
+    pub seek-row : i < n → Row frame n l m i at
+    seek-row h = row-at frame n p l m g i at (z .place) h
 
-    module _ (h : i < n) (r : ℕ) (q : r ≡ rank nodes (line-of (getD l at 0) (getD l (at + 1) 0) [])) where
-      seen-rank : r ≡ rank nodes (line-at xs i)
+    module _ (h : i < n) (r : ℕ) (q : r ≡ rank (frame .nodes) (line-of (getD l at 0) (getD l (at + 1) 0) [])) where
+      seen-rank : r ≡ rank (frame .nodes) (line-at xs i)
       seen-rank =
-          q ∙ same-rank nodes (getD l at 0) (getD l (at + 1) 0) (line-at xs i .bytes)
-          ∙ ap (rank nodes) (sym (row-line kind nodes n l m i at (seek-row h)))
+          q ∙ same-rank (frame .nodes) (getD l at 0) (getD l (at + 1) 0) (line-at xs i .bytes)
+          ∙ ap (rank (frame .nodes)) (sym (row-line frame n l m i at (seek-row h)))
 
       -- the line's rank is no better: it is not matched
-      pub seek-behind : best ≤ r → Seeking kind nodes n l m raw demangled best line (i + 1) (at + 4)
+      pub seek-behind : best ≤ r → Seeking frame n l m raw demangled best line (i + 1) (at + 4)
       seek-behind k = record {
         within = omega arith;
         place = omega (arith, z .place);
-        leads = leading-behind nodes asked xs i best line (z .leads) (omega (arith, seen-rank));
+        leads = leading-behind (frame .nodes) asked xs i best line (z .leads) (omega (arith, seen-rank));
       }
 
-      module _ (e : Edition) (d : e ≡ edition-of kind) (v : Bool)
+      module _ (e : Edition) (d : e ≡ edition-of frame) (v : Bool)
           (y : v ≡ line-matches e (name-of raw demangled)
           (line-of 0 (getD l (at + 1) 0) (take (getD l (at + 2) 0 + getD l (at + 3) 0 - getD l (at + 2) 0) (drop (getD l (at + 2) 0) m)))) where
         seen-match : v ≡ asked (line-at xs i)
         seen-match =
-            y ∙ ap₂ (λ (u : Edition) (bs : List ℕ). line-matches u (name-of raw demangled) (line-of 0 (getD l (at + 1) 0) bs)) d (row-bytes kind nodes n l m i at (seek-row h))
-            ∙ same-match (edition-of kind) raw demangled (getD l at 0) (getD l (at + 1) 0) (line-at xs i .bytes)
-            ∙ ap asked (sym (row-line kind nodes n l m i at (seek-row h)))
+            y ∙ ap₂ (λ (u : Edition) (bs : List ℕ). line-matches u (name-of raw demangled) (line-of 0 (getD l (at + 1) 0) bs)) d (row-bytes frame n l m i at (seek-row h))
+            ∙ same-match (edition-of frame) raw demangled (getD l at 0) (getD l (at + 1) 0) (line-at xs i .bytes)
+            ∙ ap asked (sym (row-line frame n l m i at (seek-row h)))
 
         -- it is better, and matches
-        pub seek-better : r < best → v ≡ true → Seeking kind nodes n l m raw demangled r i (i + 1) (at + 4)
+        pub seek-better : r < best → v ≡ true → Seeking frame n l m raw demangled r i (i + 1) (at + 4)
         seek-better k t = record {
           within = omega arith;
           place = omega (arith, z .place);
-          leads = leading-better nodes asked xs i best line (z .leads) r seen-rank k (sym seen-match ∙ t);
+          leads = leading-better (frame .nodes) asked xs i best line (z .leads) r seen-rank k (sym seen-match ∙ t);
         }
 
         -- it does not match
-        pub seek-other : v ≡ false → Seeking kind nodes n l m raw demangled best line (i + 1) (at + 4)
+        pub seek-other : v ≡ false → Seeking frame n l m raw demangled best line (i + 1) (at + 4)
         seek-other t = record {
           within = omega arith;
           place = omega (arith, z .place);
-          leads = leading-other nodes asked xs i best line (z .leads) (sym seen-match ∙ t);
+          leads = leading-other (frame .nodes) asked xs i best line (z .leads) (sym seen-match ∙ t);
         }
 
     -- all rows are passed
     module _ (h : n ≤ i) where
-      all-passed : Leading nodes asked xs (length xs) best line
-      all-passed = subst (λ (k : ℕ). Leading nodes asked xs k best line) (omega (arith, z .within, lines-count kind nodes n p l m g)) (z .leads)
+      all-passed : Leading (frame .nodes) asked xs (length xs) best line
+      all-passed = subst (λ (k : ℕ). Leading (frame .nodes) asked xs k best line) (omega (arith, z .within, lines-count frame n p l m g)) (z .leads)
 
-      pub seek-nothing : line ≡ n → answer.Nothing ≡ decided (walk asked (stages nodes) xs)
-      seek-nothing e = leading-nothing nodes asked xs best line all-passed all-ranged (e ∙ sym (lines-count kind nodes n p l m g))
+      pub seek-nothing : line ≡ n → answer.Nothing ≡ decided (walk asked (stages (frame .nodes)) xs)
+      seek-nothing e = leading-nothing (frame .nodes) asked xs best line all-passed all-ranged (e ∙ sym (lines-count frame n p l m g))
 
-      pub seek-line : (line ≡ n → ⊥) → answer.Line line ≡ decided (walk asked (stages nodes) xs)
-      seek-line f = leading-line nodes asked xs best line all-passed all-ranged (λ e. f (e ∙ lines-count kind nodes n p l m g))
+      pub seek-line : (line ≡ n → ⊥) → answer.Line line ≡ decided (walk asked (stages (frame .nodes)) xs)
+      seek-line f = leading-line (frame .nodes) asked xs best line all-passed all-ranged (λ e. f (e ∙ lines-count frame n p l m g))

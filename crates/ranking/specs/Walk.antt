@@ -10,10 +10,10 @@ use mathlib.Core.List.{List, [], _∷_, _++_}
 use mathlib.Core.Bool.{Bool, cond, _&&_}
 use mathlib.Core.Option.{Option, some, none}
 use lib.Dec.{eqb}
-use lib.ListN.{length}
 use Rattle.numbers.specs.Classes.{all-class, by-bytes, nonstar-class, star-class}
 use Rattle.numbers.specs.Marks.{cxx, general, global, local}
-use Rattle.book.specs.Books.{Line, Book, edition-of}
+use Rattle.book.specs.declared.Frame.{Frame}
+use Rattle.book.specs.Books.{Line, Book, book-frame, edition-of}
 use Rattle.ranking.specs.declared.Deciding.{Deciding}
 use Rattle.ranking.specs.declared.Deciding.the-variants as answer
 use Rattle.ranking.specs.Matching.{Name, line-matches}
@@ -60,12 +60,12 @@ unfoldable pub walk : (Line → Bool) → List Stage → List Line → Option �
 walk m [] ls = none
 walk m (t ∷ ts) ls = or-else (first-line (λ x. t x && m x) 0 ls) (walk m ts ls)
 
--- the number of the line that decides, of those that match at its stage the lowest: among the lines ls of a book of that kind with that many nodes
-abbrev pub deciding-among : ℕ → ℕ → Name → List Line → Option ℕ
-deciding-among kind nodes n ls = walk (line-matches (edition-of kind) n) (stages nodes) ls
+-- the number of the line that decides, of those that match at its stage the lowest: among the lines ls of a book with that frame
+abbrev pub deciding-among : Frame → Name → List Line → Option ℕ
+deciding-among f n ls = walk (line-matches (edition-of f) n) (stages (f .nodes)) ls
 
 unfoldable pub deciding : Name → Book → Option ℕ
-deciding n w = deciding-among (w .kind) (length (w .nodes)) n (w .lines)
+deciding n w = deciding-among (book-frame w) n (w .lines)
 
 -- as it is answered
 unfoldable pub decided : Option ℕ → Deciding

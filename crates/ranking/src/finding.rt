@@ -12,6 +12,7 @@ ghost use Rattle.ranking.specs.Matching.{class-matches, line-matches, na
 ghost use Rattle.ranking.specs.Walk.{decided, deciding-among};
 use crate::Deciding;
 use crate::rank_of;
+use book::Frame;
 use book::LINE_WIDTH;
 use book::STRUCK;
 use book::editions::edition_of;
@@ -48,10 +49,9 @@ fn line_matches(edition: Edition, code: u32, bytes: &[u8], raw: &[u8], demangled
     class_matches(edition, code % STRUCK / 4, bytes, raw)
 }
 
-// The deciding line among n lines, whose bytes end at p of the pool, in a book of that kind with that many nodes.
+// The deciding line among n lines, whose bytes end at p of the pool, in a book with that frame.
 pub fn find_match(
-    kind: u32,
-    nodes: u32,
+    frame: Frame,
     lines: &[u32],
     pool: &[u8],
     n: usize,
@@ -59,13 +59,13 @@ pub fn find_match(
     raw: &[u8],
     demangled: &[u8],
 ) -> Deciding
-    requires { ⌜ (packs line-form (line-ok kind nodes) n p (now lines) (now pool) ≡ true) × (nodes ≤ node-limit)
+    requires { ⌜ (packs line-form (line-ok frame) n p (now lines) (now pool) ≡ true) × (frame .nodes ≤ node-limit)
         × (length (now raw) ≤ name-limit) × (length (now demangled) ≤ name-limit) ⌝ }
-    ensures { λ r. ⌜ r ≡ decided (deciding-among kind nodes (name-of (now (raw .entry)) (now (demangled .entry)))
+    ensures { λ r. ⌜ r ≡ decided (deciding-among frame (name-of (now (raw .entry)) (now (demangled .entry)))
         (things line-form n (now (lines .entry)) (now (pool .entry)))) ⌝ }
 {
-    let edition = edition_of(kind);
-    let mut best = 10 * nodes;
+    let edition = edition_of(frame);
+    let mut best = 10 * frame.nodes;
     let mut line = n;
     let mut i = 0;
     let mut at = 0;
@@ -75,7 +75,7 @@ pub fn find_match(
         at += LINE_WIDTH;
         i += 1;
         let code = lines[here + 1];
-        let rank = rank_of(nodes, lines[here], code);
+        let rank = rank_of(frame.nodes, lines[here], code);
         if best <= rank {
             continue;
         }

@@ -17,7 +17,8 @@ use Rattle.packing.proofs.TableLaws.{every-append, packed-append}
 use Rattle.classes.specs.declared.Class.{Class}
 use Rattle.classes.specs.Classes.{class-number}
 use Rattle.storing.specs.Keeping.{kept, keep}
-use Rattle.book.specs.Books.{Book, Edit, Line, Node, add, edition-of, export, new-line, regular, rust}
+use Rattle.book.specs.declared.Frame.{Frame}
+use Rattle.book.specs.Books.{Book, Edit, Line, Node, add, book-frame, edition-of, export, new-line, regular, rust}
 use Rattle.book.specs.Layout.{Buffers, edit-width, line-form, line-width}
 use Rattle.book.specs.Sanity.{edit-ok, in-range, kind-allows, line-ok, nodes-good}
 use Rattle.book.specs.View.{Fits}
@@ -34,25 +35,25 @@ some-node [] e = absurd (true≢false (sym e))
 some-node (x ∷ xs) e = omega arith
 
 -- "local … in an export list" is refused
-module _ (kind : ℕ) (k : eqb kind rust ≡ false) where
-  allows : (x : Line) → (eqb kind export ≡ true → x .section ≡ global) → kind-allows kind x ≡ true
+module _ (frame : Frame) (k : eqb (frame .kind) rust ≡ false) where
+  allows : (x : Line) → (eqb (frame .kind) export ≡ true → x .section ≡ global) → kind-allows (frame .kind) x ≡ true
   unfolding kind-allows
-  allows x f = rw k (go (eqb kind export) f)
+  allows x f = rw k (go (eqb (frame .kind) export) f)
     where
       go : (v : Bool) → (v ≡ true → x .section ≡ global) → cond v (eqb (x .section) global) true ≡ true
       go true g = eq-eqb _ _ (g refl)
       go false g = refl
 
-  pub added-ok : (t : List ℕ) (c : Class) (bs : List ℕ) → keep (edition-of kind) t ≡ kept c bs → (nodes node section language : ℕ) → node < nodes
-      → section ≤ 1 → language ≤ 1 → (eqb kind export ≡ true → section ≡ global) → line-ok kind nodes (new-line node section language (class-number c) bs) ≡ true
+  pub added-ok : (t : List ℕ) (c : Class) (bs : List ℕ) → keep (edition-of frame) t ≡ kept c bs → (node section language : ℕ) → node < frame .nodes
+      → section ≤ 1 → language ≤ 1 → (eqb (frame .kind) export ≡ true → section ≡ global) → line-ok frame (new-line node section language (class-number c) bs) ≡ true
   unfolding line-ok
-  added-ok t c bs q nodes node section language i j l f =
+  added-ok t c bs q node section language i j l f =
       let x : Line = new-line node section language (class-number c) bs in
-      let h = both (in-range nodes x) _ (kept-line t c bs q nodes node section language i j l) in
+      let h = both (in-range (frame .nodes) x) _ (kept-line (frame .nodes) t c bs q node section language i j l) in
       rw (h .0, allows x f) (both (kind-allows regular x) _ (h .1) .1)
 
 -- ---- the book with it
-pub fits-line : (b : Buffers) (w : Book) → Fits b w → (x : Line) → line-ok (w .kind) (length (w .nodes)) x ≡ true → line-room b (w .lines) (x .bytes) ≡ true
+pub fits-line : (b : Buffers) (w : Book) → Fits b w → (x : Line) → line-ok (book-frame w) x ≡ true → line-room b (w .lines) (x .bytes) ≡ true
     → edit-room b (w .edits) ≡ true → Fits b (with-line w x)
 unfolding every packed line-form line-room edit-room edit-ok
 fits-line b w f x o r q =
@@ -75,6 +76,6 @@ fits-line b w f x o r q =
       few-lines = omega (arith, row-number (b .lines) (length ls) (a .0));
       few-bytes = omega (arith, p, room-limit (b .pool));
       few-edits = omega (arith, ltb-true (length (w .edits)) edit-limit (h .0));
-      lines-ok = every-append (line-ok (w .kind) (length (w .nodes))) ls (x ∷ []) (f .lines-ok) (rw o);
+      lines-ok = every-append (line-ok (book-frame w)) ls (x ∷ []) (f .lines-ok) (rw o);
       edits-ok = every-append edit-ok (w .edits) (e ∷ []) (f .edits-ok) refl;
     }

@@ -20,9 +20,9 @@ use Rattle.storing.specs.Keeping.{Keep, kept, refused, keep}
 use Rattle.reading_cursors.specs.declared.Event.{Event}
 use Rattle.reading_cursors.specs.declared.Event.the-variants.{Node, Body, Section, Extern, Closed, Line, Parent}
 use Rattle.book.specs.declared.Counts.{Counts}
-use Rattle.book.specs.Books.{Book, Edit, add, edition-of, new-line, rust}
+use Rattle.book.specs.Books.{Book, Edit, add, book-frame, edition-of, new-line, rust}
 use Rattle.book.specs.Books as book
-use Rattle.book.specs.Layout.{Buffers, edit-form, five, line-form}
+use Rattle.book.specs.Layout.{Buffers, edit-form, five, frame-of, line-form}
 use Rattle.book.specs.View.{Fits}
 use Rattle.book.proofs.Forms.{edit-laws, line-laws}
 use Rattle.book.proofs.Views.{Layout, Rooms}
@@ -72,7 +72,7 @@ module _ (b : Buffers) (w : Book) (k : eqb (w .kind) rust ≡ false) (h : 0 < le
   on-cond true v n f = f refl
   on-cond false v n f = tt
 
-  kept-on : (v : Book) → Grows b w v → (language : ℕ) → language ≤ 1 → (t : List ℕ) (K : Keep) → keep (edition-of (v .kind)) t ≡ K
+  kept-on : (v : Book) → Grows b w v → (language : ℕ) → language ≤ 1 → (t : List ℕ) (K : Keep) → keep (edition-of (book-frame v)) t ≡ K
       → On (append-kept b v 0 global language K)
   unfolding append-kept
   kept-on v g language l t (refused n) q = tt
@@ -87,7 +87,7 @@ module _ (b : Buffers) (w : Book) (k : eqb (w .kind) rust ≡ false) (h : 0 < le
           record {
             grown = grown-line w v (g .grown) x;
             fits = fits-line b v (g .fits) x
-                (added-ok (v .kind) j t c bs q (length (v .nodes)) 0 global language i (omega arith) l (λ _. refl)) (p .0) (p .1);
+                (added-ok (book-frame v) j t c bs q 0 global language i (omega arith) l (λ _. refl)) (p .0) (p .1);
           }
 
   event-on : (v : Book) → Grows b w v → (x : Event) → Lies s x → On (add-event b s v x)
@@ -97,7 +97,7 @@ module _ (b : Buffers) (w : Book) (k : eqb (w .kind) rust ≡ false) (h : 0 < le
   event-on v g (Section section) l = g
   event-on v g (Extern section language) l = g
   event-on v g Closed l = g
-  event-on v g (Line section language p n) l = kept-on v g language (l .1) (part s p n) (keep (edition-of (v .kind)) (part s p n)) refl
+  event-on v g (Line section language p n) l = kept-on v g language (l .1) (part s p n) (keep (edition-of (book-frame v)) (part s p n)) refl
   event-on v g (Parent p n) l = g
 
   pub event-grows : (v : Book) → Grows b w v → (x : Event) → Lies s x → (u : Book) → add-event b s v x ≡ to u → Grows b w u
@@ -149,9 +149,9 @@ module _ (c k : Counts) (n m l q j l′ q′ j′ : List ℕ) (w v : Book) (t : 
   pub back-asks : Reaches c k l′ q′ j′
   unfolding line-form edit-form
   back-asks =
-      let a = fewer-rows line-form (line-laws (c .kind) (c .nodes)) (c .lines) (c .pool) (k .lines) (k .pool) l q l′ q′
+      let a = fewer-rows line-form (line-laws (frame-of c)) (c .lines) (c .pool) (k .lines) (k .pool) l q l′ q′
       (w .lines) (v .lines) (g .more) (t .lines) (u .lines) (g .lines) in
-      let b = fewer-bytes line-form (line-laws (c .kind) (c .nodes)) (c .lines) (c .pool) (k .lines) (k .pool) l q l′ q′
+      let b = fewer-bytes line-form (line-laws (frame-of c)) (c .lines) (c .pool) (k .lines) (k .pool) l q l′ q′
       (w .lines) (v .lines) (g .more) (t .lines) (u .lines) (g .lines) in
       let d = fewer-rows edit-form edit-laws (c .edits) 0 (k .edits) 0 j [] j′ [] (w .edits) (v .edits) (g .done) (t .edits) (u .edits) (g .edits) in
       (omega (arith, a), u .lines .rowroom, b, u .lines .byteroom, omega (arith, d), u .edits .rowroom)
@@ -160,9 +160,9 @@ module _ (c k : Counts) (n m l q j l′ q′ j′ : List ℕ) (w v : Book) (t : 
   pub taken-back : Rooms (five n m l′ q′ j′) (five n m l q j) → (l″ q″ j″ : List ℕ) → Clears c k l′ q′ j′ l″ q″ j″ → five n m l″ q″ j″ ≡ five n m l q j
   unfolding line-form edit-form
   taken-back r l″ q″ j″ a =
-      let x = rows-back line-form (line-laws (c .kind) (c .nodes)) (c .lines) (c .pool) (k .lines) (k .pool) l q l′ q′
+      let x = rows-back line-form (line-laws (frame-of c)) (c .lines) (c .pool) (k .lines) (k .pool) l q l′ q′
       (w .lines) (v .lines) (g .more) (t .lines) (u .lines) (g .lines) (r .lines) l″ (a .0) in
-      let y = bytes-back line-form (line-laws (c .kind) (c .nodes)) (c .lines) (c .pool) (k .lines) (k .pool) l q l′ q′
+      let y = bytes-back line-form (line-laws (frame-of c)) (c .lines) (c .pool) (k .lines) (k .pool) l q l′ q′
       (w .lines) (v .lines) (g .more) (t .lines) (u .lines) (g .lines) (r .pool) q″ (a .1) in
       let z = rows-back edit-form edit-laws (c .edits) 0 (k .edits) 0 j [] j′ []
       (w .edits) (v .edits) (g .done) (t .edits) (u .edits) (g .edits) (r .journal) j″ (a .2) in

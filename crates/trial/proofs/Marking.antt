@@ -7,15 +7,16 @@ use lib.Dec.{leb, ltb}
 use Rattle.numbers.specs.Classes.{all-class}
 use Rattle.numbers.specs.Marks.{local}
 use Rattle.lists.proofs.Tests.{both}
+use Rattle.book.specs.declared.Frame.{Frame}
 use Rattle.book.specs.Books.{Line}
 use Rattle.book.specs.Edits.{marked}
 use Rattle.book.specs.Sanity.{content-good, in-range, kind-allows, line-ok}
 
-pub marked-ok : (kind nodes mark : ℕ) (x : Line) → mark ≤ 1 → line-ok kind nodes x ≡ true → line-ok kind nodes (marked mark x) ≡ true
+pub marked-ok : (frame : Frame) (mark : ℕ) (x : Line) → mark ≤ 1 → line-ok frame x ≡ true → line-ok frame (marked mark x) ≡ true
 unfolding line-ok in-range kind-allows content-good
-marked-ok kind nodes mark x h g =
-    let a = both (in-range nodes x) _ g in
-    let b = both (ltb (x .node) nodes) _ (a .0) in
+marked-ok frame mark x h g =
+    let a = both (in-range (frame .nodes) x) _ g in
+    let b = both (ltb (x .node) (frame .nodes)) _ (a .0) in
     let c = both (leb (x .class) all-class) _ (b .1) in
     let d = both (leb (x .section) local) _ (c .1) in
     let e = both (leb (x .language) 1) _ (d .1) in

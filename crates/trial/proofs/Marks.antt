@@ -10,7 +10,7 @@ use Rattle.packing.proofs.Packings.{row-cell}
 use Rattle.book.specs.declared.Counts.{Counts}
 use Rattle.book.specs.Books.{Book, no-line}
 use Rattle.book.specs.Edits.{line-at, stands}
-use Rattle.book.specs.Layout.{Buffers, code-of, line-form, line-width, struck-mark}
+use Rattle.book.specs.Layout.{Buffers, code-of, frame-of, line-form, line-width, struck-mark}
 use Rattle.book.specs.Sanity.{line-ok}
 use Rattle.book.proofs.Forms.{Ranged, line-laws, ranged}
 use Rattle.book.proofs.LineRows.{line-in-range}
@@ -24,14 +24,14 @@ module _ (c : Counts) (b : Buffers) (w : Book) (t : Layout c b w) (i : ℕ) (h :
   pub line-code : getD (b .lines) (line-width * i + 1) 0 ≡ code-of (line-at (w .lines) i)
   unfolding line-form
   line-code =
-      row-cell line-form (line-laws (c .kind) (c .nodes)) (c .lines) (c .pool) (b .lines) (b .pool) (w .lines) (t .lines) i no-line
+      row-cell line-form (line-laws (frame-of c)) (c .lines) (c .pool) (b .lines) (b .pool) (w .lines) (t .lines) i no-line
       line-within 1 (omega arith)
 
-  pub line-right : line-ok (c .kind) (c .nodes) (line-at (w .lines) i) ≡ true
-  line-right = every-at (line-ok (c .kind) (c .nodes)) (w .lines) i no-line (t .lines .all) line-within
+  pub line-right : line-ok (frame-of c) (line-at (w .lines) i) ≡ true
+  line-right = every-at (line-ok (frame-of c)) (w .lines) i no-line (t .lines .all) line-within
 
   pub line-ranged : Ranged (c .nodes) (line-at (w .lines) i)
-  line-ranged = ranged (c .nodes) _ (line-in-range (c .kind) (c .nodes) _ line-right)
+  line-ranged = ranged (c .nodes) _ (line-in-range (frame-of c) _ line-right)
 
   pub line-room : line-width * i + line-width ≤ length (b .lines)
   unfolding line-form

@@ -7,7 +7,7 @@ use Rattle.numbers.specs.Marks.{global}
 use Rattle.storing.specs.Keeping.{Keep, kept, refused, keep}
 use Rattle.reading_cursors.specs.declared.Event.{Event}
 use Rattle.reading_cursors.specs.declared.Event.the-variants.{Node, Body, Section, Extern, Closed, Line, Parent}
-use Rattle.book.specs.Books.{Book, Edit, edition-of}
+use Rattle.book.specs.Books.{Book, Edit, book-frame, edition-of}
 use Rattle.book.specs.Books as book
 use Rattle.book.specs.Layout.{Buffers}
 use Rattle.book.proofs.Views.{Rooms}
@@ -36,5 +36,5 @@ module _ (a b : Buffers) (e : Rooms a b) where
   event-same s w (Section section) = refl
   event-same s w (Extern section language) = refl
   event-same s w Closed = refl
-  event-same s w (Line section language p n) = kept-same w 0 global language (keep (edition-of (w .kind)) (part s p n))
+  event-same s w (Line section language p n) = kept-same w 0 global language (keep (edition-of (book-frame w)) (part s p n))
   event-same s w (Parent p n) = refl

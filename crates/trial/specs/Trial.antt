@@ -11,7 +11,7 @@ use Rattle.linker_script.specs.Trim.{trim-end}
 use Rattle.lists.specs.Each.{every}
 use Rattle.classes.specs.Classes.{class-number}
 use Rattle.storing.specs.Keeping.{Keep, keep, kept-where}
-use Rattle.book.specs.Books.{Book, Edit, Line, add, edition-of, export, new-line, no-edits, rust, strike, with-lines}
+use Rattle.book.specs.Books.{Book, Edit, Line, add, book-frame, edition-of, export, new-line, no-edits, rust, strike, with-lines}
 use Rattle.book.specs.Edits.{line-at, marked-at, stands, take-back}
 use Rattle.book.specs.Layout.{Buffers}
 use Rattle.book_rooms.specs.Rooms.{edit-room, line-room}
@@ -48,7 +48,7 @@ unplaced x = kept-where (λ bs. false) (λ k bs. 0) (λ n. n) x
 
 -- a trimmed token: "its 1, 5, 6, 8, in this order"
 unfoldable pub append : Buffers → Book → ℕ → ℕ → ℕ → List ℕ → Change
-append b w node section language t = append-kept b w node section language (keep (edition-of (w .kind)) t)
+append b w node section language t = append-kept b w node section language (keep (edition-of (book-frame w)) t)
 
 -- "Order: 14, 13, 11, 12, 1, …": "add or strike on Rust kind" is 13
 unfoldable pub add-asked : Buffers → Option Book → ℕ → ℕ → ℕ → List ℕ → Change

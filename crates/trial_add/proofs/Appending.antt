@@ -20,6 +20,7 @@ use Rattle.storing.specs.Answers.{keep-answer}
 use Rattle.classes.specs.Classes.{class-number}
 use Rattle.storing.specs.Keeping.{Keep, kept, refused, keep}
 use Rattle.book.specs.declared.Counts.{Counts}
+use Rattle.book.specs.declared.Frame.{Frame}
 use Rattle.book.specs.Books.{Book, Line, add, edition-of, new-line}
 use Rattle.book.specs.Layout.{
   Buffers,
@@ -29,6 +30,7 @@ use Rattle.book.specs.Layout.{
   edit-form,
   edit-width,
   five,
+  frame-of,
   laid-out,
   line-form,
   line-width,
@@ -49,14 +51,14 @@ use Rattle.trial.specs.Trial.{append, append-kept, unplaced, with-line}
 use Rattle.trial_add.proofs.Laying.{bytes-laid, bytes-more, row-laid}
 
 -- ---- what refuses a token that has no row: r is what `store_token` answers with no room at all
-module _ (x : Edition) (kind : ℕ) (t : List ℕ) (y : x ≡ edition-of kind) (r : Stored) (u : r ≡ keep-answer (keep x t) 0) where
+module _ (x : Edition) (frame : Frame) (t : List ℕ) (y : x ≡ edition-of frame) (r : Stored) (u : r ≡ keep-answer (keep x t) 0) where
   told : (K : Keep) (i : ℕ) → r ≡ keep-answer K 0 → r ≡ stored.Refused i → i ≡ unplaced K
   unfolding keep-answer
   told (refused n) i v z = cc
   told (kept k []) i v z = let a : _≡_ {A = ℕ} 0 1 = cc in absurd (omega arith)
   told (kept k (b ∷ bs)) i v z = let w : r ≡ stored.Refused no-room = v ∙ rw (lt-leb (length (b ∷ bs)) 0 (omega arith)) in cc
 
-  pub unplaced-refused : (i : ℕ) → r ≡ stored.Refused i → i ≡ unplaced (keep (edition-of kind) t)
+  pub unplaced-refused : (i : ℕ) → r ≡ stored.Refused i → i ≡ unplaced (keep (edition-of frame) t)
   unplaced-refused i z = rw (← y) (told (keep x t) i u z)
 
   stored-told : (K : Keep) (k : Class) (i : ℕ) → r ≡ keep-answer K 0 → r ≡ As k i → no-room ≡ unplaced K
@@ -64,7 +66,7 @@ module _ (x : Edition) (kind : ℕ) (t : List ℕ) (y : x ≡ edition-of kind) (
   stored-told (refused n) k i v z = let a : _≡_ {A = ℕ} 0 1 = cc in absurd (omega arith)
   stored-told (kept j bs) k i v z = refl
 
-  pub unplaced-stored : (k : Class) (i : ℕ) → r ≡ As k i → no-room ≡ unplaced (keep (edition-of kind) t)
+  pub unplaced-stored : (k : Class) (i : ℕ) → r ≡ As k i → no-room ≡ unplaced (keep (edition-of frame) t)
   unplaced-stored k i z = rw (← y) (stored-told (keep x t) k i u z)
 
 and-false : (x : Bool) → (x && false) ≡ false
@@ -92,11 +94,11 @@ module _ {c : Counts} {b : Buffers} (layout : Layout c b (book-of c b)) where
     abbrev Appends : Edited → Buffers → Type 0
     Appends = Makes c b (λ b w. append b w node section language t)
 
-    append-is : append b book node section language t ≡ change (keep (edition-of (c .kind)) t)
+    append-is : append b book node section language t ≡ change (keep (edition-of (frame-of c)) t)
     unfolding append
     append-is = refl
 
-    made-no : (K : Keep) (i : ℕ) → K ≡ keep (edition-of (c .kind)) t → change K ≡ says-no i → Appends (answer.Refused i) b
+    made-no : (K : Keep) (i : ℕ) → K ≡ keep (edition-of (frame-of c)) t → change K ≡ says-no i → Appends (answer.Refused i) b
     unfolding edited after
     made-no K i k e = rw (append-is, ← k, e) (refl, refl)
 
@@ -111,12 +113,12 @@ module _ {c : Counts} {b : Buffers} (layout : Layout c b (book-of c b)) where
     editless (kept k bs) f = rw (edit-room-is b (book .edits) (c .edits) (layout .edits .count), f, and-false (line-room b (book .lines) bs))
     editless (refused i) f = refl
 
-    module _ (i : ℕ) (e : i ≡ unplaced (keep (edition-of (c .kind)) t)) where
+    module _ (i : ℕ) (e : i ≡ unplaced (keep (edition-of (frame-of c)) t)) where
       pub append-rowless : fits-row (b .lines) (c .lines) ≡ false → Appends (answer.Refused i) b
-      append-rowless f = made-no (keep (edition-of (c .kind)) t) i refl (rowless (keep (edition-of (c .kind)) t) f ∙ ap says-no (sym e))
+      append-rowless f = made-no (keep (edition-of (frame-of c)) t) i refl (rowless (keep (edition-of (frame-of c)) t) f ∙ ap says-no (sym e))
 
       pub append-editless : edit-row (b .journal) (c .edits) ≡ false → Appends (answer.Refused i) b
-      append-editless f = made-no (keep (edition-of (c .kind)) t) i refl (editless (keep (edition-of (c .kind)) t) f ∙ ap says-no (sym e))
+      append-editless f = made-no (keep (edition-of (frame-of c)) t) i refl (editless (keep (edition-of (frame-of c)) t) f ∙ ap says-no (sym e))
 
     -- ---- s is what `put_token` answers, with the edition x that `edition_of` answered, and q′ the pool behind it
     poolless : (K : Keep) (i : ℕ) → Refused-as K (b .pool) (c .pool) i → change K ≡ says-no i
@@ -124,7 +126,7 @@ module _ {c : Counts} {b : Buffers} (layout : Layout c b (book-of c b)) where
     poolless (kept k bs) i v = rw (no-pool b (book .lines) (c .lines) (c .pool) (layout .lines .count) (layout .lines .total) bs (v .0), v .1)
     poolless (refused y) i v = ap says-no (sym v)
 
-    module _ (x : Edition) (y : x ≡ edition-of (c .kind)) (s : Stored) (q′ : List ℕ) (u : Put (keep x t) (b .pool) (c .pool) s q′) where
+    module _ (x : Edition) (y : x ≡ edition-of (frame-of c)) (s : Stored) (q′ : List ℕ) (u : Put (keep x t) (b .pool) (c .pool) s q′) where
       pub append-refused : (i : ℕ) → s ≡ stored.Refused i → Appends (answer.Refused i) (five (b .nodes) (b .names) (b .lines) q′ (b .journal))
       append-refused i z =
           let w = was-refused (keep x t) (b .pool) (c .pool) s q′ i pool-asked u z in
@@ -151,7 +153,7 @@ module _ {c : Counts} {b : Buffers} (layout : Layout c b (book-of c b)) where
         counts-more i z =
             let a : c .lines + 1 ≡ length (book .lines ++ line ∷ []) = omega (arith, layout .lines .count, length-append (book .lines) (line ∷ [])) in
             let d : c .pool + length bs ≡ length (packed line-form (book .lines ++ line ∷ []))
-            = bytes-more line-form (line-laws (c .kind) (c .nodes)) (c .lines) (c .pool) (b .lines) (b .pool) (book .lines) (layout .lines) line in
+            = bytes-more line-form (line-laws (frame-of c)) (c .lines) (c .pool) (b .lines) (b .pool) (book .lines) (layout .lines) line in
             let e : c .edits + 1 ≡ length (book .edits ++ record { what = add; line = length (book .lines) } ∷ [])
             = omega (arith, layout .edits .count, length-append (book .edits) (record { what = add; line = length (book .lines) } ∷ [])) in
             rw z (λ v. record {
@@ -172,9 +174,9 @@ module _ {c : Counts} {b : Buffers} (layout : Layout c b (book-of c b)) where
         unfolding laid-out line-form edit-form
         buffers-more i class code l′ j′ h z w u a p d =
             let e : code-of line ≡ code = omega arith in
-            let lines-laid = row-laid line-form (line-laws (c .kind) (c .nodes)) (c .lines) (c .pool) (b .lines) (b .pool) (book .lines) (layout .lines) line l′
+            let lines-laid = row-laid line-form (line-laws (frame-of c)) (c .lines) (c .pool) (b .lines) (b .pool) (book .lines) (layout .lines) line l′
             (omega (arith, row-within (b .lines) (c .lines) f)) (rw (e, ← z) a) in
-            let pool-laid = bytes-laid line-form (line-laws (c .kind) (c .nodes)) (c .lines) (c .pool) (b .lines) (b .pool) (book .lines) (layout .lines) line
+            let pool-laid = bytes-laid line-form (line-laws (frame-of c)) (c .lines) (c .pool) (b .lines) (b .pool) (book .lines) (layout .lines) line
             q′ (omega (arith, room-length (b .pool))) p in
             let journal-laid = row-laid edit-form edit-laws (c .edits) 0 (b .journal) [] (book .edits) (layout .edits)
             (record { what = add; line = length (book .lines) }) j′ (omega (arith, edit-within (b .journal) (c .edits) g)) (rw (← layout .lines .count) d) in

@@ -11,9 +11,11 @@ ghost use Rattle.trial.specs.Changes.{Makes};
 ghost use Rattle.trial.specs.Trial.{append, unplaced};
 use book::Counts;
 use book::EDIT_WIDTH;
+use book::Frame;
 use book::codes::code_of;
 use book::counts_with;
 use book::editions::edition_of;
+use book::frame_of;
 use book::rows::put_line;
 use book_rooms::has_edit;
 use book_rooms::has_row;
@@ -27,11 +29,11 @@ use trial::ADD;
 use trial::Edited;
 
 // What refuses a token that has no row: 1, 5 or 6, else 8.
-fn refusal_without_row(kind: u32, token: &[u8]) -> u32
-    ensures { λ r. ⌜ r ≡ unplaced (keep (edition-of kind) (now (token .entry))) ⌝ }
+fn refusal_without_row(frame: Frame, token: &[u8]) -> u32
+    ensures { λ r. ⌜ r ≡ unplaced (keep (edition-of frame) (now (token .entry))) ⌝ }
 {
     let mut nothing = [0u8; 1];
-    match store_token(edition_of(kind), token, &mut nothing[..0]) {
+    match store_token(edition_of(frame), token, &mut nothing[..0]) {
         Stored::Refused(no) => no,
         Stored::As(_, _) => NO_ROOM,
     }
@@ -56,15 +58,16 @@ pub fn append(
         (λ b w. append b w node section language (now (token .entry)))
         r (five (now (nodes .entry)) (now (names .entry)) (now (lines .exit)) (now (pool .exit)) (now (journal .exit))) ⌝ }
 {
+    let frame = frame_of(c);
     let n = c.lines as usize;
     let e = c.edits as usize;
     if !has_row(lines, n) {
-        return Edited::Refused(refusal_without_row(c.kind, token));
+        return Edited::Refused(refusal_without_row(frame, token));
     }
     if !has_edit(journal, e) {
-        return Edited::Refused(refusal_without_row(c.kind, token));
+        return Edited::Refused(refusal_without_row(frame, token));
     }
-    match put_token(edition_of(c.kind), token, c.pool as usize, pool) {
+    match put_token(edition_of(frame), token, c.pool as usize, pool) {
         Stored::Refused(no) => Edited::Refused(no),
         Stored::As(class, size) => {
             let code = code_of(class_number(class), section, language);

@@ -13,7 +13,7 @@ use Rattle.packing.proofs.TableLaws.{length-rows}
 use Rattle.packing.proofs.Packings.{is-packs}
 use Rattle.book.specs.declared.Counts.{Counts}
 use Rattle.book.specs.Edits.{stands}
-use Rattle.book.specs.Layout.{Buffers, counts-of, counts-with, edit-form, edit-width, five, laid-out, line-form, line-width}
+use Rattle.book.specs.Layout.{Buffers, counts-of, counts-with, edit-form, edit-width, five, frame-of, laid-out, line-form, line-width}
 use Rattle.book.specs.View.{book-of, laid}
 use Rattle.book.proofs.Forms.{edit-laws, line-laws}
 use Rattle.book.proofs.Views.{laid-buffers, laid-counts, laid-packs}
@@ -40,12 +40,11 @@ module _ (c : Counts) (b : Buffers) (g : laid c b ≡ true) where
   lines-asked =
       let t = laid-packs c b g in
       record {
-        kind = c .kind;
-        nodes = c .nodes;
+        frame = frame-of c;
         total = c .pool;
         few-lines = t .limits .lines;
         few-bytes = t .limits .pool;
-        lines = is-packs line-form (line-laws (c .kind) (c .nodes)) (c .lines) (c .pool) (b .lines) (b .pool) (book-of c b .lines) (t .lines) .0;
+        lines = is-packs line-form (line-laws (frame-of c)) (c .lines) (c .pool) (b .lines) (b .pool) (book-of c b .lines) (t .lines) .0;
       }
 
   -- none is struck, and nothing is changed

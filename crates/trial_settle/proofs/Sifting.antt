@@ -37,8 +37,8 @@ module _ (n : ℕ) (l₀ p₀ : List ℕ) where
   abbrev lines : List Line
   lines = things line-form n l₀ p₀
 
-  packing : (a : Packed n l₀ p₀) → Packs line-form (line-ok (a .kind) (a .nodes)) n (a .total) l₀ p₀ lines
-  packing a = lines-packed (a .kind) (a .nodes) n (a .total) l₀ p₀ (a .lines)
+  packing : (a : Packed n l₀ p₀) → Packs line-form (line-ok (a .frame)) n (a .total) l₀ p₀ lines
+  packing a = lines-packed (a .frame) n (a .total) l₀ p₀ (a .lines)
 
   sifting : (a : Packed n l₀ p₀) (l p : List ℕ) (i read j written : ℕ) → read ≤ a .total
       → Midway line-form lines (standing (take i lines)) l₀ p₀ l p i read j written → Sifting n l₀ p₀ l p i read j written
@@ -59,7 +59,7 @@ module _ (n : ℕ) (l₀ p₀ : List ℕ) where
   -- nothing is read at first
   pub sift-starts : Packed n l₀ p₀ → Sifting n l₀ p₀ l₀ p₀ 0 0 0 0
   unfolding standing
-  sift-starts a = sifting a l₀ p₀ 0 0 0 0 (omega arith) (midway-start line-form (line-laws (a .kind) (a .nodes)) n (a .total) l₀ p₀ lines (packing a))
+  sift-starts a = sifting a l₀ p₀ 0 0 0 0 (omega arith) (midway-start line-form (line-laws (a .frame)) n (a .total) l₀ p₀ lines (packing a))
 
   module _ (l p : List ℕ) (i read j written : ℕ) (s : Sifting n l₀ p₀ l p i read j written) where
     module _ (h : i < n) where
@@ -71,7 +71,7 @@ module _ (n : ℕ) (l₀ p₀ : List ℕ) where
       unfolding line-form
       cell-now v g =
           let a = s .asked in
-          midway-cell line-form (line-laws (a .kind) (a .nodes)) n (a .total) l₀ p₀ lines (packing a) _
+          midway-cell line-form (line-laws (a .frame)) n (a .total) l₀ p₀ lines (packing a) _
           l p i read j written (s .midway) no-line below v g
 
       node-now : getD l (line-width * i) 0 ≡ line-at lines i .node
@@ -90,13 +90,13 @@ module _ (n : ℕ) (l₀ p₀ : List ℕ) where
       unfolding line-form
       bytes-now =
           let a = s .asked in
-          midway-bytes line-form (line-laws (a .kind) (a .nodes)) n (a .total) l₀ p₀ lines (packing a) _ l p i read j written (s .midway) no-line below
+          midway-bytes line-form (line-laws (a .frame)) n (a .total) l₀ p₀ lines (packing a) _ l p i read j written (s .midway) no-line below
 
-      line-ranged : Ranged (s .asked .nodes) (line-at lines i)
+      line-ranged : Ranged (s .asked .frame .nodes) (line-at lines i)
       line-ranged =
           let a = s .asked in
-          ranged (a .nodes) (line-at lines i)
-          (line-in-range (a .kind) (a .nodes) (line-at lines i) (every-at (line-ok (a .kind) (a .nodes)) lines i no-line (packing a .all) below))
+          ranged (a .frame .nodes) (line-at lines i)
+          (line-in-range (a .frame) (line-at lines i) (every-at (line-ok (a .frame)) lines i no-line (packing a .all) below))
 
       -- its bytes end within those of all
       pub sift-fits : read + getD l (line-width * i + 3) 0 ≤ s .asked .total
@@ -104,7 +104,7 @@ module _ (n : ℕ) (l₀ p₀ : List ℕ) where
       sift-fits =
           let a = s .asked in
           let w : read + length (line-at lines i .bytes) ≤ a .total
-          = midway-within line-form (line-laws (a .kind) (a .nodes)) n (a .total) l₀ p₀ lines (packing a) _
+          = midway-within line-form (line-laws (a .frame)) n (a .total) l₀ p₀ lines (packing a) _
           l p i read j written (s .midway) no-line below in
           omega (arith, size-now)
 
@@ -119,7 +119,7 @@ module _ (n : ℕ) (l₀ p₀ : List ℕ) where
           let e : standing (take (i + 1) lines) ≡ standing (take i lines) = standing-struck lines i below (ne-eqb (line-at lines i .struck) 0 f) in
           sifting a l p (i + 1) (read + getD l (line-width * i + 3) 0) j written sift-fits
           (rw (e, size-now)
-          (midway-skip line-form (line-laws (a .kind) (a .nodes)) n (a .total) l₀ p₀ lines (packing a) _ l p i read j written (s .midway) no-line below))
+          (midway-skip line-form (line-laws (a .frame)) n (a .total) l₀ p₀ lines (packing a) _ l p i read j written (s .midway) no-line below))
 
       -- a line that stands is packed
       pub sift-keeps : (l′ p′ : List ℕ) (u : Bool) → u ≡ has-mark (getD l (line-width * i + 1) 0) → u ≡ false
@@ -142,7 +142,7 @@ module _ (n : ℕ) (l₀ p₀ : List ℕ) where
           ∙ ap (λ (b : List ℕ). paste p written b (length (x .bytes))) bytes-now in
           sifting a l′ p′ (i + 1) (read + getD l (line-width * i + 3) 0) (j + 1) (written + getD l (line-width * i + 3) 0) sift-fits
           (rw (e, size-now)
-          (midway-keep line-form (line-laws (a .kind) (a .nodes)) n (a .total) l₀ p₀ lines (packing a) (standing (take i lines))
+          (midway-keep line-form (line-laws (a .frame)) n (a .total) l₀ p₀ lines (packing a) (standing (take i lines))
           l p i read j written (s .midway) no-line below l′ p′ el′ ep′))
 
     -- all are read: ys and zs are what the cleared parts hold
@@ -160,8 +160,8 @@ module _ (n : ℕ) (l₀ p₀ : List ℕ) where
         record {
           lines = s .midway .count ∙ ap (λ (q : List Line). length (standing q)) t;
           pool = s .midway .total ∙ ap (λ (q : List Line). length (packed line-form (standing q))) t;
-          lined = midway-rows line-form (line-laws (a .kind) (a .nodes)) n (a .total) l₀ p₀ lines (packing a) _ l p i read j written (s .midway) e ys el
+          lined = midway-rows line-form (line-laws (a .frame)) n (a .total) l₀ p₀ lines (packing a) _ l p i read j written (s .midway) e ys el
               ∙ ap (λ (q : List Line). pad (length l₀) (rows line-form 0 (standing q))) t;
-          pooled = midway-packed line-form (line-laws (a .kind) (a .nodes)) n (a .total) l₀ p₀ lines (packing a) _ l p i read j written (s .midway) e zs ep
+          pooled = midway-packed line-form (line-laws (a .frame)) n (a .total) l₀ p₀ lines (packing a) _ l p i read j written (s .midway) e zs ep
               ∙ ap (λ (q : List Line). pad (length p₀) (packed line-form (standing q))) t;
         }

@@ -7,6 +7,7 @@ use lib.ListN.{length}
 use Rattle.numbers.specs.Limits.{line-limit, pool-limit}
 use Rattle.packing.specs.Padding.{pad}
 use Rattle.packing.specs.Tables.{packed, packs, rows, things}
+use Rattle.book.specs.declared.Frame.{Frame}
 use Rattle.book.specs.Layout.{line-form}
 use Rattle.book.specs.Sanity.{line-ok}
 use Rattle.trial.specs.Trial.{standing}
@@ -14,12 +15,11 @@ use Rattle.trial_settle.specs.declared.settling.Standing.{Standing}
 
 -- n rows in l and their bytes in p are the lines of some book
 pub record Packed (n : ℕ) (l p : List ℕ) : Type 0 where
-  pub kind : ℕ
-  pub nodes : ℕ
+  pub frame : Frame
   pub total : ℕ
   pub few-lines : n ≤ line-limit
   pub few-bytes : total ≤ pool-limit
-  pub lines : packs line-form (line-ok kind nodes) n total l p ≡ true
+  pub lines : packs line-form (line-ok frame) n total l p ≡ true
 
 -- l′ and p′ hold those of them that stand, and r counts them: "packs and renumbers the rest in order"
 pub record Settled (n : ℕ) (l p l′ p′ : List ℕ) (r : Standing) : Type 0 where

@@ -14,7 +14,7 @@ use Rattle.packing.proofs.Packings.{put-thing, set-thing}
 use Rattle.book.specs.declared.Counts.{Counts}
 use Rattle.book.specs.Books.{Book, no-line, rust, strike}
 use Rattle.book.specs.Edits.{line-at, marked}
-use Rattle.book.specs.Layout.{Buffers, code-of, counts-with, edit-form, edit-width, five, has-mark, line-form, line-width, row-of-line, struck-mark}
+use Rattle.book.specs.Layout.{Buffers, code-of, counts-with, edit-form, edit-width, five, frame-of, has-mark, line-form, line-width, row-of-line, struck-mark}
 use Rattle.book.specs.Sanity.{edit-ok}
 use Rattle.book.specs.View.{book-of, holds, view}
 use Rattle.book.proofs.Asking.{asked-none}
@@ -68,9 +68,9 @@ module _ (c : Counts) (b : Buffers) (w : Book) (t : Layout c b w) (i : ℕ) wher
                 edits = omega (arith, edit-refusal (b .journal) (c .edits) f);
               };
               nodes = t .nodes;
-              lines = set-thing line-form (line-laws (c .kind) (c .nodes)) (c .lines) (c .pool) (b .lines) (b .pool) (w .lines) (t .lines) i no-line
+              lines = set-thing line-form (line-laws (frame-of c)) (c .lines) (c .pool) (b .lines) (b .pool) (w .lines) (t .lines) i no-line
                   (line-within c b w t i h) 1 _
-                  (marked 1 x) l′ (omega arith) (marked-ok (c .kind) (c .nodes) 1 x (omega arith) (line-right c b w t i h)) refl
+                  (marked 1 x) l′ (omega arith) (marked-ok (frame-of c) 1 x (omega arith) (line-right c b w t i h)) refl
                   (λ o. ap (λ (k : ℕ). row-of-line (x .node) k o (length (x .bytes))) s) el;
               edits = put-thing edit-form edit-laws (c .edits) 0 (b .journal) [] (w .edits) (t .edits) (record { what = strike; line = i }) j′ [] refl
                   (omega (arith, edit-within (b .journal) (c .edits) f)) (omega arith) ej refl;

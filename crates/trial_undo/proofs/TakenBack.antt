@@ -18,7 +18,7 @@ use Rattle.packing.proofs.Packings.{Packs, packed-next, row-cell, set-thing, un
 use Rattle.book.specs.declared.Counts.{Counts}
 use Rattle.book.specs.Books.{Book, Edit, Line, add, no-line}
 use Rattle.book.specs.Edits.{add-back, all-back, all-stand, journal-fits, line-at, marked, stands, strike-back, take-back, then-back}
-use Rattle.book.specs.Layout.{Buffers, code-of, counts-with, edit-form, edit-width, five, line-form, line-width, row-of-line, struck-mark}
+use Rattle.book.specs.Layout.{Buffers, code-of, counts-with, edit-form, edit-width, five, frame-of, line-form, line-width, row-of-line, struck-mark}
 use Rattle.book.specs.Sanity.{edit-ok}
 use Rattle.book.specs.View.{book-of, holds, view}
 use Rattle.book.proofs.Asking.{asked-none}
@@ -154,13 +154,13 @@ module _ (c : Counts) (b : Buffers) (w : Book) (t : Layout c b w) (f : journal-f
     start-told : start-of (b .lines) i ≡ length (packed line-form (take i (w .lines)))
     unfolding line-form
     start-told =
-        row-cell line-form (line-laws (c .kind) (c .nodes)) (c .lines) (c .pool) (b .lines) (b .pool) (w .lines) (t .lines) i no-line
+        row-cell line-form (line-laws (frame-of c)) (c .lines) (c .pool) (b .lines) (b .pool) (w .lines) (t .lines) i no-line
         (line-within c b w t i added-at) 2 (omega arith)
 
     ends-told : c .pool ≡ start-of (b .lines) i + length (line-at (w .lines) i .bytes)
     unfolding line-form
     ends-told =
-        let k = packed-next line-form (line-laws (c .kind) (c .nodes)) (w .lines) i no-line (line-within c b w t i added-at) in
+        let k = packed-next line-form (line-laws (frame-of c)) (w .lines) i no-line (line-within c b w t i added-at) in
         let a : take (i + 1) (w .lines) ≡ w .lines = rw (← last-line .0) (take-length (w .lines)) in
         let n = ap (λ (xs : List Line). length (packed line-form xs)) a in
         omega (arith, t .lines .total, k, n, start-told)
@@ -185,7 +185,7 @@ module _ (c : Counts) (b : Buffers) (w : Book) (t : Layout c b w) (f : journal-f
             edits = omega (arith, t .limits .edits);
           };
           nodes = t .nodes;
-          lines = unput-thing line-form (line-laws (c .kind) (c .nodes)) (c .lines) (c .pool) (b .lines) (b .pool) (w .lines) (t .lines)
+          lines = unput-thing line-form (line-laws (frame-of c)) (c .lines) (c .pool) (b .lines) (b .pool) (w .lines) (t .lines)
               (line-at (w .lines) i) (c .lines - 1) s (take i (w .lines)) l′ p′ (last-apart (w .lines) i no-line (last-line .0))
               (sym q ∙ sym (length-take-le i (w .lines) (omega (arith, last-line .0)))) start-told
               (el ∙ ap (row-back (b .lines)) q) (ep ∙ ap (λ (m : ℕ). paste (b .pool) s (zeros m) m) k);
@@ -221,8 +221,8 @@ module _ (c : Counts) (b : Buffers) (w : Book) (t : Layout c b w) (f : journal-f
           kind = t .kind;
           limits = record { nodes = t .limits .nodes; lines = t .limits .lines; pool = t .limits .pool; edits = omega (arith, t .limits .edits) };
           nodes = t .nodes;
-          lines = set-thing line-form (line-laws (c .kind) (c .nodes)) (c .lines) (c .pool) (b .lines) (b .pool) (w .lines) (t .lines) i no-line
-              (struck-line .0) 1 _ (marked 0 x) l′ (omega arith) (marked-ok (c .kind) (c .nodes) 0 x (omega arith) (line-right c b w t i struck-at)) refl
+          lines = set-thing line-form (line-laws (frame-of c)) (c .lines) (c .pool) (b .lines) (b .pool) (w .lines) (t .lines) i no-line
+              (struck-line .0) 1 _ (marked 0 x) l′ (omega arith) (marked-ok (frame-of c) 0 x (omega arith) (line-right c b w t i struck-at)) refl
               (λ o. ap (λ (k : ℕ). row-of-line (x .node) k o (length (x .bytes))) s) el;
           edits = edits-behind j′ ej;
         }

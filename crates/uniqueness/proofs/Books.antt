@@ -4,6 +4,7 @@ use mathlib.Core.Path.{refl}
 use Rattle.uniqueness.specs.Unique.{Unique}
 use Rattle.uniqueness.proofs.Same.{_▹_, same}
 use Rattle.book.proofs.editions.edition_of
+use Rattle.book.proofs.frame_of
 use Rattle.book.proofs.nodes.first_named
 use Rattle.book_check.proofs.nodes.nodes_packed
 use Rattle.book_check.proofs.nodes.nodes_good
@@ -35,6 +36,9 @@ use Rattle.export_list.proofs.lookups.contains
 -- ---- book
 pub edition-of-unique : Unique edition_of.ended edition_of.Reads.Post
 edition-of-unique κs a x y v w p q = (same p q, refl)
+
+pub frame-of-unique : Unique frame_of.ended frame_of.Reads.Post
+frame-of-unique κs a x y v w p q = (same p q, refl)
 
 pub first-named-unique : Unique first_named.ended first_named.Reads.Post
 first-named-unique κs a x y v w p q = (same p q, refl)

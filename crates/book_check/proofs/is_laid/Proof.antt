@@ -16,6 +16,9 @@ nodes-packed-requires c κs = search needs
 returns-2 : tie.Need-returns-2
 returns-2 c = search nodes-fail
 
+frame-of-requires : tie.Need-frame-of-requires
+frame-of-requires c κs = search needs
+
 lines-packed-requires : tie.Need-lines-packed-requires
 lines-packed-requires c κs = search needs
 
@@ -36,6 +39,7 @@ is-laid-spec =
     returns
     nodes-packed-requires
     returns-2
+    frame-of-requires
     lines-packed-requires
     returns-3
     edits-packed-requires

@@ -11,6 +11,9 @@ use Rattle.book_building.proofs.Kept.{class-few}
 use Rattle.book_building.proofs.lines.take_line.Statement.{statement}
 use Rattle.book_building.proofs.lines.take_line.Tie as tie
 
+cast-t19 : tie.Need-cast-t19
+cast-t19 c = search needs
+
 edition-of-requires : tie.Need-edition-of-requires
 edition-of-requires c κs = search needs
 
@@ -35,10 +38,10 @@ same-length-2 c = search needs
 returns : tie.Need-returns
 returns c =
     let x = c .before .before .before .before .before .before .before .before in
-    let a = x .before .before .before .before .before .before .args in
+    let a = x .before .before .before .before .before .before .before .args in
     line-rowless (a .g) (a .p) (a .section) (a .language) (a .token .now) (a .lines .now) (a .pool .now)
     (x .before .before .edition-of .result) (x .before .before .edition-of .ensures) (x .put-token .result) _
-    (x .before .before .before .before .before .before .pre .0) (x .put-token .ensures)
+    (x .before .before .before .before .before .before .before .pre .0) (x .put-token .ensures)
     _ _ [] [] (c .before .before .before .before .class .given .1) (sym (c .before .has-row .ensures) ∙ not-true _ (c .if1 .taken))
 
 class-number-requires : tie.Need-class-number-requires
@@ -52,31 +55,31 @@ cast-node c = search needs
 
 code-of-requires : tie.Need-code-of-requires
 code-of-requires c κs =
-    let p = c .before .before .before .before .before .before .before .before .before .before .before .before .before .before .before .before .pre in
+    let p = c .before .before .before .before .before .before .before .before .before .before .before .before .before .before .before .before .before .pre in
     (omega (arith, c .before .class-number .ensures, class-few (c .before .before .before .before .before .before .class .given .0 .0)), p .3, p .4)
 
 cast-put-line : tie.Need-cast-put-line
 cast-put-line c =
     let x = c .before .before .before .before .before .before .before .before .before .before .before .before in
-    let a = x .before .before .before .before .before .before .args in
+    let a = x .before .before .before .before .before .before .before .args in
     omega (arith, room-limit (a .pool .now))
 
 cast-put-line-2 : tie.Need-cast-put-line-2
 cast-put-line-2 c =
     let x = c .before .before .before .before .before .before .before .before .before .before .before .before in
-    let a = x .before .before .before .before .before .before .args in
+    let a = x .before .before .before .before .before .before .before .args in
     omega (
       arith,
       line-ends (a .g) (a .p) (a .section) (a .language) (a .token .now) (a .lines .now) (a .pool .now)
           (x .before .before .edition-of .result) (x .before .before .edition-of .ensures) (x .put-token .result) _
-          (x .before .before .before .before .before .before .pre .0) (x .put-token .ensures)
+          (x .before .before .before .before .before .before .before .pre .0) (x .put-token .ensures)
           _ _ (c .before .before .before .before .before .before .before .before .class .given .1),
     )
 
 put-line-requires : tie.Need-put-line-requires
 put-line-requires c κs =
     let x = c .before .before .before .before .before .before .before .before .before .before .before .before in
-    let a = x .before .before .before .before .before .before .args in
+    let a = x .before .before .before .before .before .before .before .args in
     let i = c .before .before .before .before in
     let r = row-within (a .lines .now) (a .g .lines) (sym (i .before .has-row .ensures) ∙ not-false _ (i .if1 .left)) in
     omega arith
@@ -87,23 +90,23 @@ mixed-behind-requires c κs = search needs
 starred-behind-requires : tie.Need-starred-behind-requires
 starred-behind-requires c κs = search needs
 
-add-t27 : tie.Need-add-t27
-add-t27 c =
+add-t29 : tie.Need-add-t29
+add-t29 c =
     let x = c .before .before .before .before .before .before .before .before .before .before .before .before .before .before .before .before .before in
-    let a = x .before .before .before .before .before .before .args in
+    let a = x .before .before .before .before .before .before .before .args in
     let i = c .before .before .before .before .before .before .before .before .before in
     let r = row-number (a .lines .now) (a .g .lines) (sym (i .before .has-row .ensures) ∙ not-false _ (i .if1 .left)) in
     omega arith
 
-add-t33 : tie.Need-add-t33
-add-t33 c =
+add-t35 : tie.Need-add-t35
+add-t35 c =
     let x = c .before .before .before .before .before .before .before .before .before .before .before .before .before .before .before .before .before in
-    let a = x .before .before .before .before .before .before .args in
+    let a = x .before .before .before .before .before .before .before .args in
     omega (
       arith,
       line-ends (a .g) (a .p) (a .section) (a .language) (a .token .now) (a .lines .now) (a .pool .now)
           (x .before .before .edition-of .result) (x .before .before .edition-of .ensures) (x .put-token .result) _
-          (x .before .before .before .before .before .before .pre .0) (x .put-token .ensures)
+          (x .before .before .before .before .before .before .before .pre .0) (x .put-token .ensures)
           _ _ (c .before .before .before .before .before .before .before .before .before .before .before .before .before .class .given .1),
     )
 
@@ -113,10 +116,10 @@ same-length-3 c = search needs
 returns-2 : tie.Need-returns-2
 returns-2 c =
     let x = c .before .before .before .before .before in
-    let a = x .before .before .before .before .before .before .args in
+    let a = x .before .before .before .before .before .before .before .args in
     line-refused (a .g) (a .p) (a .section) (a .language) (a .token .now) (a .lines .now) (a .pool .now)
     (x .before .before .edition-of .result) (x .before .before .edition-of .ensures) (x .put-token .result) _
-    (x .before .before .before .before .before .before .pre .0) (x .put-token .ensures) _ [] [] (c .before .no .given .1)
+    (x .before .before .before .before .before .before .before .pre .0) (x .put-token .ensures) _ [] [] (c .before .no .given .1)
 
 same-length-4 : tie.Need-same-length-4
 same-length-4 c = search needs
@@ -127,11 +130,11 @@ same-length-5 c = search needs
 returns-3 : tie.Need-returns-3
 returns-3 c =
     let x = c .before .before .before .before .before .before .before .before .before .before .before .before .before .before .before .before .before in
-    let a = x .before .before .before .before .before .before .args in
+    let a = x .before .before .before .before .before .before .before .args in
     let i = c .before .before .before .before .before .before .before .before .before in
     line-added (a .g) (a .p) (a .section) (a .language) (a .token .now) (a .lines .now) (a .pool .now)
     (x .before .before .edition-of .result) (x .before .before .edition-of .ensures) (x .put-token .result) _
-    (x .before .before .before .before .before .before .pre .0) (x .put-token .ensures)
+    (x .before .before .before .before .before .before .before .pre .0) (x .put-token .ensures)
     _ _ _ _ _ _ _ (i .before .before .before .before .class .given .1) (sym (i .before .has-row .ensures) ∙ not-false _ (i .if1 .left)) (omega arith)
     (omega arith)
     (c .before .before .before .before .before .before .before .before .class-number .ensures)
@@ -142,6 +145,7 @@ pub take-line-spec : {M : Type 1} → statement M
 take-line-spec =
     tie.close
     (tie.spec
+    cast-t19
     edition-of-requires
     put-token-requires
     enum-known-no
@@ -159,8 +163,8 @@ take-line-spec =
     put-line-requires
     mixed-behind-requires
     starred-behind-requires
-    add-t27
-    add-t33
+    add-t29
+    add-t35
     same-length-3
     returns-2
     same-length-4

@@ -7,10 +7,10 @@ use Rattle.book_check.proofs.lines.line_rows.Statement.{statement}
 use Rattle.book_check.proofs.lines.line_rows.Tie as tie
 
 abbrev Inv-loop : tie.InvT-loop
-Inv-loop kind nodes lines pool n p i₀ at₀ o₀ i at o = Lined kind nodes lines pool n p i at o
+Inv-loop frame lines pool n p i₀ at₀ o₀ i at o = Lined frame lines pool n p i at o
 
 abbrev μ-loop : tie.MeasureT-loop
-μ-loop kind nodes lines pool n p i₀ at₀ o₀ i at o = n - i
+μ-loop frame lines pool n p i₀ at₀ o₀ i at o = n - i
 
 loop-holds : tie.Need-loop-holds Inv-loop μ-loop
 loop-holds c = search lines-start
@@ -93,7 +93,7 @@ loop-less c = search needs
 loop-again : tie.Need-loop-again Inv-loop μ-loop
 loop-again c =
     let w = c .before .before .before .before .before .before .before .before .before in
-    line-right _ _ _ _ _ _ _ _ _ (w .before .loop .inv) (w .before .before .before .before .pre .0) (w .loop-test .taken) (c .before .before .before .before .before .before .before .if1 .left)
+    line-right _ _ _ _ _ _ _ _ (w .before .loop .inv) (w .before .before .before .before .pre .0) (w .loop-test .taken) (c .before .before .before .before .before .before .before .if1 .left)
     (c .before .before .before .before .before .if2 .left) _ (c .before .line-good .ensures) (c .if3 .left)
 
 returns-4 : tie.Need-returns-4 Inv-loop μ-loop

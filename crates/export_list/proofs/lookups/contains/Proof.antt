@@ -19,6 +19,9 @@ name-refusal-requires c κs = search needs
 returns-3 : tie.Need-returns-3
 returns-3 c = search list-no-name
 
+frame-of-requires : tie.Need-frame-of-requires
+frame-of-requires c κs = search needs
+
 cast-find-match : tie.Need-cast-find-match
 cast-find-match c = search needs
 
@@ -26,7 +29,7 @@ cast-find-match-2 : tie.Need-cast-find-match-2
 cast-find-match-2 c = search needs
 
 find-match-requires : tie.Need-find-match-requires
-find-match-requires c κs = let d = c .before .before in asks-match _ _ _ _ _ _ _ _ _ (d .before .before .before .before .before .is-book .ensures) (d .before .before .before .before .if1 .left) (d .before .before .if2 .left) _ (d .before .name-refusal .ensures) (d .if3 .left)
+find-match-requires c κs = let d = c .before .before .before in asks-match _ _ _ _ _ _ _ _ _ (d .before .before .before .before .before .is-book .ensures) (d .before .before .before .before .if1 .left) (d .before .before .if2 .left) _ (d .before .name-refusal .ensures) (d .if3 .left) _ (c .before .before .frame-of .ensures)
 
 enum-told : tie.Need-enum-told
 enum-told c = search needs
@@ -35,10 +38,10 @@ enum-told-2 : tie.Need-enum-told-2
 enum-told-2 c = search needs
 
 returns-4 : tie.Need-returns-4
-returns-4 c = let d = c .before .before .before .before .before in list-without _ _ _ _ _ _ _ _ _ (d .before .before .before .before .before .is-book .ensures) (d .before .before .before .before .if1 .left) (d .before .before .if2 .left) _ (d .before .name-refusal .ensures) (d .if3 .left) _ (c .before .before .find-match .ensures) (c .enum-told .given .1)
+returns-4 c = let d = c .before .before .before .before .before .before in list-without _ _ _ _ _ _ _ _ _ (d .before .before .before .before .before .is-book .ensures) (d .before .before .before .before .if1 .left) (d .before .before .if2 .left) _ (d .before .name-refusal .ensures) (d .if3 .left) _ (c .before .before .before .before .before .frame-of .ensures) _ (c .before .before .find-match .ensures) (c .enum-told .given .1)
 
 returns-5 : tie.Need-returns-5
-returns-5 c = let d = c .before .before .before .before .before in list-within _ _ _ _ _ _ _ _ _ (d .before .before .before .before .before .is-book .ensures) (d .before .before .before .before .if1 .left) (d .before .before .if2 .left) _ (d .before .name-refusal .ensures) (d .if3 .left) _ (c .before .before .find-match .ensures) _ (c .enum-told2 .given .1)
+returns-5 c = let d = c .before .before .before .before .before .before in list-within _ _ _ _ _ _ _ _ _ (d .before .before .before .before .before .is-book .ensures) (d .before .before .before .before .if1 .left) (d .before .before .if2 .left) _ (d .before .name-refusal .ensures) (d .if3 .left) _ (c .before .before .before .before .before .frame-of .ensures) _ (c .before .before .find-match .ensures) _ (c .enum-told2 .given .1)
 
 pub contains-spec : {M : Type 1} → statement M
 contains-spec =
@@ -49,6 +52,7 @@ contains-spec =
     returns-2
     name-refusal-requires
     returns-3
+    frame-of-requires
     cast-find-match
     cast-find-match-2
     find-match-requires

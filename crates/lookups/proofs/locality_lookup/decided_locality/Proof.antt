@@ -5,6 +5,9 @@ use Rattle.lookups.proofs.Decided.{decider-global, decider-local, decid
 use Rattle.lookups.proofs.locality_lookup.decided_locality.Statement.{statement}
 use Rattle.lookups.proofs.locality_lookup.decided_locality.Tie as tie
 
+frame-of-requires : tie.Need-frame-of-requires
+frame-of-requires c κs = search needs
+
 cast-find-match : tie.Need-cast-find-match
 cast-find-match c = search needs
 
@@ -12,7 +15,7 @@ cast-find-match-2 : tie.Need-cast-find-match-2
 cast-find-match-2 c = search needs
 
 find-match-requires : tie.Need-find-match-requires
-find-match-requires c κs = search needs
+find-match-requires c κs = rw (c .before .before .frame-of .ensures) (c .before .before .before .before .before .before .before .pre)
 
 enum-told : tie.Need-enum-told
 enum-told c = search needs
@@ -21,30 +24,31 @@ enum-known-i : tie.Need-enum-known-i
 enum-known-i c = search needs
 
 mul-if1 : tie.Need-mul-if1
-mul-if1 c = let r = decider-row _ _ _ _ _ _ _ _ (c .before .before .before .before .before .before .before .before .before .before .pre .0) _ (c .before .before .before .find-match .ensures) _ (c .before .i .given .1) in omega arith
+mul-if1 c = let r = decider-row _ _ _ _ _ _ _ (c .before .before .before .before .before .before .before .before .before .before .before .pre .0) _ (c .before .before .before .before .before .before .frame-of .ensures) _ (c .before .before .before .find-match .ensures) _ (c .before .i .given .1) in omega arith
 
 add-if1 : tie.Need-add-if1
-add-if1 c = let r = decider-row _ _ _ _ _ _ _ _ (c .before .before .before .before .before .before .before .before .before .before .pre .0) _ (c .before .before .before .find-match .ensures) _ (c .before .i .given .1) in omega arith
+add-if1 c = let r = decider-row _ _ _ _ _ _ _ (c .before .before .before .before .before .before .before .before .before .before .before .pre .0) _ (c .before .before .before .before .before .before .frame-of .ensures) _ (c .before .before .before .find-match .ensures) _ (c .before .i .given .1) in omega arith
 
 mul-if1-2 : tie.Need-mul-if1-2
-mul-if1-2 c = let r = decider-row _ _ _ _ _ _ _ _ (c .before .before .before .before .before .before .before .before .before .before .pre .0) _ (c .before .before .before .find-match .ensures) _ (c .before .i .given .1) in omega arith
+mul-if1-2 c = let r = decider-row _ _ _ _ _ _ _ (c .before .before .before .before .before .before .before .before .before .before .before .pre .0) _ (c .before .before .before .before .before .before .frame-of .ensures) _ (c .before .before .before .find-match .ensures) _ (c .before .i .given .1) in omega arith
 
 shared-slice-read-if1 : tie.Need-shared-slice-read-if1
-shared-slice-read-if1 c = let r = decider-row _ _ _ _ _ _ _ _ (c .before .before .before .before .before .before .before .before .before .before .before .pre .0) _ (c .before .before .before .before .find-match .ensures) _ (c .before .before .i .given .1) in omega arith
+shared-slice-read-if1 c = let r = decider-row _ _ _ _ _ _ _ (c .before .before .before .before .before .before .before .before .before .before .before .before .pre .0) _ (c .before .before .before .before .before .before .before .frame-of .ensures) _ (c .before .before .before .before .find-match .ensures) _ (c .before .before .i .given .1) in omega arith
 
 returns : tie.Need-returns
-returns c = let d = c .before .before .before .before .before in decider-global _ _ _ _ _ _ _ _ (d .before .before .before .before .before .before .before .pre .0) _ (d .find-match .ensures) _ (c .before .before .before .i .given .1) (c .if1 .taken)
+returns c = let d = c .before .before .before .before .before in decider-global _ _ _ _ _ _ _ (d .before .before .before .before .before .before .before .before .pre .0) _ (d .before .before .before .frame-of .ensures) _ (d .find-match .ensures) _ (c .before .before .before .i .given .1) (c .if1 .taken)
 
 returns-2 : tie.Need-returns-2
-returns-2 c = let d = c .before .before in nothing-decides _ _ _ _ _ _ _ _ (d .before .before .before .before .before .before .before .pre .0) _ (d .find-match .ensures) (c .enum-told .given .1)
+returns-2 c = let d = c .before .before in nothing-decides _ _ _ _ _ _ _ (d .before .before .before .before .before .before .before .before .pre .0) _ (d .before .before .before .frame-of .ensures) _ (d .find-match .ensures) (c .enum-told .given .1)
 
 returns-3 : tie.Need-returns-3
-returns-3 c = let d = c .before .before .before .before .before in decider-local _ _ _ _ _ _ _ _ (d .before .before .before .before .before .before .before .pre .0) _ (d .find-match .ensures) _ (c .before .before .before .i .given .1) (c .if1 .left)
+returns-3 c = let d = c .before .before .before .before .before in decider-local _ _ _ _ _ _ _ (d .before .before .before .before .before .before .before .before .pre .0) _ (d .before .before .before .frame-of .ensures) _ (d .find-match .ensures) _ (c .before .before .before .i .given .1) (c .if1 .left)
 
 pub decided-locality-spec : {M : Type 1} → statement M
 decided-locality-spec =
     tie.close
     (tie.spec
+    frame-of-requires
     cast-find-match
     cast-find-match-2
     find-match-requires

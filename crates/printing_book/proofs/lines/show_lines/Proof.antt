@@ -2,7 +2,7 @@
 use Prim.Native.Nat.{_-_, _+_, _*_}
 use borrow.Author.Needs.{needs}
 use native.Mathlib.Omega.{arith}
-use Rattle.book.specs.Layout.{Buffers, five, line-form}
+use Rattle.book.specs.Layout.{Buffers, five, frame-of, line-form}
 use Rattle.book.proofs.LineRows.{Row}
 use Rattle.packing.specs.Tables.{things}
 use Rattle.printing_book.proofs.ShownLines.{Listed, line-fits, line-listed, lines-end, lines-start, row}
@@ -23,7 +23,7 @@ abbrev held : tie.Start Inv-loop μ-loop → Buffers
 held s = five (s .args .nodes .now) (s .args .names .now) (s .args .lines .now) (s .args .pool .now) (s .args .journal .now)
 
 row-at : (c : tie.Then1 Inv-loop μ-loop)
-    → Row (start c .args .c .kind) (start c .args .c .nodes) (start c .args .c .lines) (start c .args .lines .now) (start c .args .pool .now)
+    → Row (frame-of (start c .args .c)) (start c .args .c .lines) (start c .args .lines .now) (start c .args .pool .now)
     (c .before .before .loop .i) (4 * c .before .before .loop .i)
 row-at c = row (start c .args .c) (held (start c)) (start c .pre .1) (c .before .before .loop .i) (c .if1 .taken)
 

@@ -9,10 +9,10 @@ use Rattle.ranking.proofs.finding.find_match.Statement.{statement}
 use Rattle.ranking.proofs.finding.find_match.Tie as tie
 
 abbrev Inv-loop : tie.InvT-loop
-Inv-loop kind nodes lines pool n p raw demangled edition best₀ line₀ i₀ at₀ best line i at = Seeking kind nodes n lines pool raw demangled best line i at
+Inv-loop frame lines pool n p raw demangled edition best₀ line₀ i₀ at₀ best line i at = Seeking frame n lines pool raw demangled best line i at
 
 abbrev μ-loop : tie.MeasureT-loop
-μ-loop kind nodes lines pool n p raw demangled edition best₀ line₀ i₀ at₀ best line i at = n - i
+μ-loop frame lines pool n p raw demangled edition best₀ line₀ i₀ at₀ best line i at = n - i
 
 edition-of-requires : tie.Need-edition-of-requires Inv-loop μ-loop
 edition-of-requires c κs = search needs
@@ -21,64 +21,64 @@ mul-best : tie.Need-mul-best Inv-loop μ-loop
 mul-best c = search needs
 
 loop-holds : tie.Need-loop-holds Inv-loop μ-loop
-loop-holds c = seek-starts _ _ _ _ _ _ _ _ (c .before .before .before .before .before .pre .0)
+loop-holds c = seek-starts _ _ _ _ _ _ _ (c .before .before .before .before .before .before .pre .0)
 
 add-at : tie.Need-add-at Inv-loop μ-loop
-add-at c = let r = seek-row _ _ _ _ _ _ _ _ (c .before .before .before .before .before .before .before .pre .0) _ _ _ _ (c .before .loop .inv) (c .loop-test .taken) in omega arith
+add-at c = let r = seek-row _ _ _ _ _ _ _ (c .before .before .before .before .before .before .before .before .pre .0) _ _ _ _ (c .before .loop .inv) (c .loop-test .taken) in omega arith
 
 add-i : tie.Need-add-i Inv-loop μ-loop
 add-i c = search needs
 
 add-code : tie.Need-add-code Inv-loop μ-loop
-add-code c = let r = seek-row _ _ _ _ _ _ _ _ (c .before .before .before .before .before .before .before .pre .0) _ _ _ _ (c .before .loop .inv) (c .loop-test .taken) in omega arith
+add-code c = let r = seek-row _ _ _ _ _ _ _ (c .before .before .before .before .before .before .before .before .pre .0) _ _ _ _ (c .before .loop .inv) (c .loop-test .taken) in omega arith
 
 mul-code : tie.Need-mul-code Inv-loop μ-loop
-mul-code c = let r = seek-row _ _ _ _ _ _ _ _ (c .before .before .before .before .before .before .before .pre .0) _ _ _ _ (c .before .loop .inv) (c .loop-test .taken) in omega arith
+mul-code c = let r = seek-row _ _ _ _ _ _ _ (c .before .before .before .before .before .before .before .before .pre .0) _ _ _ _ (c .before .loop .inv) (c .loop-test .taken) in omega arith
 
 shared-slice-read-code : tie.Need-shared-slice-read-code Inv-loop μ-loop
-shared-slice-read-code c = let r = seek-row _ _ _ _ _ _ _ _ (c .before .before .before .before .before .before .before .before .pre .0) _ _ _ _ (c .before .before .loop .inv) (c .before .loop-test .taken) in omega arith
+shared-slice-read-code c = let r = seek-row _ _ _ _ _ _ _ (c .before .before .before .before .before .before .before .before .before .pre .0) _ _ _ _ (c .before .before .loop .inv) (c .before .loop-test .taken) in omega arith
 
 mul-rank-of : tie.Need-mul-rank-of Inv-loop μ-loop
-mul-rank-of c = let r = seek-row _ _ _ _ _ _ _ _ (c .before .before .before .before .before .before .before .before .pre .0) _ _ _ _ (c .before .before .loop .inv) (c .before .loop-test .taken) in omega arith
+mul-rank-of c = let r = seek-row _ _ _ _ _ _ _ (c .before .before .before .before .before .before .before .before .before .pre .0) _ _ _ _ (c .before .before .loop .inv) (c .before .loop-test .taken) in omega arith
 
 shared-slice-read-rank-of : tie.Need-shared-slice-read-rank-of Inv-loop μ-loop
-shared-slice-read-rank-of c = let r = seek-row _ _ _ _ _ _ _ _ (c .before .before .before .before .before .before .before .before .before .pre .0) _ _ _ _ (c .before .before .before .loop .inv) (c .before .before .loop-test .taken) in omega arith
+shared-slice-read-rank-of c = let r = seek-row _ _ _ _ _ _ _ (c .before .before .before .before .before .before .before .before .before .before .pre .0) _ _ _ _ (c .before .before .before .loop .inv) (c .before .before .loop-test .taken) in omega arith
 
 rank-of-requires : tie.Need-rank-of-requires Inv-loop μ-loop
-rank-of-requires c κs = let r = seek-row _ _ _ _ _ _ _ _ (c .before .before .before .before .before .before .before .before .before .pre .0) _ _ _ _ (c .before .before .before .loop .inv) (c .before .before .loop-test .taken) in let g = row-ranged _ _ _ _ _ _ _ r in (search needs, omega arith, row-code _ _ _ _ _ _ _ r)
+rank-of-requires c κs = let r = seek-row _ _ _ _ _ _ _ (c .before .before .before .before .before .before .before .before .before .before .pre .0) _ _ _ _ (c .before .before .before .loop .inv) (c .before .before .loop-test .taken) in let g = row-ranged _ _ _ _ _ _ r in (search needs, omega arith, row-code _ _ _ _ _ _ r)
 
 loop-less : tie.Need-loop-less Inv-loop μ-loop
 loop-less c = search needs
 
 loop-again : tie.Need-loop-again Inv-loop μ-loop
-loop-again c = seek-behind _ _ _ _ _ _ _ _ (c .before .before .before .before .before .before .before .before .before .before .before .pre .0) _ _ _ _ (c .before .before .before .before .before .loop .inv) (c .before .before .before .before .loop-test .taken) _ (c .before .rank-of .ensures) (omega arith)
+loop-again c = seek-behind _ _ _ _ _ _ _ (c .before .before .before .before .before .before .before .before .before .before .before .before .pre .0) _ _ _ _ (c .before .before .before .before .before .loop .inv) (c .before .before .before .before .loop-test .taken) _ (c .before .rank-of .ensures) (omega arith)
 
 add-start : tie.Need-add-start Inv-loop μ-loop
-add-start c = let r = seek-row _ _ _ _ _ _ _ _ (c .before .before .before .before .before .before .before .before .before .before .before .pre .0) _ _ _ _ (c .before .before .before .before .before .loop .inv) (c .before .before .before .before .loop-test .taken) in omega arith
+add-start c = let r = seek-row _ _ _ _ _ _ _ (c .before .before .before .before .before .before .before .before .before .before .before .before .pre .0) _ _ _ _ (c .before .before .before .before .before .loop .inv) (c .before .before .before .before .loop-test .taken) in omega arith
 
 mul-start : tie.Need-mul-start Inv-loop μ-loop
-mul-start c = let r = seek-row _ _ _ _ _ _ _ _ (c .before .before .before .before .before .before .before .before .before .before .before .pre .0) _ _ _ _ (c .before .before .before .before .before .loop .inv) (c .before .before .before .before .loop-test .taken) in omega arith
+mul-start c = let r = seek-row _ _ _ _ _ _ _ (c .before .before .before .before .before .before .before .before .before .before .before .before .pre .0) _ _ _ _ (c .before .before .before .before .before .loop .inv) (c .before .before .before .before .loop-test .taken) in omega arith
 
 shared-slice-read-start : tie.Need-shared-slice-read-start Inv-loop μ-loop
-shared-slice-read-start c = let r = seek-row _ _ _ _ _ _ _ _ (c .before .before .before .before .before .before .before .before .before .before .before .before .pre .0) _ _ _ _ (c .before .before .before .before .before .before .loop .inv) (c .before .before .before .before .before .loop-test .taken) in omega arith
+shared-slice-read-start c = let r = seek-row _ _ _ _ _ _ _ (c .before .before .before .before .before .before .before .before .before .before .before .before .before .pre .0) _ _ _ _ (c .before .before .before .before .before .before .loop .inv) (c .before .before .before .before .before .loop-test .taken) in omega arith
 
 cast-start : tie.Need-cast-start Inv-loop μ-loop
-cast-start c = let r = seek-row _ _ _ _ _ _ _ _ (c .before .before .before .before .before .before .before .before .before .before .before .before .pre .0) _ _ _ _ (c .before .before .before .before .before .before .loop .inv) (c .before .before .before .before .before .loop-test .taken) in omega arith
+cast-start c = let r = seek-row _ _ _ _ _ _ _ (c .before .before .before .before .before .before .before .before .before .before .before .before .before .pre .0) _ _ _ _ (c .before .before .before .before .before .before .loop .inv) (c .before .before .before .before .before .loop-test .taken) in omega arith
 
 add-end : tie.Need-add-end Inv-loop μ-loop
-add-end c = let r = seek-row _ _ _ _ _ _ _ _ (c .before .before .before .before .before .before .before .before .before .before .before .before .pre .0) _ _ _ _ (c .before .before .before .before .before .before .loop .inv) (c .before .before .before .before .before .loop-test .taken) in omega arith
+add-end c = let r = seek-row _ _ _ _ _ _ _ (c .before .before .before .before .before .before .before .before .before .before .before .before .before .pre .0) _ _ _ _ (c .before .before .before .before .before .before .loop .inv) (c .before .before .before .before .before .loop-test .taken) in omega arith
 
 mul-end : tie.Need-mul-end Inv-loop μ-loop
-mul-end c = let r = seek-row _ _ _ _ _ _ _ _ (c .before .before .before .before .before .before .before .before .before .before .before .before .pre .0) _ _ _ _ (c .before .before .before .before .before .before .loop .inv) (c .before .before .before .before .before .loop-test .taken) in omega arith
+mul-end c = let r = seek-row _ _ _ _ _ _ _ (c .before .before .before .before .before .before .before .before .before .before .before .before .before .pre .0) _ _ _ _ (c .before .before .before .before .before .before .loop .inv) (c .before .before .before .before .before .loop-test .taken) in omega arith
 
 shared-slice-read-end : tie.Need-shared-slice-read-end Inv-loop μ-loop
-shared-slice-read-end c = let r = seek-row _ _ _ _ _ _ _ _ (c .before .before .before .before .before .before .before .before .before .before .before .before .before .pre .0) _ _ _ _ (c .before .before .before .before .before .before .before .loop .inv) (c .before .before .before .before .before .before .loop-test .taken) in omega arith
+shared-slice-read-end c = let r = seek-row _ _ _ _ _ _ _ (c .before .before .before .before .before .before .before .before .before .before .before .before .before .before .pre .0) _ _ _ _ (c .before .before .before .before .before .before .before .loop .inv) (c .before .before .before .before .before .before .loop-test .taken) in omega arith
 
 cast-end : tie.Need-cast-end Inv-loop μ-loop
-cast-end c = let r = seek-row _ _ _ _ _ _ _ _ (c .before .before .before .before .before .before .before .before .before .before .before .before .before .pre .0) _ _ _ _ (c .before .before .before .before .before .before .before .loop .inv) (c .before .before .before .before .before .before .loop-test .taken) in omega arith
+cast-end c = let r = seek-row _ _ _ _ _ _ _ (c .before .before .before .before .before .before .before .before .before .before .before .before .before .before .pre .0) _ _ _ _ (c .before .before .before .before .before .before .before .loop .inv) (c .before .before .before .before .before .before .loop-test .taken) in omega arith
 
 add-end-2 : tie.Need-add-end-2 Inv-loop μ-loop
-add-end-2 c = let r = seek-row _ _ _ _ _ _ _ _ (c .before .before .before .before .before .before .before .before .before .before .before .before .before .pre .0) _ _ _ _ (c .before .before .before .before .before .before .before .loop .inv) (c .before .before .before .before .before .before .loop-test .taken) in omega arith
+add-end-2 c = let r = seek-row _ _ _ _ _ _ _ (c .before .before .before .before .before .before .before .before .before .before .before .before .before .before .pre .0) _ _ _ _ (c .before .before .before .before .before .before .before .loop .inv) (c .before .before .before .before .before .before .loop-test .taken) in omega arith
 
 sub-line-matches : tie.Need-sub-line-matches Inv-loop μ-loop
 sub-line-matches c = search needs
@@ -87,28 +87,28 @@ part-line-matches-start : tie.Need-part-line-matches-start Inv-loop μ-loop
 part-line-matches-start c = search needs
 
 part-line-matches-end : tie.Need-part-line-matches-end Inv-loop μ-loop
-part-line-matches-end c = let r = seek-row _ _ _ _ _ _ _ _ (c .before .before .before .before .before .before .before .before .before .before .before .before .before .pre .0) _ _ _ _ (c .before .before .before .before .before .before .before .loop .inv) (c .before .before .before .before .before .before .loop-test .taken) in omega arith
+part-line-matches-end c = let r = seek-row _ _ _ _ _ _ _ (c .before .before .before .before .before .before .before .before .before .before .before .before .before .before .pre .0) _ _ _ _ (c .before .before .before .before .before .before .before .loop .inv) (c .before .before .before .before .before .before .loop-test .taken) in omega arith
 
 line-matches-requires : tie.Need-line-matches-requires Inv-loop μ-loop
-line-matches-requires c κs = let r = seek-row _ _ _ _ _ _ _ _ (c .before .before .before .before .before .before .before .before .before .before .before .before .before .before .pre .0) _ _ _ _ (c .before .before .before .before .before .before .before .before .loop .inv) (c .before .before .before .before .before .before .before .loop-test .taken) in let s = row-short _ _ _ _ _ _ _ r in (simp (length-take, length-drop) (omega arith), search needs, search needs)
+line-matches-requires c κs = let r = seek-row _ _ _ _ _ _ _ (c .before .before .before .before .before .before .before .before .before .before .before .before .before .before .before .pre .0) _ _ _ _ (c .before .before .before .before .before .before .before .before .loop .inv) (c .before .before .before .before .before .before .before .loop-test .taken) in let s = row-short _ _ _ _ _ _ r in (simp (length-take, length-drop) (omega arith), search needs, search needs)
 
 loop-less-2 : tie.Need-loop-less-2 Inv-loop μ-loop
 loop-less-2 c = search needs
 
 loop-again-2 : tie.Need-loop-again-2 Inv-loop μ-loop
-loop-again-2 c = seek-better _ _ _ _ _ _ _ _ (c .before .before .before .before .before .before .before .before .before .before .before .before .before .before .before .before .pre .0) _ _ _ _ (c .before .before .before .before .before .before .before .before .before .before .loop .inv) (c .before .before .before .before .before .before .before .before .before .loop-test .taken) _ (c .before .before .before .before .before .before .rank-of .ensures) _ (c .before .before .before .before .before .before .before .before .before .before .before .edition-of .ensures) _ (c .before .line-matches .ensures) (omega arith) (c .if2 .taken)
+loop-again-2 c = seek-better _ _ _ _ _ _ _ (c .before .before .before .before .before .before .before .before .before .before .before .before .before .before .before .before .before .pre .0) _ _ _ _ (c .before .before .before .before .before .before .before .before .before .before .loop .inv) (c .before .before .before .before .before .before .before .before .before .loop-test .taken) _ (c .before .before .before .before .before .before .rank-of .ensures) _ (c .before .before .before .before .before .before .before .before .before .before .before .before .edition-of .ensures) _ (c .before .line-matches .ensures) (omega arith) (c .if2 .taken)
 
 loop-less-3 : tie.Need-loop-less-3 Inv-loop μ-loop
 loop-less-3 c = search needs
 
 loop-again-3 : tie.Need-loop-again-3 Inv-loop μ-loop
-loop-again-3 c = seek-other _ _ _ _ _ _ _ _ (c .before .before .before .before .before .before .before .before .before .before .before .before .before .before .before .before .pre .0) _ _ _ _ (c .before .before .before .before .before .before .before .before .before .before .loop .inv) (c .before .before .before .before .before .before .before .before .before .loop-test .taken) _ (c .before .before .before .before .before .before .rank-of .ensures) _ (c .before .before .before .before .before .before .before .before .before .before .before .edition-of .ensures) _ (c .before .line-matches .ensures) (c .if2 .left)
+loop-again-3 c = seek-other _ _ _ _ _ _ _ (c .before .before .before .before .before .before .before .before .before .before .before .before .before .before .before .before .before .pre .0) _ _ _ _ (c .before .before .before .before .before .before .before .before .before .before .loop .inv) (c .before .before .before .before .before .before .before .before .before .loop-test .taken) _ (c .before .before .before .before .before .before .rank-of .ensures) _ (c .before .before .before .before .before .before .before .before .before .before .before .before .edition-of .ensures) _ (c .before .line-matches .ensures) (c .if2 .left)
 
 returns : tie.Need-returns Inv-loop μ-loop
-returns c = seek-nothing _ _ _ _ _ _ _ _ (c .before .before .before .before .before .before .before .before .pre .0) _ _ _ _ (c .before .before .loop .inv) (c .before .loop-test .left) (c .if3 .taken)
+returns c = seek-nothing _ _ _ _ _ _ _ (c .before .before .before .before .before .before .before .before .before .pre .0) _ _ _ _ (c .before .before .loop .inv) (c .before .loop-test .left) (c .if3 .taken)
 
 returns-2 : tie.Need-returns-2 Inv-loop μ-loop
-returns-2 c = seek-line _ _ _ _ _ _ _ _ (c .before .before .before .before .before .before .before .before .pre .0) _ _ _ _ (c .before .before .loop .inv) (c .before .loop-test .left) (c .if3 .left)
+returns-2 c = seek-line _ _ _ _ _ _ _ (c .before .before .before .before .before .before .before .before .before .pre .0) _ _ _ _ (c .before .before .loop .inv) (c .before .loop-test .left) (c .if3 .left)
 
 pub find-match-spec : {M : Type 1} → statement M
 find-match-spec =

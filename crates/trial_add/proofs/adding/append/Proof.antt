@@ -19,7 +19,7 @@ use Rattle.trial_add.proofs.adding.append.Tie as tie
 
 -- the entry, whose book is laid out
 abbrev entry : tie.After-has-row → tie.Start
-entry c = c .before .before .before .before .before .before .before .before .before .before
+entry c = c .before .before .before .before .before .before .before .before .before .before .before
 
 abbrev lent : tie.Start → Buffers
 lent s = let a = s .args in five (a .nodes .now) (a .names .now) (a .lines .now) (a .pool .now) (a .journal .now)
@@ -54,6 +54,9 @@ ends c =
     let s = edited (roomy p) in
     append-ends (layout s) (keep (p .before .before .before .edition-of .result) (s .args .token .now))
     (p .put-token .result) _ (p .put-token .ensures) _ _ (c .class .given .1)
+
+frame-of-requires : tie.Need-frame-of-requires
+frame-of-requires c κs = search needs
 
 cast-n : tie.Need-cast-n
 cast-n c = search needs
@@ -199,6 +202,7 @@ pub append-spec : {M : Type 1} → statement M
 append-spec =
     tie.close
     (tie.spec
+    frame-of-requires
     cast-n
     cast-e
     has-row-requires

@@ -27,7 +27,7 @@ returns c =
     let s = c .before .before .before .before in
     let e = s .before .before in
     let a = e .before .before .args in
-    unplaced-refused (e .edition-of .result) (a .kind) (a .token .now) (e .edition-of .ensures)
+    unplaced-refused (e .edition-of .result) (a .frame) (a .token .now) (e .edition-of .ensures)
     (s .store-token .result) (s .store-token .ensures .0) _ (c .before .no .given .1)
 
 returns-2 : tie.Need-returns-2
@@ -35,7 +35,7 @@ returns-2 c =
     let s = c .before .before .before in
     let e = s .before .before in
     let a = e .before .before .args in
-    unplaced-stored (e .edition-of .result) (a .kind) (a .token .now) (e .edition-of .ensures)
+    unplaced-stored (e .edition-of .result) (a .frame) (a .token .now) (e .edition-of .ensures)
     (s .store-token .result) (s .store-token .ensures .0) _ _ (c .enum-told .given .1)
 
 pub refusal-without-row-spec : {M : Type 1} → statement M
