@@ -2,16 +2,17 @@
 use Prim.Native.Nat.{ℕ, _+_, _*_, _/_, _%_, _≤_, _<_}
 use mathlib.Core.Path.{_≡_, refl, _∙_}
 use mathlib.Core.List.{List, [], _∷_, _++_}
-use mathlib.Core.Bool.{Bool, true, false, _&&_, false≢true}
+use mathlib.Core.Bool.{Bool, true, false, _&&_, false≢true, not}
 use native.Mathlib.Omega.{arith}
 use lib.Dec.{eqb, leb, ltb}
-use borrow.Author.Tests.{eqb-true, eq-eqb, leb-true, ltb-true}
+use borrow.Author.Tests.{eqb-true, eq-eqb, leb-false, leb-true, ltb-true, ne-eqb}
 use lib.ListN.{length, drop, getD}
 use Rattle.lists.proofs.Tests.{both}
 use Rattle.packing.proofs.TableLaws.{Laws}
 use Rattle.book.specs.declared.Frame.{Frame}
 use Rattle.book.specs.Books.{Node, Line, Edit}
-use Rattle.book.specs.Layout.{node-form, line-form, edit-form, code-of, line-of}
+use Rattle.book.specs.Edits.{stands}
+use Rattle.book.specs.Layout.{node-form, line-form, edit-form, code-of, has-mark, line-of, struck-mark}
 use Rattle.book.specs.Sanity.{in-range, line-ok, edit-ok}
 use Rattle.book.specs.View.{any-node}
 
@@ -81,6 +82,14 @@ line-row-back frame o x t w =
     let c : code-of x % 2 ≡ x .language = omega arith in
     let d : code-of x / 32 ≡ x .struck = omega arith in
     simp (a, b, c, d)
+
+-- a line stands where its code has no mark
+pub stands-unmarked : (node code : ℕ) (bs : List ℕ) → stands (line-of node code bs) ≡ not (has-mark code)
+stands-unmarked node code bs = by-mark (has-mark code) refl
+  where
+    by-mark : (b : Bool) → has-mark code ≡ b → eqb (code / struck-mark) 0 ≡ not b
+    by-mark true e = ne-eqb (code / struck-mark) 0 (λ q. omega (arith, leb-true struck-mark code e))
+    by-mark false e = eq-eqb (code / struck-mark) 0 (omega (arith, leb-false struck-mark code e))
 
 -- the code of the line with that code
 pub code-back : (node k : ℕ) (bs : List ℕ) → code-of (line-of node k bs) ≡ k

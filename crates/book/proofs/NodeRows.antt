@@ -1,8 +1,9 @@
 -- The rows of nodes in a packing: what each tells, and the search for a name, row by row. Assumes nothing.
 use Prim.Native.Nat.{ℕ, _+_, _-_, _*_, _≤_, _<_}
-use mathlib.Core.Path.{_≡_, sym, ap, ap₂, _∙_}
+use mathlib.Core.Path.{_≡_, refl, sym, ap, ap₂, _∙_}
 use mathlib.Core.List.{List}
 use mathlib.Core.Bool.{Bool, true, false}
+use mathlib.Core.Option.{Option, some, none}
 use native.Mathlib.Numerals.{add-one}
 use native.Mathlib.Omega.{arith}
 use lib.ListN.{length, drop, getD, take, drop-of-length-le}
@@ -10,32 +11,30 @@ use lib.Seq.{drop-cons}
 use Rattle.lists.specs.Same.{same}
 use Rattle.packing.specs.Tables.{packed, packs, things}
 use Rattle.packing.proofs.Packings.{Packs, packs-is, row-cell, bytes-at, bytes-room}
-use Rattle.book.specs.Books.{Node, first-named, no-node}
+use Rattle.linker_script.specs.declared.Found.the-variants.{Here, Nowhere}
+use Rattle.book.specs.Books.{Node, first-named, found, no-node}
 use Rattle.book.specs.Layout.{node-form}
 use Rattle.book.specs.View.{any-node}
 use Rattle.book.proofs.Forms.{node-laws}
 
 -- ---- the search for a name
 -- the first of that name, from node i on
-abbrev pub named-from : List Node → List ℕ → ℕ → ℕ
-named-from xs t i = i + first-named (drop i xs) t
-
-pub named-all : (xs : List Node) (t : List ℕ) → first-named xs t ≡ named-from xs t 0
-named-all xs t = omega arith
+abbrev pub named-from : List Node → List ℕ → ℕ → Option ℕ
+named-from xs t i = first-named (drop i xs) i t
 
 module _ (xs : List Node) (t : List ℕ) (i : ℕ) where
   -- node i has the name, or the search goes on
-  pub named-here : i < length xs → same (getD xs i no-node .name) t ≡ true → i ≡ named-from xs t i
+  pub named-here : i < length xs → same (getD xs i no-node .name) t ≡ true → named-from xs t i ≡ some i
   unfolding first-named
-  named-here h e = rw (drop-cons xs i no-node h, e) (omega arith)
+  named-here h e = rw (drop-cons xs i no-node h, e)
 
   pub named-next : i < length xs → same (getD xs i no-node .name) t ≡ false → named-from xs t i ≡ named-from xs t (i + 1)
   unfolding first-named
-  named-next h e = rw (drop-cons xs i no-node h, e, add-one) (omega arith)
+  named-next h e = rw (drop-cons xs i no-node h, e, add-one)
 
-  pub named-none : i ≡ length xs → i ≡ named-from xs t i
+  pub named-none : length xs ≤ i → named-from xs t i ≡ none
   unfolding first-named
-  named-none h = rw (drop-of-length-le xs {i = i} (omega arith)) (omega arith)
+  named-none h = rw (drop-of-length-le xs {i = i} h)
 
 -- ---- what a row tells
 -- the name that the row at `at` tells, as the part of the names from its start to its end
@@ -86,10 +85,10 @@ module _ (n p : ℕ) (l m : List ℕ) (g : packs node-form any-node n p l m ≡ 
 pub record Searching (n : ℕ) (l m t : List ℕ) (i at : ℕ) : Type 0 where
   pub within : i ≤ n
   pub place : at ≡ 3 * i
-  pub goes : first-named (things node-form n l m) t ≡ named-from (things node-form n l m) t i
+  pub goes : first-named (things node-form n l m) 0 t ≡ named-from (things node-form n l m) t i
 
 pub search-starts : (n : ℕ) (l m t : List ℕ) → Searching n l m t 0 0
-search-starts n l m t = record { within = omega arith; place = omega arith; goes = named-all (things node-form n l m) t }
+search-starts n l m t = record { within = omega arith; place = omega arith; goes = refl }
 
 module _ (n p : ℕ) (l m t : List ℕ) (i at : ℕ) (g : packs node-form any-node n p l m ≡ true) (z : Searching n l m t i at) where
   pub search-row : i < n → Row n p l m g i at
@@ -103,8 +102,8 @@ module _ (n p : ℕ) (l m t : List ℕ) (i at : ℕ) (g : packs node-form any-no
     counted = omega (arith, nodes-count n p l m g)
 
     -- the node has the name
-    pub search-found : r ≡ true → i ≡ first-named (things node-form n l m) t
-    search-found y = named-here (things node-form n l m) t i counted (sym asked ∙ y) ∙ sym (z .goes)
+    pub search-found : r ≡ true → Here i ≡ found (first-named (things node-form n l m) 0 t)
+    search-found y = rw (z .goes, named-here (things node-form n l m) t i counted (sym asked ∙ y))
 
     -- it has another, and the search goes on
     pub search-more : r ≡ false → Searching n l m t (i + 1) (at + 3)
@@ -115,7 +114,5 @@ module _ (n p : ℕ) (l m t : List ℕ) (i at : ℕ) (g : packs node-form any-no
     }
 
   -- none has it
-  pub search-ends : n ≤ i → n ≡ first-named (things node-form n l m) t
-  search-ends h =
-      let e : i ≡ n = omega (arith, z .within) in
-      sym e ∙ named-none (things node-form n l m) t i (omega (arith, nodes-count n p l m g)) ∙ sym (z .goes)
+  pub search-ends : n ≤ i → Nowhere ≡ found (first-named (things node-form n l m) 0 t)
+  search-ends h = rw (z .goes, named-none (things node-form n l m) t i (omega (arith, nodes-count n p l m g)))

@@ -2,10 +2,13 @@
 use Prim.Native.Nat.{ℕ, _+_}
 use mathlib.Core.List.{List, [], _∷_}
 use mathlib.Core.Bool.{Bool, cond}
+use mathlib.Core.Option.{Option, some, none}
 use lib.Dec.{eqb}
 use lib.ListN.{length}
 use Rattle.numbers.specs.Marks.{general, global}
 use Rattle.lists.specs.Same.{same}
+use Rattle.linker_script.specs.declared.Found.{Found}
+use Rattle.linker_script.specs.declared.Found.the-variants.{Here, Nowhere}
 use Rattle.numbers.specs.declared.Edition.{Edition}
 use Rattle.numbers.specs.declared.Edition.the-variants.{Reld}
 use Rattle.book.specs.declared.Frame.{Frame}
@@ -80,7 +83,12 @@ no-node = record { name = []; parent = 0 }
 abbrev pub no-line : Line
 no-line = new-line 0 global general 0 []
 
--- the number of the first node with that name, or how many nodes there are
-unfoldable pub first-named : List Node → List ℕ → ℕ
-first-named [] t = 0
-first-named (x ∷ xs) t = cond (same (x .name) t) 0 (1 + first-named xs t)
+-- the number of the first node with that name, among nodes that are numbered from i on
+unfoldable pub first-named : List Node → ℕ → List ℕ → Option ℕ
+first-named [] i t = none
+first-named (x ∷ xs) i t = cond (same (x .name) t) (some i) (first-named xs (i + 1) t)
+
+-- as it is answered
+abbrev pub found : Option ℕ → Found
+found (some i) = Here i
+found none = Nowhere

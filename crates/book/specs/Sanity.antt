@@ -2,6 +2,7 @@
 use Prim.Native.Nat.{ℕ, _+_}
 use mathlib.Core.List.{List, [], _∷_}
 use mathlib.Core.Bool.{Bool, true, false, cond, _&&_, _||_, not}
+use mathlib.Core.Option.{Option, some, none}
 use lib.Dec.{eqb, leb, ltb}
 use lib.ListN.{length, getD}
 use Rattle.numbers.specs.Classes.{all-class, exact-class, nonstar-class, star-class}
@@ -60,12 +61,17 @@ name-good t = ltb 0 (length t) && (every named t && not (skips t 0))
 abbrev pub no-semicolon : ℕ → Bool
 no-semicolon b = not (eqb b semicolon)
 
+-- what was found has that number
+abbrev pub is-number : ℕ → Option ℕ → Bool
+is-number p (some i) = eqb i p
+is-number p none = false
+
 -- "or parent that no reading gives": none, or an earlier node, the first of its name, whose name can stand before a `;`
 unfoldable pub parent-good : List Node → ℕ → ℕ → Bool
 parent-good all i p =
     eqb p 0
     || (ltb p i
-    && (eqb (first-named all (getD all p no-node .name)) p
+    && (is-number p (first-named all 0 (getD all p no-node .name))
     && every no-semicolon (getD all p no-node .name)))
 
 -- the nodes from number i on, among all

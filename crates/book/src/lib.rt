@@ -1,6 +1,6 @@
-// The book: its counts, its kinds, the widths of its rows, a line's code and row, and a search of its nodes. Definitions: specs/Books.antt (the book apart from buffers),
-// specs/Layout.antt (how it stands in lent buffers), specs/Edits.antt, specs/Sanity.antt and specs/View.antt (what is one, and what is refused 14), from
-// document 01, 'The book' and 'Numbers that say no'.
+// The book: its counts and its frame, its kinds, the widths of its rows, a line's code and row, and a search of its nodes. Definitions: specs/Books.antt (the
+// book apart from buffers), specs/Layout.antt (how it stands in lent buffers), specs/Edits.antt, specs/Sanity.antt and specs/View.antt (what is one, and what
+// is refused 14), from document 01, 'The book' and 'Numbers that say no'.
 ghost use mathlib.Core.Path.{_≡_};
 ghost use Rattle.book.specs.Layout.{counts-with, frame-of, no-counts};
 
@@ -43,12 +43,12 @@ pub const EDIT_WIDTH: usize = 2;
 pub const STRUCK: u32 = 32;
 
 // The frame of a book with those counts.
-pub fn frame_of(c: Counts) -> Frame
-    ensures { λ r. ⌜ r ≡ frame-of c ⌝ }
+pub fn frame_of(counts: Counts) -> Frame
+    ensures { λ r. ⌜ r ≡ frame-of counts ⌝ }
 {
     Frame {
-        kind: c.kind,
-        nodes: c.nodes,
+        kind: counts.kind,
+        nodes: counts.nodes,
     }
 }
 

@@ -15,10 +15,13 @@ use Rattle.lists.proofs.Tests.{both, fails}
 use Rattle.lists.specs.Each.{every}
 use Rattle.packing.specs.Tables.{things}
 use Rattle.packing.proofs.Packings.{Packs, put-thing, set-thing}
-use Rattle.book.specs.Books.{Node, Line, first-named, frame-with, no-node, regular}
+use Rattle.linker_script.specs.declared.Found.{Found}
+use Rattle.linker_script.specs.declared.Found.the-variants.{Here, Nowhere}
+use Rattle.book.specs.Books.{Node, Line, first-named, found, frame-with, no-node, regular}
 use Rattle.book.specs.Layout.{five, line-form, node-form, node-width}
 use Rattle.book.specs.Sanity.{in-range, line-ok}
 use Rattle.book.specs.View.{any-node}
+use Rattle.book.proofs.FirstNamed.{found-here, found-nowhere}
 use Rattle.book.proofs.Forms.{node-laws}
 use Rattle.book_rooms.specs.Rooms.{node-room, row-room}
 use Rattle.book_building.specs.declared.Progress.{Progress}
@@ -128,16 +131,25 @@ module _ (g : Progress) (p : ℕ) (n m : List ℕ) where
   parent-none [] h l q e = (refl, e)
   parent-none (c ∷ t) h l q e = absurd (omega arith)
 
-  module _ (r : ℕ) where
-    pub parent-refused : (t n′ : List ℕ) → (length t ≡ 0 → ⊥) → r ≡ first-named (things node-form (g .nodes) n m) t → g .nodes - 1 ≤ r
+  module _ (o : Found) where
+    -- no node has the name
+    pub parent-unknown : (t n′ : List ℕ) → (length t ≡ 0 → ⊥) → o ≡ found (first-named (things node-form (g .nodes) n m) 0 t) → o ≡ Nowhere
+        → Took-parent g p t n m (No unknown-parent p) n′
+    unfolding take-parent
+    parent-unknown [] n′ f k v l q e = absurd (f refl)
+    parent-unknown (c ∷ t) n′ f k v l q e = rw (building-is g n m l q, found-nowhere o (first-named (things node-form (g .nodes) n m) 0 (c ∷ t)) k v)
+
+  -- node r is the first that has it
+  module _ (o : Found) (r : ℕ) (v : o ≡ Here r) where
+    pub parent-refused : (t n′ : List ℕ) → (length t ≡ 0 → ⊥) → o ≡ found (first-named (things node-form (g .nodes) n m) 0 t) → g .nodes - 1 ≤ r
         → Took-parent g p t n m (No unknown-parent p) n′
     unfolding take-parent
     parent-refused [] n′ f k h l q e = absurd (f refl)
     parent-refused (c ∷ t) n′ f k h l q e =
         let s = is-state g n m l q e in
-        rw (building-is g n m l q, ← k, ← s .nodes .count, le-ltb r (g .nodes - 1) h)
+        rw (building-is g n m l q, found-here o (first-named (things node-form (g .nodes) n m) 0 (c ∷ t)) r k v, ← s .nodes .count, le-ltb r (g .nodes - 1) h)
 
-    pub parent-set : (t n′ : List ℕ) → (length t ≡ 0 → ⊥) → r ≡ first-named (things node-form (g .nodes) n m) t → r < g .nodes - 1
+    pub parent-set : (t n′ : List ℕ) → (length t ≡ 0 → ⊥) → o ≡ found (first-named (things node-form (g .nodes) n m) 0 t) → r < g .nodes - 1
         → n′ ≡ set n (node-width * (g .nodes - 1) + 2) r → Took-parent g p t n m (On g) n′
     unfolding take-parent node-form
     parent-set [] n′ f k h a l q e = absurd (f refl)
@@ -151,6 +163,6 @@ module _ (g : Progress) (p : ℕ) (n m : List ℕ) where
         = set-thing node-form node-laws (g .nodes) (g .names) n m xs (s .nodes) i no-node w 2 r x n′ (omega arith) refl refl (λ o. refl) a in
         let z : State g n′ m l q (set xs i x) (lines-of g n m l q) = record { few = s .few; nodes = y; lines = s .lines } in
         let u = state-is g n′ m l q (set xs i x) (lines-of g n m l q) z in (
-          rw (building-is g n m l q, ← k, ← s .nodes .count, lt-ltb r (g .nodes - 1) h, u .0),
+          rw (building-is g n m l q, found-here o (first-named (things node-form (g .nodes) n m) 0 (c ∷ t)) r k v, ← s .nodes .count, lt-ltb r (g .nodes - 1) h, u .0),
           u .1,
         )

@@ -2,6 +2,7 @@
 use Prim.Native.Nat.{ℕ, _-_}
 use mathlib.Core.List.{List, [], _∷_, _++_}
 use mathlib.Core.Bool.{Bool, true, false, cond, _&&_, _||_, not}
+use mathlib.Core.Option.{Option, some, none}
 use lib.Dec.{eqb, ltb}
 use lib.ListN.{length, getD, set}
 use Rattle.linker_script.specs.Parts.{part}
@@ -91,12 +92,13 @@ with-parent g i q = record {
   starred = g .starred;
 }
 
+abbrev pub to-parent : Building → ℕ → Option ℕ → Taken
+to-parent g p (some q) = cond (ltb q (length (g .nodes) - 1)) (on (with-parent g (length (g .nodes) - 1) q)) (no unknown-parent p)
+to-parent g p none = no unknown-parent p
+
 unfoldable pub take-parent : Building → ℕ → List ℕ → Taken
 take-parent g p [] = on g
-take-parent g p (c ∷ t) =
-    cond (ltb (first-named (g .nodes) (c ∷ t)) (length (g .nodes) - 1))
-    (on (with-parent g (length (g .nodes) - 1) (first-named (g .nodes) (c ∷ t))))
-    (no unknown-parent p)
+take-parent g p (c ∷ t) = to-parent g p (first-named (g .nodes) 0 (c ∷ t))
 
 -- ---- an event of the text s, in buffers with the rooms of b
 unfoldable pub take-event : Buffers → List ℕ → Building → Event → Taken

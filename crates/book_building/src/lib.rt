@@ -15,6 +15,7 @@ use book::NODE_WIDTH;
 use book::nodes::first_named;
 use copying::put_bytes;
 use copying::put_three;
+use linker_script::Found;
 use numbers::GLOBAL;
 use numbers::NO_ROOM;
 use numbers::NODE_LIMIT;
@@ -134,10 +135,14 @@ pub fn take_parent(g: Progress, p: usize, parent: &[u8], nodes: &mut [u32], name
     }
     let n = g.nodes;
     let i = n - 1;
-    let q = first_named(nodes, names, n, g.names, parent);
-    if i <= q {
-        return Taking::No(UNKNOWN_PARENT, p);
+    match first_named(nodes, names, n, g.names, parent) {
+        Found::Nowhere => Taking::No(UNKNOWN_PARENT, p),
+        Found::Here(q) => {
+            if i <= q {
+                return Taking::No(UNKNOWN_PARENT, p);
+            }
+            nodes[NODE_WIDTH * i + 2] = q as u32;
+            Taking::On(g)
+        }
     }
-    nodes[NODE_WIDTH * i + 2] = q as u32;
-    Taking::On(g)
 }

@@ -16,10 +16,10 @@ use Rattle.lists.specs.Each.{every}
 use Rattle.packing.specs.Tables.{Form, fine, packs, things}
 use Rattle.packing.proofs.Turns.{left, left-all, thing-bad, row-more, end-good, packs-no, packs-rows}
 use Rattle.book.specs.Books.{Line, Edit, no-line}
-use Rattle.book.specs.Layout.{edit-form, line-form}
+use Rattle.book.specs.Layout.{edit-form, has-mark, line-form}
 use Rattle.book.specs.Edits.{add-back, all-back, all-stand, journal-fits, line-at, marked, standing-again, stands, strike-back, take-back, then-back}
 use Rattle.book.specs.Sanity.{edit-ok}
-use Rattle.book.proofs.Forms.{edit-laws}
+use Rattle.book.proofs.Forms.{edit-laws, stands-unmarked}
 use Rattle.book_check.proofs.LineRows.{length-things, line-coded}
 
 -- ---- the check of n rows: row i starts at `at`, and what is left from there on decides
@@ -158,11 +158,6 @@ edit-at (suc n) l ps (suc i) h =
     edit-at n (drop 2 l) (drop 0 ps) i (omega arith)
     ∙ ap₂ (λ (u v : ℕ). record { what = u; line = v }) (getD-drop 2 l (2 * i) 0 ∙ ap (λ (k : ℕ). getD l k 0) a)
     (getD-drop 2 l (2 * i + 1) 0 ∙ ap (λ (k : ℕ). getD l k 0) b)
-
--- a code below 32 is that of a line that stands
-below : (code : ℕ) (b : Bool) → ltb code 32 ≡ b → b ≡ eqb (code / 32) 0
-below code true e = let h : code < 32 = ltb-true code 32 e in sym (eq-eqb (code / 32) 0 (omega arith))
-below code false e = let h : 32 ≤ code = ltb-false code 32 e in sym (ne-eqb (code / 32) 0 (λ q. omega arith))
 
 -- ---- the lines as they are once some edits are taken back: the first m, those standing again that have a mark in gs
 abbrev pub lines-back : List ℕ → List ℕ → List ℕ → ℕ → List Line
@@ -333,5 +328,5 @@ module _ (l gs : List ℕ) (i : ℕ) where
   stands-marked f = rw (ne-eqb (getD gs i 0) 0 f)
 
   -- it is not, and the code tells
-  pub stands-code : getD gs i 0 ≡ 0 → ltb (getD l (4 * i + 1) 0) 32 ≡ stands-back l gs i
-  stands-code e = rw (eq-eqb (getD gs i 0) 0 e) (below (getD l (4 * i + 1) 0) (ltb (getD l (4 * i + 1) 0) 32) refl)
+  pub stands-code : getD gs i 0 ≡ 0 → (m : Bool) → m ≡ has-mark (getD l (4 * i + 1) 0) → not m ≡ stands-back l gs i
+  stands-code e m h = rw (eq-eqb (getD gs i 0) 0 e, h) (sym (stands-unmarked 0 (getD l (4 * i + 1) 0) []))

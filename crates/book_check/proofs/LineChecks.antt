@@ -1,6 +1,6 @@
 -- The exits of the checks of one line, from its numbers and its bytes. The premises are what the code has learned.
 -- Assumes nothing.
-use Prim.Native.Nat.{ℕ, _+_, _/_, _%_, _≤_, _<_}
+use Prim.Native.Nat.{ℕ, _+_, _/_, _≤_, _<_}
 use mathlib.Core.Path.{_≡_, refl, sym, _∙_}
 use mathlib.Core.List.{List, []}
 use mathlib.Core.Bool.{Bool, true, false, not, and-false}
@@ -10,15 +10,17 @@ use borrow.Author.Tests.{eq-eqb, ne-eqb, le-leb, lt-leb, lt-ltb, le-ltb, not-tru
 use lib.Dec.{eqb}
 use lib.ListN.{length, drop, getD, drop-of-length-le}
 use lib.Seq.{drop-cons}
+use Rattle.numbers.specs.Classes.{all-class, exact-class, nonstar-class, star-class}
 use Rattle.numbers.specs.Limits.{token-limit}
+use Rattle.numbers.specs.Marks.{general, global, local}
 use Rattle.numbers.specs.Signs.{caret, opening-bracket}
 use Rattle.lists.specs.Same.{same}
 use Rattle.numbers.specs.declared.Edition.{Edition}
 use Rattle.pattern.specs.Patterns.{refusal}
 use Rattle.pattern.specs.Storing.{stored, negated-from, stored-byte}
 use Rattle.book.specs.declared.Frame.{Frame}
-use Rattle.book.specs.Books.{edition-of}
-use Rattle.book.specs.Layout.{line-of}
+use Rattle.book.specs.Books.{edition-of, export, rust}
+use Rattle.book.specs.Layout.{class-in, language-in, line-of, section-in, struck-mark}
 use Rattle.book.specs.Sanity.{bare-star, content-good, glob-stands, in-range, kind-allows, line-ok}
 
 -- ---- a glob that storing leaves as it is: what is left from i on decides; `b` says that a `[` stands just before i
@@ -77,74 +79,81 @@ module _ (nodes node code : ℕ) (bs : List ℕ) where
   unfolding in-range
   range-size h = simp (lt-leb (length bs) token-limit h, and-false)
 
-  module _ (a : node < nodes) (b : code < 64) (c : length bs ≤ token-limit) where
-    pub range-good : code % 32 / 4 < 4 → true ≡ in-range nodes (line-of node code bs)
+  -- its class is that of its code
+  module _ (class : ℕ) (k : class ≡ class-in code) where
+    module _ (a : node < nodes) (b : code < 64) (c : length bs ≤ token-limit) where
+      pub range-good : class < all-class → true ≡ in-range nodes (line-of node code bs)
+      unfolding in-range
+      range-good h =
+          simp (
+            lt-ltb node nodes a,
+            ← k,
+            le-leb class all-class (omega arith),
+            le-leb (section-in code) 1 (omega arith),
+            le-leb (language-in code) 1 (omega arith),
+            le-leb (code / struck-mark) 1 (omega arith),
+            le-leb (length bs) token-limit c,
+            ne-eqb class all-class (λ e. omega arith),
+          )
+
+      -- All, which has length 0
+      pub range-all : class ≡ all-class → eqb (length bs) 0 ≡ in-range nodes (line-of node code bs)
+      unfolding in-range
+      range-all h =
+          simp (
+            lt-ltb node nodes a,
+            ← k,
+            le-leb class all-class (omega arith),
+            le-leb (section-in code) 1 (omega arith),
+            le-leb (language-in code) 1 (omega arith),
+            le-leb (code / struck-mark) 1 (omega arith),
+            le-leb (length bs) token-limit c,
+            eq-eqb class all-class h,
+          )
+
+    -- a class over All
+    pub range-class : all-class ≤ class → (class ≡ all-class → ⊥) → false ≡ in-range nodes (line-of node code bs)
     unfolding in-range
-    range-good h =
-        simp (
-          lt-ltb node nodes a,
-          le-leb (code % 32 / 4) 4 (omega arith),
-          le-leb (code % 4 / 2) 1 (omega arith),
-          le-leb (code % 2) 1 (omega arith),
-          le-leb (code / 32) 1 (omega arith),
-          le-leb (length bs) token-limit c,
-          ne-eqb (code % 32 / 4) 4 (λ e. omega arith),
-        )
+    range-class h f = simp (← k, lt-leb class all-class (omega arith), and-false)
 
-    -- All, which has length 0
-    pub range-all : code % 32 / 4 ≡ 4 → eqb (length bs) 0 ≡ in-range nodes (line-of node code bs)
-    unfolding in-range
-    range-all h =
-        simp (
-          lt-ltb node nodes a,
-          le-leb (code % 32 / 4) 4 (omega arith),
-          le-leb (code % 4 / 2) 1 (omega arith),
-          le-leb (code % 2) 1 (omega arith),
-          le-leb (code / 32) 1 (omega arith),
-          le-leb (length bs) token-limit c,
-          eq-eqb (code % 32 / 4) 4 h,
-        )
+-- ---- its code, and the kind of its book: its class, section and language are those of its code
+module _ (kind code section : ℕ) (s : section ≡ section-in code) where
+  module _ (k : kind ≡ rust) where
+    pub allows-local : (section ≡ global → ⊥) → true ≡ kind-allows kind (line-of 0 code [])
+    unfolding kind-allows
+    allows-local f = simp (eq-eqb kind rust k, ← s, ne-eqb section global f)
 
-  -- a class over All
-  pub range-class : 4 ≤ code % 32 / 4 → (code % 32 / 4 ≡ 4 → ⊥) → false ≡ in-range nodes (line-of node code bs)
-  unfolding in-range
-  range-class h f = simp (lt-leb (code % 32 / 4) 4 (omega arith), and-false)
+    module _ (g : section ≡ global) (class : ℕ) (c : class ≡ class-in code) where
+      pub allows-no-glob : (class ≡ exact-class → ⊥) → false ≡ kind-allows kind (line-of 0 code [])
+      unfolding kind-allows
+      allows-no-glob f = simp (eq-eqb kind rust k, ← s, eq-eqb section global g, ← c, ne-eqb class exact-class f)
 
--- ---- its code, and the kind of its book
-module _ (kind code : ℕ) where
-  pub allows-local : kind ≡ 1 → (code % 4 / 2 ≡ 0 → ⊥) → true ≡ kind-allows kind (line-of 0 code [])
-  unfolding kind-allows
-  allows-local k f = simp (eq-eqb kind 1 k, ne-eqb (code % 4 / 2) 0 f)
+      pub allows-general : class ≡ exact-class → (language : ℕ) → language ≡ language-in code → eqb language general ≡ kind-allows kind (line-of 0 code [])
+      unfolding kind-allows
+      allows-general f language l = simp (eq-eqb kind rust k, ← s, eq-eqb section global g, ← c, eq-eqb class exact-class f, ← l)
 
-  pub allows-no-glob : kind ≡ 1 → code % 4 / 2 ≡ 0 → (code % 32 / 4 ≡ 0 → ⊥) → false ≡ kind-allows kind (line-of 0 code [])
-  unfolding kind-allows
-  allows-no-glob k s f = simp (eq-eqb kind 1 k, eq-eqb (code % 4 / 2) 0 s, ne-eqb (code % 32 / 4) 0 f)
+  module _ (k : kind ≡ rust → ⊥) where
+    pub allows-global : kind ≡ export → eqb section global ≡ kind-allows kind (line-of 0 code [])
+    unfolding kind-allows
+    allows-global m = simp (ne-eqb kind rust k, eq-eqb kind export m, ← s)
 
-  pub allows-general : kind ≡ 1 → code % 4 / 2 ≡ 0 → code % 32 / 4 ≡ 0 → eqb (code % 2) 0 ≡ kind-allows kind (line-of 0 code [])
-  unfolding kind-allows
-  allows-general k s f = simp (eq-eqb kind 1 k, eq-eqb (code % 4 / 2) 0 s, eq-eqb (code % 32 / 4) 0 f)
-
-  pub allows-global : (kind ≡ 1 → ⊥) → kind ≡ 2 → eqb (code % 4 / 2) 0 ≡ kind-allows kind (line-of 0 code [])
-  unfolding kind-allows
-  allows-global k m = simp (ne-eqb kind 1 k, eq-eqb kind 2 m)
-
-  pub allows-any : (kind ≡ 1 → ⊥) → (kind ≡ 2 → ⊥) → true ≡ kind-allows kind (line-of 0 code [])
-  unfolding kind-allows
-  allows-any k m = simp (ne-eqb kind 1 k, ne-eqb kind 2 m)
+    pub allows-any : (kind ≡ export → ⊥) → true ≡ kind-allows kind (line-of 0 code [])
+    unfolding kind-allows
+    allows-any m = simp (ne-eqb kind rust k, ne-eqb kind export m)
 
 -- ---- its bytes
-module _ (e : Edition) (code : ℕ) (bs : List ℕ) where
-  pub content-nonstar : (r : Bool) → code % 32 / 4 ≡ 2 → r ≡ glob-stands e bs → r ≡ content-good e (line-of 0 code bs)
+module _ (e : Edition) (code class : ℕ) (c : class ≡ class-in code) (bs : List ℕ) where
+  pub content-nonstar : (r : Bool) → class ≡ nonstar-class → r ≡ glob-stands e bs → r ≡ content-good e (line-of 0 code bs)
   unfolding content-good
-  content-nonstar r h k = simp (eq-eqb (code % 32 / 4) 2 h) k
+  content-nonstar r h k = simp (← c, eq-eqb class nonstar-class h) k
 
-  pub content-star : (r : Bool) → (code % 32 / 4 ≡ 2 → ⊥) → code % 32 / 4 ≡ 3 → r ≡ glob-stands e bs → r ≡ content-good e (line-of 0 code bs)
+  pub content-star : (r : Bool) → (class ≡ nonstar-class → ⊥) → class ≡ star-class → r ≡ glob-stands e bs → r ≡ content-good e (line-of 0 code bs)
   unfolding content-good
-  content-star r f h k = simp (ne-eqb (code % 32 / 4) 2 f, eq-eqb (code % 32 / 4) 3 h) k
+  content-star r f h k = simp (← c, ne-eqb class nonstar-class f, eq-eqb class star-class h) k
 
-  pub content-plain : (code % 32 / 4 ≡ 2 → ⊥) → (code % 32 / 4 ≡ 3 → ⊥) → true ≡ content-good e (line-of 0 code bs)
+  pub content-plain : (class ≡ nonstar-class → ⊥) → (class ≡ star-class → ⊥) → true ≡ content-good e (line-of 0 code bs)
   unfolding content-good
-  content-plain f g = simp (ne-eqb (code % 32 / 4) 2 f, ne-eqb (code % 32 / 4) 3 g)
+  content-plain f g = simp (← c, ne-eqb class nonstar-class f, ne-eqb class star-class g)
 
 -- ---- all of it
 module _ (frame : Frame) (node code : ℕ) (bs : List ℕ) (a : Bool) (h : a ≡ in-range (frame .nodes) (line-of node code bs)) where
@@ -163,15 +172,16 @@ module _ (frame : Frame) (node code : ℕ) (bs : List ℕ) (a : Bool) (h : a ≡
     line-rest e r g d q = rw (← h, not-false a f, ← k, not-false b g) (rw d at q)
 
 -- ---- the general `*` among the locals
-module _ (code : ℕ) where
-  pub star-no-all : (code % 32 / 4 ≡ 4 → ⊥) → false ≡ bare-star (line-of 0 code [])
+module _ (code class : ℕ) (c : class ≡ class-in code) where
+  pub star-no-all : (class ≡ all-class → ⊥) → false ≡ bare-star (line-of 0 code [])
   unfolding bare-star
-  star-no-all f = simp (ne-eqb (code % 32 / 4) 4 f)
+  star-no-all f = simp (← c, ne-eqb class all-class f)
 
-  pub star-global : code % 32 / 4 ≡ 4 → (code % 4 / 2 ≡ 1 → ⊥) → false ≡ bare-star (line-of 0 code [])
-  unfolding bare-star
-  star-global h f = simp (eq-eqb (code % 32 / 4) 4 h, ne-eqb (code % 4 / 2) 1 f)
+  module _ (h : class ≡ all-class) (section : ℕ) (s : section ≡ section-in code) where
+    pub star-global : (section ≡ local → ⊥) → false ≡ bare-star (line-of 0 code [])
+    unfolding bare-star
+    star-global f = simp (← c, eq-eqb class all-class h, ← s, ne-eqb section local f)
 
-  pub star-general : code % 32 / 4 ≡ 4 → code % 4 / 2 ≡ 1 → eqb (code % 2) 0 ≡ bare-star (line-of 0 code [])
-  unfolding bare-star
-  star-general h k = simp (eq-eqb (code % 32 / 4) 4 h, eq-eqb (code % 4 / 2) 1 k)
+    pub star-general : section ≡ local → (language : ℕ) → language ≡ language-in code → eqb language general ≡ bare-star (line-of 0 code [])
+    unfolding bare-star
+    star-general k language l = simp (← c, eq-eqb class all-class h, ← s, eq-eqb section local k, ← l)

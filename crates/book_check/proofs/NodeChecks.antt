@@ -4,6 +4,7 @@ use Prim.Native.Nat.{ℕ, _+_, _-_, _*_, _/_, _≤_, _<_}
 use mathlib.Core.Path.{_≡_, refl, sym, ap, _∙_}
 use mathlib.Core.List.{List, [], _∷_}
 use mathlib.Core.Bool.{Bool, true, false, _&&_, not, or-false, true≢false}
+use mathlib.Core.Option.{Option}
 use native.Mathlib.Decide.{ℕ-discrete}
 use native.Mathlib.Numerals.{add-one}
 use native.Mathlib.Omega.{arith}
@@ -19,11 +20,14 @@ use Rattle.packing.specs.Tables.{fine, packs, things}
 use Rattle.packing.proofs.Turns.{left, left-all, starts-at, size-at, row-bad, size-bad, row-more, end-bad, end-good, packs-no, packs-zero, packs-rows}
 use Rattle.linker_script.specs.Skip.{blank, skips}
 use Rattle.reading_tokens.specs.Tokens.{named}
-use Rattle.book.specs.Books.{Node, first-named, no-node}
+use Rattle.linker_script.specs.declared.Found.{Found}
+use Rattle.linker_script.specs.declared.Found.the-variants.{Here, Nowhere}
+use Rattle.book.specs.Books.{Node, first-named, found, no-node}
 use Rattle.book.specs.Layout.{node-form}
-use Rattle.book.specs.Sanity.{name-good, named-good, no-semicolon, nodes-good, parent-good}
+use Rattle.book.specs.Sanity.{is-number, name-good, named-good, no-semicolon, nodes-good, parent-good}
 use Rattle.book.specs.View.{any-node}
 use Rattle.book.proofs.Forms.{node-laws}
+use Rattle.book.proofs.FirstNamed.{found-here, found-nowhere}
 use Rattle.book.proofs.NodeRows.{Row, told-name, node-row, row-at, row-name, nodes-count}
 
 -- ---- a test of each byte: what is left from i on decides
@@ -166,7 +170,7 @@ module _ (xs : List Node) (i p : ℕ) where
   parent-none e = simp (eq-eqb p 0 e)
 
   parent-parts : (p ≡ 0 → ⊥)
-      → parent-good xs i p ≡ (ltb p i && (eqb (first-named xs (getD xs p no-node .name)) p && every no-semicolon (getD xs p no-node .name)))
+      → parent-good xs i p ≡ (ltb p i && (is-number p (first-named xs 0 (getD xs p no-node .name)) && every no-semicolon (getD xs p no-node .name)))
   unfolding parent-good
   parent-parts h = simp (ne-eqb p 0 h)
 
@@ -174,26 +178,39 @@ module _ (xs : List Node) (i p : ℕ) where
   parent-late h w = sym (first-fails (parent-good xs i p) (ltb p i) _ (parent-parts h) (le-ltb p i w))
 
   parent-early : (p ≡ 0 → ⊥) → p < i
-      → parent-good xs i p ≡ (eqb (first-named xs (getD xs p no-node .name)) p && every no-semicolon (getD xs p no-node .name))
+      → parent-good xs i p ≡ (is-number p (first-named xs 0 (getD xs p no-node .name)) && every no-semicolon (getD xs p no-node .name))
   parent-early h w = passes-on (parent-good xs i p) (ltb p i) _ (parent-parts h) (lt-ltb p i w)
 
 module _ (n b : ℕ) (l m : List ℕ) (g : packs node-form any-node n b l m ≡ true) (i p : ℕ) (h : i ≤ n) (w : p < i) where
   pub parent-row : Row n b l m g p (3 * p)
   parent-row = node-row n b l m g p (omega arith)
 
-  module _ (q : ℕ) (y : p ≡ 0 → ⊥) (e : q ≡ first-named (things node-form n l m) (told-name l m (3 * p))) where
-    parent-first : first-named (things node-form n l m) (getD (things node-form n l m) p no-node .name) ≡ q
-    parent-first = sym (e ∙ ap (first-named (things node-form n l m)) (row-name n b l m g p (3 * p) parent-row))
+  module _ (o : Found) (y : p ≡ 0 → ⊥) (e : o ≡ found (first-named (things node-form n l m) 0 (told-name l m (3 * p)))) where
+    abbrev first : Option ℕ
+    first = first-named (things node-form n l m) 0 (getD (things node-form n l m) p no-node .name)
+
+    parent-first : o ≡ found first
+    parent-first = e ∙ ap (λ (s : List ℕ). found (first-named (things node-form n l m) 0 s)) (row-name n b l m g p (3 * p) parent-row)
+
+    none-told : o ≡ Nowhere → is-number p first ≡ false
+    none-told v = rw (found-nowhere o first parent-first v)
+
+    number-told : (q : ℕ) → o ≡ Here q → is-number p first ≡ eqb q p
+    number-told q v = rw (found-here o first q parent-first v)
+
+    -- no node has its name
+    pub parent-nowhere : o ≡ Nowhere → false ≡ parent-good (things node-form n l m) i p
+    parent-nowhere f = sym (first-fails _ _ _ (parent-early (things node-form n l m) i p y w) (none-told f))
 
     -- an earlier node has its name
-    pub parent-again : (q ≡ p → ⊥) → false ≡ parent-good (things node-form n l m) i p
-    parent-again f = sym (first-fails _ _ _ (parent-early (things node-form n l m) i p y w) (ne-eqb _ _ (λ u. f (sym parent-first ∙ u))))
+    pub parent-again : (q : ℕ) → o ≡ Here q → (q ≡ p → ⊥) → false ≡ parent-good (things node-form n l m) i p
+    parent-again q v f = sym (first-fails _ _ _ (parent-early (things node-form n l m) i p y w) (number-told q v ∙ ne-eqb q p f))
 
     -- it is the first, and its name's bytes decide
-    pub parent-ends : (r : Bool) → q ≡ p → r ≡ every no-semicolon (told-name l m (3 * p)) → r ≡ parent-good (things node-form n l m) i p
-    parent-ends r f d =
+    pub parent-ends : (q : ℕ) (r : Bool) → o ≡ Here q → q ≡ p → r ≡ every no-semicolon (told-name l m (3 * p)) → r ≡ parent-good (things node-form n l m) i p
+    parent-ends q r v f d =
         d ∙ ap (every no-semicolon) (row-name n b l m g p (3 * p) parent-row)
-        ∙ sym (passes-on _ _ _ (parent-early (things node-form n l m) i p y w) (eq-eqb _ _ (parent-first ∙ f)))
+        ∙ sym (passes-on _ _ _ (parent-early (things node-form n l m) i p y w) (number-told q v ∙ eq-eqb q p f))
 
 -- ---- the nodes: what is left from node i on, whose row starts at `at`, decides
 pub record Judging (n : ℕ) (l m : List ℕ) (i at : ℕ) : Type 0 where

@@ -15,7 +15,7 @@ ghost use Rattle.book.specs.Layout.{edit-form, edit-width, line-form, line-widt
 ghost use Rattle.book.specs.Sanity.{edit-ok};
 use book::EDIT_WIDTH;
 use book::LINE_WIDTH;
-use book::STRUCK;
+use book::codes::is_struck;
 use numbers::LINE_LIMIT;
 use packing::zero_numbers;
 
@@ -55,7 +55,7 @@ fn stands_now(lines: &[u32], back: &[u8], i: usize) -> bool
     if back[i] != 0 {
         return true;
     }
-    lines[LINE_WIDTH * i + 1] < STRUCK
+    !is_struck(lines[LINE_WIDTH * i + 1])
 }
 
 // Whether the first n lines stand, once the strikes in `back` are taken back.

@@ -49,7 +49,8 @@ fn is_kind_good(
     journal: &[u32],
 ) -> bool
     requires { ⌜ laid c (five (now nodes) (now names) (now lines) (now pool) (now journal)) ≡ true ⌝ }
-    ensures { λ r. ⌜ r ≡ kind-good (book-of c (five (now (nodes .entry)) (now (names .entry)) (now (lines .entry)) (now (pool .entry)) (now (journal .entry)))) ⌝ }
+    ensures { λ r. ⌜ r ≡ kind-good
+        (book-of c (five (now (nodes .entry)) (now (names .entry)) (now (lines .entry)) (now (pool .entry)) (now (journal .entry)))) ⌝ }
 {
     let kind = c.kind;
     if kind == REGULAR {

@@ -13,9 +13,18 @@ use book::EXPORT;
 use book::Frame;
 use book::LINE_WIDTH;
 use book::RUST;
-use book::STRUCK;
+use book::codes::class_of;
+use book::codes::language_of;
+use book::codes::section_of;
 use book::editions::edition_of;
+use numbers::ALL_CLASS;
+use numbers::EXACT_CLASS;
 use numbers::Edition;
+use numbers::GENERAL;
+use numbers::GLOBAL;
+use numbers::LOCAL;
+use numbers::NONSTAR_CLASS;
+use numbers::STAR_CLASS;
 use numbers::TOKEN_LIMIT;
 use packing::zero_bytes;
 use packing::zero_numbers;
@@ -63,11 +72,11 @@ fn is_in_range(nodes: u32, node: u32, code: u32, bytes: &[u8]) -> bool
     if TOKEN_LIMIT < size {
         return false;
     }
-    let class = code % STRUCK / 4;
-    if class < 4 {
+    let class = class_of(code);
+    if class < ALL_CLASS {
         return true;
     }
-    if class == 4 {
+    if class == ALL_CLASS {
         return size == 0;
     }
     false
@@ -77,18 +86,18 @@ fn is_in_range(nodes: u32, node: u32, code: u32, bytes: &[u8]) -> bool
 fn kind_allows(kind: u32, code: u32) -> bool
     ensures { λ r. ⌜ r ≡ kind-allows kind (line-of 0 code []) ⌝ }
 {
-    let section = code % 4 / 2;
+    let section = section_of(code);
     if kind == RUST {
-        if section != 0 {
+        if section != GLOBAL {
             return true;
         }
-        if code % STRUCK / 4 != 0 {
+        if class_of(code) != EXACT_CLASS {
             return false;
         }
-        return code % 2 == 0;
+        return language_of(code) == GENERAL;
     }
     if kind == EXPORT {
-        return section == 0;
+        return section == GLOBAL;
     }
     true
 }
@@ -96,11 +105,11 @@ fn kind_allows(kind: u32, code: u32) -> bool
 fn content_good(edition: Edition, code: u32, bytes: &[u8]) -> bool
     ensures { λ r. ⌜ r ≡ content-good edition (line-of 0 code (now (bytes .entry))) ⌝ }
 {
-    let class = code % STRUCK / 4;
-    if class == 2 {
+    let class = class_of(code);
+    if class == NONSTAR_CLASS {
         return glob_stands(edition, bytes);
     }
-    if class == 3 {
+    if class == STAR_CLASS {
         return glob_stands(edition, bytes);
     }
     true
@@ -166,13 +175,13 @@ pub fn lines_packed(frame: Frame, lines: &[u32], pool: &[u8], n: u32, p: u32) ->
 fn is_bare_star(code: u32) -> bool
     ensures { λ r. ⌜ r ≡ bare-star (line-of 0 code []) ⌝ }
 {
-    if code % STRUCK / 4 != 4 {
+    if class_of(code) != ALL_CLASS {
         return false;
     }
-    if code % 4 / 2 != 1 {
+    if section_of(code) != LOCAL {
         return false;
     }
-    code % 2 == 0
+    language_of(code) == GENERAL
 }
 
 // Whether one of n lines is a general `*` among the locals.

@@ -13,6 +13,7 @@ ghost use Rattle.book.specs.Sanity.{name-good, no-semicolon, nodes-good, parent
 ghost use Rattle.book.specs.View.{any-node};
 use book::NODE_WIDTH;
 use book::nodes::first_named;
+use linker_script::Found;
 use linker_script::byte_at;
 use packing::zero_bytes;
 use packing::zero_numbers;
@@ -130,10 +131,15 @@ fn is_parent(nodes: &[u32], names: &[u8], n: usize, bytes: usize, i: usize, p: u
     let at = NODE_WIDTH * q;
     let start = nodes[at] as usize;
     let end = start + (nodes[at + 1] as usize);
-    if first_named(nodes, names, n, bytes, &names[start..end]) != q {
-        return false;
+    match first_named(nodes, names, n, bytes, &names[start..end]) {
+        Found::Nowhere => false,
+        Found::Here(first) => {
+            if first != q {
+                return false;
+            }
+            has_no_semicolon(&names[start..end])
+        }
     }
-    has_no_semicolon(&names[start..end])
 }
 
 // Whether the nodes are those that a reading gives.

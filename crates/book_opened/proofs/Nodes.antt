@@ -4,6 +4,7 @@ use Prim.Native.Nat.{ℕ, suc, _+_, _-_, _<_, _≤_}
 use mathlib.Core.Path.{_≡_, refl, ap, _∙_}
 use mathlib.Core.List.{List, [], _∷_, _++_}
 use mathlib.Core.Bool.{Bool, true, false, _&&_, true≢false, and-false, or-true}
+use mathlib.Core.Option.{some}
 use native.Mathlib.Decide.{decLt, ℕ-discrete}
 use native.Mathlib.Nat.{add-zero}
 use native.Mathlib.Omega.{arith}
@@ -57,7 +58,7 @@ name-is-good s p n h k =
 -- ---- a parent: none, or an earlier node, the first of its name, which has no `;`
 pub data Parent-good (xs : List Node) (i q : ℕ) : Type 0 where
   none : q ≡ 0 → Parent-good xs i q
-  earlier : q < i → first-named xs (getD xs q no-node .name) ≡ q → every no-semicolon (getD xs q no-node .name) ≡ true → Parent-good xs i q
+  earlier : q < i → first-named xs 0 (getD xs q no-node .name) ≡ some q → every no-semicolon (getD xs q no-node .name) ≡ true → Parent-good xs i q
 
 -- all nodes
 pub record Nodes-good (xs : List Node) : Type 0 where
@@ -70,7 +71,7 @@ pub record Nodes-good (xs : List Node) : Type 0 where
 parent-told : (xs : List Node) (i q : ℕ) → Parent-good xs i q → parent-good xs i q ≡ true
 unfolding parent-good
 parent-told xs i q (none z) = rw (eq-eqb q 0 z)
-parent-told xs i q (earlier h e n) = rw (lt-ltb q i h, eq-eqb _ _ e, n) (or-true (eqb q 0))
+parent-told xs i q (earlier h e n) = rw (lt-ltb q i h, e, eq-eqb q q refl, n) (or-true (eqb q 0))
 
 named-told : (all : List Node) (i : ℕ) (xs : List Node) → ((j : ℕ) → j < length xs → name-good (getD xs j no-node .name) ≡ true)
     → ((j : ℕ) → j < length xs → parent-good all (i + j) (getD xs j no-node .parent) ≡ true) → named-good all i xs ≡ true
@@ -107,7 +108,7 @@ module _ (xs : List Node) (t : Nodes-good xs) (name : List ℕ) (good : name-goo
   parent-front ys i q h (none z) = none z
   parent-front ys i q h (earlier k e n) =
       let z : getD (xs ++ ys) q no-node ≡ getD xs q no-node = List·getD-append xs ys no-node q (omega arith) in
-      earlier k (rw z (first-front xs ys (getD xs q no-node .name) (omega arith) ∙ e)) (rw z n)
+      earlier k (rw z (first-front xs ys 0 (getD xs q no-node .name) q e)) (rw z n)
 
   at-last : (i : ℕ) → i ≡ length xs → getD (xs ++ fresh name ∷ []) i no-node ≡ fresh name
   at-last i z = rw z (getD-append-seam xs (fresh name) [] no-node)
@@ -135,18 +136,19 @@ module _ (xs : List Node) (t : Nodes-good xs) (name : List ℕ) (good : name-goo
       parents i h k (no l) = none (ap (λ (y : Node). y .parent) (at-last i (omega arith)))
 
 -- ---- a parent is set: the first node of a name without `;`, before the last
-module _ (xs : List Node) (t : Nodes-good xs) (name : List ℕ) (free : every no-semicolon name ≡ true) (before : first-named xs name < length xs - 1) where
+module _ (xs : List Node) (t : Nodes-good xs) (name : List ℕ) (free : every no-semicolon name ≡ true) (first : ℕ)
+    (named-so : first-named xs 0 name ≡ some first) (before : first < length xs - 1) where
   abbrev last : ℕ
   last = length xs - 1
 
   abbrev new : Node
-  new = record { name = getD xs last no-node .name; parent = first-named xs name }
+  new = record { name = getD xs last no-node .name; parent = first }
 
   parent-set : (i q : ℕ) → Parent-good xs i q → Parent-good (set xs last new) i q
   parent-set i q (none z) = none z
   parent-set i q (earlier h e n) =
       let z : getD (set xs last new) q no-node .name ≡ getD xs q no-node .name = name-set xs last q new refl in
-      earlier h (rw z (first-set xs last new (getD xs q no-node .name) refl ∙ e)) (rw z n)
+      earlier h (rw z (first-set xs last new 0 (getD xs q no-node .name) refl ∙ e)) (rw z n)
 
   pub node-ends : Nodes-good (set xs last new)
   node-ends = record {
@@ -158,7 +160,8 @@ module _ (xs : List Node) (t : Nodes-good xs) (name : List ℕ) (free : every no
     where
       parents : (i : ℕ) → 0 < i → i < length xs → Dec (i ≡ last) → Parent-good (set xs last new) i (getD (set xs last new) i no-node .parent)
       parents i h k (yes z) =
-          let w : getD xs (first-named xs name) no-node .name ≡ name = first-has xs name (omega arith) in
+          let o : first - 0 ≡ first = omega arith in
+          let w : getD xs first no-node .name ≡ name = rw o at (first-has xs 0 name first named-so .name) in
           rw (z, getD-set-same xs last new no-node (omega arith))
-          (parent-set last (first-named xs name) (earlier before (ap (first-named xs) w) (rw w free)))
+          (parent-set last first (earlier before (ap (first-named xs 0) w ∙ named-so) (rw w free)))
       parents i h k (no z) = rw (getD-set-other xs last i new no-node z) (parent-set i (getD xs i no-node .parent) (t .parents i h k))

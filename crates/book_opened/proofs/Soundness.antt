@@ -4,6 +4,7 @@ use Prim.Native.Nat.{ℕ, _+_, _-_, _≤_, _<_}
 use mathlib.Core.Path.{_≡_, refl, sym, _∙_}
 use mathlib.Core.List.{List, [], _∷_, _++_}
 use mathlib.Core.Bool.{Bool, true, false, cond, true≢false, or-true}
+use mathlib.Core.Option.{Option, some, none}
 use native.Mathlib.Omega.{arith}
 use borrow.Author.Tests.{eq-eqb, le-ltb, ltb-true, ltb-false}
 use lib.Dec.{eqb, ltb}
@@ -28,7 +29,7 @@ use Rattle.book.specs.Edits.{stands}
 use Rattle.book.specs.Layout.{Buffers, node-width}
 use Rattle.book.specs.Sanity.{kind-allows, line-ok, name-good, no-semicolon}
 use Rattle.book_rooms.specs.Rooms.{line-room, node-room}
-use Rattle.book_building.specs.Building.{Building, Taken, on, no, in-block, out-of-block, take-event, take-kept, take-node, take-parent, frame-so-far}
+use Rattle.book_building.specs.Building.{Building, Taken, on, no, in-block, out-of-block, take-event, take-kept, take-node, take-parent, to-parent, frame-so-far}
 use Rattle.book_opening.specs.Opening.{nothing-yet}
 use Rattle.book_building.proofs.Kept.{kept-line}
 use Rattle.book_building.proofs.NodeEvents.{every-more}
@@ -87,11 +88,11 @@ good-node b xs ys name t h e = record {
 
 -- a parent is set
 good-parent : (b : Buffers) (xs : List Node) (ys : List Line) (name : List ℕ) → Good b xs ys → every no-semicolon name ≡ true
-    → first-named xs name < length xs - 1
-    → Good b (set xs (length xs - 1) (record { name = getD xs (length xs - 1) no-node .name; parent = first-named xs name })) ys
-good-parent b xs ys name t h k = record {
-  rooms = roomy-parent b xs ys (t .rooms) (length xs - 1) (record { name = getD xs (length xs - 1) no-node .name; parent = first-named xs name }) refl;
-  nodes = node-ends xs (t .nodes) name h k;
+    → (q : ℕ) → first-named xs 0 name ≡ some q → q < length xs - 1
+    → Good b (set xs (length xs - 1) (record { name = getD xs (length xs - 1) no-node .name; parent = q })) ys
+good-parent b xs ys name t h q f k = record {
+  rooms = roomy-parent b xs ys (t .rooms) (length xs - 1) (record { name = getD xs (length xs - 1) no-node .name; parent = q }) refl;
+  nodes = node-ends xs (t .nodes) name h q f k;
   lines = rw length-set (t .lines);
   stand = t .stand;
 }
@@ -170,15 +171,19 @@ module _ (place : ℕ) (b : Buffers) (c d : Cursor) (g : Building) (t : Sound pl
       → d .language ≡ c .language → every no-semicolon name ≡ true → Holds (Sound place b d) (take-parent g p name)
   unfolding take-parent
   sound-parent p [] l h k z f = takes (stays h k z (λ j. absurd (omega (arith, was-list j))))
-  sound-parent p (x ∷ name) l h k z f = holds-cond (ltb (first-named (g .nodes) (x ∷ name)) (length (g .nodes) - 1)) (λ e. takes (record {
-    few = n .few;
-    side = behind;
-    marked = m;
-    good = good-parent b (g .nodes) (g .lines) (x ∷ name) (t .good) f (ltb-true _ _ e);
-    agrees = outside h k z;
-    rust = t .rust;
-    list = no-list l;
-  })) refuses
+  sound-parent p (x ∷ name) l h k z f = by-first (first-named (g .nodes) 0 (x ∷ name)) refl
+    where
+      by-first : (a : Option ℕ) → first-named (g .nodes) 0 (x ∷ name) ≡ a → Holds (Sound place b d) (to-parent g p a)
+      by-first (some q) v = holds-cond (ltb q (length (g .nodes) - 1)) (λ e. takes (record {
+        few = n .few;
+        side = behind;
+        marked = m;
+        good = good-parent b (g .nodes) (g .lines) (x ∷ name) (t .good) f q v (ltb-true _ _ e);
+        agrees = outside h k z;
+        rust = t .rust;
+        list = no-list l;
+      })) refuses
+      by-first none v = refuses
 
   -- an extern block opens, and closes
   sound-extern : block-place (d .place) ≡ true → d .section ≡ c .section → Sound place b d (in-block g (c .section))

@@ -3,6 +3,7 @@ use Prim.Native.Nat.{ℕ, zero, suc, _≤_}
 use mathlib.Core.Path.{_≡_, refl}
 use mathlib.Core.List.{List, [], _∷_}
 use mathlib.Core.Bool.{Bool, true, false, cond}
+use mathlib.Core.Option.{Option, some, none}
 use native.Mathlib.Omega.{arith}
 use lib.Dec.{leb, ltb}
 use lib.ListN.{length}
@@ -25,7 +26,7 @@ use Rattle.reading.proofs.Refusals.{standing-refuses}
 use Rattle.book.specs.Books.{edition-of, first-named}
 use Rattle.book.specs.Layout.{Buffers, node-width}
 use Rattle.book_rooms.specs.Rooms.{line-room, node-room}
-use Rattle.book_building.specs.Building.{Building, Taken, frame-so-far, no, on, take-event, take-kept, take-node, take-parent}
+use Rattle.book_building.specs.Building.{Building, Taken, frame-so-far, no, on, take-event, take-kept, take-node, take-parent, to-parent}
 use Rattle.book_building.specs.Events.{Lies}
 use Rattle.book_opening.specs.declared.How.{How}
 use Rattle.book_opening.specs.Opening.{Opening, build, build-reading, declined, nothing-yet, on-taken, opening, opens}
@@ -51,10 +52,14 @@ module _ (s : List ℕ) where
   kept-within b g p section language (kept k bs) h = when-within (line-room b (g .lines) bs) _ no-room p h
   kept-within b g p section language (refused n) h = h
 
+  found-within : (g : Building) (p : ℕ) (a : Option ℕ) → p ≤ length s → Taken-within (to-parent g p a)
+  found-within g p (some q) h = when-within (ltb q _) _ unknown-parent p h
+  found-within g p none h = h
+
   parent-within : (g : Building) (p : ℕ) (t : List ℕ) → p ≤ length s → Taken-within (take-parent g p t)
   unfolding take-parent
   parent-within g p [] h = tt
-  parent-within g p (c ∷ t) h = when-within (ltb (first-named (g .nodes) (c ∷ t)) _) _ unknown-parent p h
+  parent-within g p (c ∷ t) h = found-within g p (first-named (g .nodes) 0 (c ∷ t)) h
 
   event-within : (b : Buffers) (g : Building) (e : Event) → Lies s e → Taken-within (take-event b s g e)
   unfolding take-event take-node

@@ -3,6 +3,7 @@ use Prim.Native.Nat.{ℕ, _≤_}
 use mathlib.Core.Path.{_≡_, refl, sym}
 use mathlib.Core.List.{List, [], _∷_}
 use mathlib.Core.Bool.{Bool, true, false, cond, _||_, true≢false}
+use mathlib.Core.Option.{Option, some, none}
 use native.Mathlib.Omega.{arith}
 use borrow.Author.Tests.{eqb-true}
 use lib.Dec.{eqb, leb, ltb}
@@ -27,7 +28,7 @@ use Rattle.reading.proofs.Refusals.{of-reader, reading-refuses}
 use Rattle.book.specs.Books.{edition-of, first-named}
 use Rattle.book.specs.Layout.{Buffers, node-width}
 use Rattle.book_rooms.specs.Rooms.{line-room, node-room}
-use Rattle.book_building.specs.Building.{Building, Taken, frame-so-far, no, on, take-event, take-kept, take-node, take-parent}
+use Rattle.book_building.specs.Building.{Building, Taken, frame-so-far, no, on, take-event, take-kept, take-node, take-parent, to-parent}
 use Rattle.book_opening.specs.declared.How.{How}
 use Rattle.book_opening.specs.Opening.{Opening, build, build-reading, declined, ended, nothing-yet, on-taken, opening, opens}
 
@@ -83,10 +84,14 @@ unfolding take-kept
 kept-says b g p section language (kept k bs) h = when-says (line-room b (g .lines) bs) _ no-room p (omega arith, omega arith)
 kept-says b g p section language (refused n) h = h
 
+found-says : (g : Building) (p : ℕ) (a : Option ℕ) → Taken-says (to-parent g p a)
+found-says g p (some q) = when-says (ltb q _) _ unknown-parent p (omega arith, omega arith)
+found-says g p none = (omega arith, omega arith)
+
 parent-says : (g : Building) (p : ℕ) (t : List ℕ) → Taken-says (take-parent g p t)
 unfolding take-parent
 parent-says g p [] = tt
-parent-says g p (c ∷ t) = when-says (ltb (first-named (g .nodes) (c ∷ t)) _) _ unknown-parent p (omega arith, omega arith)
+parent-says g p (c ∷ t) = found-says g p (first-named (g .nodes) 0 (c ∷ t))
 
 event-says : (b : Buffers) (s : List ℕ) (g : Building) (e : Event) → Taken-says (take-event b s g e)
 unfolding take-event take-node

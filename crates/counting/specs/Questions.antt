@@ -1,5 +1,5 @@
--- What a version book is asked about its nodes: the counts, as 01 has them under 'Ranking'; and a node's name and parent, for who shows a book, which 01 does not
--- name. Assumes nothing.
+-- What a version book is asked about its nodes: the counts, as 01 has them under 'Ranking'; and a node's name and parent, for who shows a book, which 01 does
+-- not name. Assumes nothing.
 use Prim.Native.Nat.{ℕ, _+_}
 use mathlib.Core.List.{List, [], _∷_}
 use mathlib.Core.Bool.{cond}

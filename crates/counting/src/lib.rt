@@ -1,5 +1,5 @@
-// The counts of a version book, and its nodes. Definitions: specs/Questions.antt, from document 01, 'Ranking'. Every question asks first whether the buffers hold
-// a book (14).
+// The counts of a version book, and its nodes. Definitions: specs/Questions.antt, from document 01, 'Ranking'. Every question asks first whether the buffers
+// hold a book (14).
 ghost use mathlib.Core.Path.{_≡_};
 ghost use mathlib.Core.List.{[]};
 ghost use Prim.Native.Nat.{_*_, _≤_};
@@ -38,7 +38,8 @@ pub fn version_count(
     pool: &[u8],
     journal: &[u32],
 ) -> Count
-    ensures { λ r. ⌜ r ≡ counted version-count (view c (five (now (nodes .entry)) (now (names .entry)) (now (lines .entry)) (now (pool .entry)) (now (journal .entry)))) ⌝ }
+    ensures { λ r. ⌜ r ≡ counted version-count
+        (view c (five (now (nodes .entry)) (now (names .entry)) (now (lines .entry)) (now (pool .entry)) (now (journal .entry)))) ⌝ }
 {
     if !is_book(c, nodes, names, lines, pool, journal) {
         return Count::Refused(NO_BOOK);
@@ -81,7 +82,8 @@ pub fn parent_count(
     pool: &[u8],
     journal: &[u32],
 ) -> Count
-    ensures { λ r. ⌜ r ≡ counted parent-count (view c (five (now (nodes .entry)) (now (names .entry)) (now (lines .entry)) (now (pool .entry)) (now (journal .entry)))) ⌝ }
+    ensures { λ r. ⌜ r ≡ counted parent-count
+        (view c (five (now (nodes .entry)) (now (names .entry)) (now (lines .entry)) (now (pool .entry)) (now (journal .entry)))) ⌝ }
 {
     if !is_book(c, nodes, names, lines, pool, journal) {
         return Count::Refused(NO_BOOK);
@@ -102,7 +104,8 @@ pub fn version_node(
     journal: &[u32],
     node: u32,
 ) -> NodeAnswer
-    ensures { λ r. ⌜ r ≡ node-of node (view c (five (now (nodes .entry)) (now (names .entry)) (now (lines .entry)) (now (pool .entry)) (now (journal .entry)))) ⌝ }
+    ensures { λ r. ⌜ r ≡ node-of node
+        (view c (five (now (nodes .entry)) (now (names .entry)) (now (lines .entry)) (now (pool .entry)) (now (journal .entry)))) ⌝ }
 {
     if !is_book(c, nodes, names, lines, pool, journal) {
         return NodeAnswer::Refused(NO_BOOK);

@@ -26,7 +26,8 @@ pub fn contains(
     raw: &[u8],
     demangled: &[u8],
 ) -> Membership
-    ensures { λ r. ⌜ r ≡ contains-asked (view c (five (now (nodes .entry)) (now (names .entry)) (now (lines .entry)) (now (pool .entry)) (now (journal .entry))))
+    ensures { λ r. ⌜ r ≡ contains-asked
+        (view c (five (now (nodes .entry)) (now (names .entry)) (now (lines .entry)) (now (pool .entry)) (now (journal .entry))))
         (name-of (now (raw .entry)) (now (demangled .entry))) ⌝ }
 {
     if !is_book(c, nodes, names, lines, pool, journal) {

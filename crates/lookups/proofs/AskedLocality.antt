@@ -18,11 +18,11 @@ use Rattle.book.specs.View.{book-of, holds, view}
 use Rattle.book.proofs.Asking.{Held, asked-none, asked-held}
 use Rattle.ranking.specs.Matching.{name-of}
 use Rattle.ranking.specs.Names.{name-refusal}
-use Rattle.ranking.specs.Walk.{deciding, deciding-among}
+use Rattle.ranking.specs.Walk.{deciding}
 use Rattle.ranking.proofs.NameTests.{short-names}
 use Rattle.lookups.specs.declared.answers.Locality.{Locality}
 use Rattle.lookups.specs.declared.answers.Locality.the-variants as locality
-use Rattle.lookups.specs.Lookups.{decided-locality, listed, locality-asked, locality-of}
+use Rattle.lookups.specs.Lookups.{listed, locality-among, locality-asked, locality-of}
 
 module _ (c : Counts) (n m l p j raw demangled : List ℕ) (x : Bool) (e : x ≡ holds c (five n m l p j)) where
   pub locality-no-book : not x ≡ true → locality.Refused no-book ≡ locality-asked (view c (five n m l p j)) (name-of raw demangled)
@@ -61,8 +61,7 @@ module _ (c : Counts) (n m l p j raw demangled : List ℕ) (x : Bool) (e : x ≡
           asks-decider = let s = short-names (name-of raw demangled) false (sym f ∙ g) in (held-here .lines, held-here .few, omega (arith, s .raw), s .demangled)
 
           pub locality-decided : (r : Locality)
-              → r ≡ decided-locality (things line-form (c .lines) l p)
-              (deciding-among (frame-of c) (name-of raw demangled) (things line-form (c .lines) l p))
+              → r ≡ locality-among (frame-of c) (name-of raw demangled) (things line-form (c .lines) l p)
               → r ≡ locality-asked (view c (five n m l p j)) (name-of raw demangled)
           unfolding locality-asked locality-of deciding book-of
           locality-decided r u = rw (held-here .viewed, ne-eqb _ _ k, ← f, eq-eqb _ _ g, ne-eqb _ _ q, held-here .count) u

@@ -19,11 +19,11 @@ use Rattle.book.specs.View.{any-node, book-of, holds, view}
 use Rattle.book.proofs.Asking.{Held, asked-none, asked-held}
 use Rattle.ranking.specs.Matching.{name-of}
 use Rattle.ranking.specs.Names.{name-refusal}
-use Rattle.ranking.specs.Walk.{deciding, deciding-among}
+use Rattle.ranking.specs.Walk.{deciding}
 use Rattle.ranking.proofs.NameTests.{short-names}
 use Rattle.lookups.specs.declared.answers.Version.{Version}
 use Rattle.lookups.specs.declared.answers.Version.the-variants as version
-use Rattle.lookups.specs.Lookups.{decided-version, long-wanted, version-asked, version-of, wanted-of, wanted-version}
+use Rattle.lookups.specs.Lookups.{long-wanted, version-among, version-asked, version-of, wanted-of, wanted-version}
 
 -- ---- a wanted version over its limit
 pub none-wanted : (has : Bool) (v : List ℕ) → not has ≡ true → false ≡ long-wanted (wanted-of has v)
@@ -70,8 +70,7 @@ module _ (c : Counts) (n m l p j raw demangled : List ℕ) (has : Bool) (v : Lis
           asks-decided = let s = short-names (name-of raw demangled) long (sym f ∙ g) in (held .lines, held .few, omega (arith, s .raw), s .demangled)
 
           pub version-decided : has ≡ false → (r : Version)
-              → r ≡ decided-version (things line-form (c .lines) l p)
-              (deciding-among (frame-of c) (name-of raw demangled) (things line-form (c .lines) l p))
+              → r ≡ version-among (frame-of c) (name-of raw demangled) (things line-form (c .lines) l p)
               → r ≡ version-asked (view c (five n m l p j)) (name-of raw demangled) (wanted-of has v)
           unfolding version-asked version-of deciding book-of
           version-decided t r u = rw (held .viewed, ne-eqb _ _ k, ← y, ← f, eq-eqb _ _ g, ne-eqb _ _ q, t, held .count) u

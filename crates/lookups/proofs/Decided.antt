@@ -1,5 +1,5 @@
 -- Version and locality by the line that decides (specs/Lookups.antt), read from its row. Assumes nothing.
-use Prim.Native.Nat.{ℕ, _+_, _-_, _*_, _/_, _%_, _≤_, _<_}
+use Prim.Native.Nat.{ℕ, _+_, _*_, _≤_, _<_}
 use mathlib.Core.Path.{_≡_, sym, _∙_}
 use mathlib.Core.List.{List}
 use mathlib.Core.Bool.{true}
@@ -8,11 +8,12 @@ use native.Mathlib.Omega.{arith}
 use borrow.Author.Tests.{eq-eqb, ne-eqb}
 use lib.ListN.{getD}
 use Rattle.numbers.specs.Limits.{node-limit}
+use Rattle.numbers.specs.Marks.{global}
 use Rattle.lists.specs.Each.{every}
 use Rattle.packing.specs.Tables.{packs, things}
 use Rattle.book.specs.declared.Frame.{Frame}
 use Rattle.book.specs.Books.{Line, edition-of, no-line}
-use Rattle.book.specs.Layout.{line-form}
+use Rattle.book.specs.Layout.{line-form, section-in}
 use Rattle.book.specs.Sanity.{in-range, line-ok}
 use Rattle.book.proofs.LineRows.{Row, lines-count, lines-in-range, lines-packed, line-row, row-ranged}
 use Rattle.ranking.specs.declared.Deciding.{Deciding}
@@ -27,7 +28,8 @@ use Rattle.lookups.specs.declared.answers.Locality.the-variants as local
 use Rattle.lookups.specs.Lookups.{decided-locality, decided-version, node-version}
 
 -- the section that a row's code tells
-pub row-section : (frame : Frame) (n : ℕ) (l m : List ℕ) (i at : ℕ) → Row frame n l m i at → getD l (at + 1) 0 % 4 / 2 ≡ getD (things line-form n l m) i no-line .section
+pub row-section : (frame : Frame) (n : ℕ) (l m : List ℕ) (i at : ℕ) → Row frame n l m i at
+    → section-in (getD l (at + 1) 0) ≡ getD (things line-form n l m) i no-line .section
 row-section frame n l m i at r = let g = row-ranged frame n l m i at r in omega (arith, r .code)
 
 -- ---- the line that decides
@@ -67,8 +69,13 @@ module _ (frame : Frame) (n p : ℕ) (l m raw demangled : List ℕ) (g : packs l
     pub decider-version : (v : Version) → v ≡ node-version (getD l (4 * i) 0) → v ≡ decided-version xs found
     decider-version v e = e ∙ rw (one-found, decider-row .node)
 
-    pub decider-global : getD l (4 * i + 1) 0 % 4 / 2 ≡ 0 → locality.Global ≡ decided-locality xs found
-    decider-global h = rw (one-found, eq-eqb _ _ (sym (row-section frame n l m i (4 * i) decider-row) ∙ h))
+    -- its section is that of its code
+    module _ (section : ℕ) (k : section ≡ section-in (getD l (4 * i + 1) 0)) where
+      section-is : section ≡ getD xs i no-line .section
+      section-is = k ∙ row-section frame n l m i (4 * i) decider-row
 
-    pub decider-local : (getD l (4 * i + 1) 0 % 4 / 2 ≡ 0 → ⊥) → locality.Local ≡ decided-locality xs found
-    decider-local h = rw (one-found, ne-eqb _ _ (λ y. h (row-section frame n l m i (4 * i) decider-row ∙ y)))
+      pub decider-global : section ≡ global → locality.Global ≡ decided-locality xs found
+      decider-global h = rw (one-found, eq-eqb _ _ (sym section-is ∙ h))
+
+      pub decider-local : (section ≡ global → ⊥) → locality.Local ≡ decided-locality xs found
+      decider-local h = rw (one-found, ne-eqb _ _ (λ y. h (section-is ∙ y)))

@@ -1,5 +1,5 @@
 -- The globals of the Rust kind, row by row. Assumes nothing.
-use Prim.Native.Nat.{ℕ, _+_, _-_, _*_, _/_, _%_, _≤_, _<_}
+use Prim.Native.Nat.{ℕ, _+_, _-_, _*_, _≤_, _<_}
 use mathlib.Core.Path.{_≡_, refl, sym, ap, _∙_}
 use mathlib.Core.List.{List}
 use mathlib.Core.Bool.{Bool, true, false, _&&_, _||_}
@@ -16,7 +16,7 @@ use Rattle.lists.specs.Each.{any}
 use Rattle.packing.specs.Tables.{packs, things}
 use Rattle.book.specs.declared.Frame.{Frame}
 use Rattle.book.specs.Books.{Line, no-line}
-use Rattle.book.specs.Layout.{line-form}
+use Rattle.book.specs.Layout.{line-form, section-in}
 use Rattle.book.specs.Sanity.{line-ok}
 use Rattle.book.proofs.LineRows.{Row, lines-count, row-at, row-bytes}
 use Rattle.lookups.specs.Lookups.{listed}
@@ -43,33 +43,35 @@ module _ (frame : Frame) (n p : ℕ) (l m t : List ℕ) (g : packs line-form (li
     unfolding any listed
     next = rw (drop-cons (things line-form n l m) i no-line (omega (arith, lines-count frame n p l m g)), add-one)
 
-    section-is : getD l (at + 1) 0 % 4 / 2 ≡ line .section
-    section-is = row-section frame n l m i at (listing-row h)
+    -- its section is that of its code
+    module _ (section : ℕ) (s : section ≡ section-in (getD l (at + 1) 0)) where
+      section-is : section ≡ line .section
+      section-is = s ∙ row-section frame n l m i at (listing-row h)
 
-    -- the line is local
-    pub listing-local : (getD l (at + 1) 0 % 4 / 2 ≡ 0 → ⊥) → Listing n l m t (i + 1) (at + 4)
-    listing-local y = record {
-      within = omega arith;
-      place = omega (arith, z .place);
-      goes = z .goes ∙ next ∙ rw (ne-eqb _ _ (λ k. y (section-is ∙ k)));
-    }
-
-    module _ (y : getD l (at + 1) 0 % 4 / 2 ≡ 0) (r : Bool)
-        (e : r ≡ same (take (getD l (at + 2) 0 + getD l (at + 3) 0 - getD l (at + 2) 0) (drop (getD l (at + 2) 0) m)) t) where
-      asked : r ≡ same (line .bytes) t
-      asked = e ∙ ap (λ (u : List ℕ). same u t) (row-bytes frame n l m i at (listing-row h))
-
-      -- it is the name's
-      pub listing-found : r ≡ true → true ≡ listed (things line-form n l m) t
-      listing-found k = sym (z .goes ∙ next ∙ rw (eq-eqb _ _ (sym section-is ∙ y), ← asked, k))
-
-      -- it is another's
-      pub listing-other : r ≡ false → Listing n l m t (i + 1) (at + 4)
-      listing-other k = record {
+      -- the line is local
+      pub listing-local : (section ≡ global → ⊥) → Listing n l m t (i + 1) (at + 4)
+      listing-local y = record {
         within = omega arith;
         place = omega (arith, z .place);
-        goes = z .goes ∙ next ∙ rw (eq-eqb _ _ (sym section-is ∙ y), ← asked, k);
+        goes = z .goes ∙ next ∙ rw (ne-eqb _ _ (λ k. y (section-is ∙ k)));
       }
+
+      module _ (y : section ≡ global) (r : Bool)
+          (e : r ≡ same (take (getD l (at + 2) 0 + getD l (at + 3) 0 - getD l (at + 2) 0) (drop (getD l (at + 2) 0) m)) t) where
+        asked : r ≡ same (line .bytes) t
+        asked = e ∙ ap (λ (u : List ℕ). same u t) (row-bytes frame n l m i at (listing-row h))
+
+        -- it is the name's
+        pub listing-found : r ≡ true → true ≡ listed (things line-form n l m) t
+        listing-found k = sym (z .goes ∙ next ∙ rw (eq-eqb _ _ (sym section-is ∙ y), ← asked, k))
+
+        -- it is another's
+        pub listing-other : r ≡ false → Listing n l m t (i + 1) (at + 4)
+        listing-other k = record {
+          within = omega arith;
+          place = omega (arith, z .place);
+          goes = z .goes ∙ next ∙ rw (eq-eqb _ _ (sym section-is ∙ y), ← asked, k);
+        }
 
   -- none is
   pub listing-none : n ≤ i → false ≡ listed (things line-form n l m) t

@@ -9,11 +9,12 @@ use Rattle.numbers.specs.Marks.{global}
 use Rattle.numbers.specs.Refusals.{no-book, unknown-version, wrong-kind}
 use Rattle.lists.specs.Same.{same}
 use Rattle.lists.specs.Each.{any}
+use Rattle.book.specs.declared.Frame.{Frame}
 use Rattle.book.specs.Books.{Node, Line, Book, export, rust}
 use Rattle.book.specs.Edits.{line-at}
 use Rattle.ranking.specs.Matching.{Name}
 use Rattle.ranking.specs.Names.{name-refusal}
-use Rattle.ranking.specs.Walk.{deciding, or-else}
+use Rattle.ranking.specs.Walk.{deciding, deciding-among, or-else}
 use Rattle.lookups.specs.declared.index.NodeNumber.{NodeNumber}
 use Rattle.lookups.specs.declared.index.VersionIndex.{VersionIndex}
 use Rattle.lookups.specs.declared.answers.Version.{Version}
@@ -59,6 +60,10 @@ abbrev pub decided-version : List Line → Option ℕ → Version
 decided-version ls (some i) = node-version (line-at ls i .node)
 decided-version ls none = version.Unversioned
 
+-- by the line that decides among the lines ls of a book with that frame
+abbrev pub version-among : Frame → Name → List Line → Version
+version-among f n ls = decided-version ls (deciding-among f n ls)
+
 abbrev pub by-wanted : Book → Name → Option (List ℕ) → Version
 by-wanted w n (some v) = wanted-version (w .nodes) v
 by-wanted w n none = decided-version (w .lines) (deciding n w)
@@ -71,6 +76,9 @@ version-of w n v = cond (eqb (w .kind) rust) version.Unversioned (by-wanted w n 
 abbrev pub decided-locality : List Line → Option ℕ → Locality
 decided-locality ls (some i) = cond (eqb (line-at ls i .section) global) locality.Global locality.Local
 decided-locality ls none = locality.Nothing
+
+abbrev pub locality-among : Frame → Name → List Line → Locality
+locality-among f n ls = decided-locality ls (deciding-among f n ls)
 
 -- "global for listed names, else local"; the global lines of a book of the Rust kind are Exact and general, and none is struck (14)
 unfoldable pub listed : List Line → List ℕ → Bool

@@ -10,15 +10,16 @@ ghost use Rattle.book.specs.Layout.{five, frame-of, line-form};
 ghost use Rattle.book.specs.Sanity.{line-ok};
 ghost use Rattle.book.specs.View.{holds, view};
 ghost use Rattle.ranking.specs.Matching.{name-of};
-ghost use Rattle.ranking.specs.Walk.{deciding-among};
-ghost use Rattle.lookups.specs.Lookups.{decided-locality, listed, locality-asked};
+ghost use Rattle.lookups.specs.Lookups.{listed, locality-among, locality-asked};
 use crate::answers::Locality;
 use book::Counts;
 use book::EXPORT;
 use book::LINE_WIDTH;
 use book::RUST;
+use book::codes::section_of;
 use book::frame_of;
 use book_check::is_book;
+use numbers::GLOBAL;
 use numbers::NO_BOOK;
 use numbers::WRONG_KIND;
 use packing::same_bytes;
@@ -38,7 +39,7 @@ fn is_listed(c: Counts, lines: &[u32], pool: &[u8], name: &[u8]) -> bool
         let here = at;
         at += LINE_WIDTH;
         i += 1;
-        if lines[here + 1] % 4 / 2 != 0 {
+        if section_of(lines[here + 1]) != GLOBAL {
             continue;
         }
         let start = lines[here + 2] as usize;
@@ -54,9 +55,8 @@ fn is_listed(c: Counts, lines: &[u32], pool: &[u8], name: &[u8]) -> bool
 fn decided_locality(c: Counts, lines: &[u32], pool: &[u8], raw: &[u8], demangled: &[u8]) -> Locality
     requires { ⌜ (packs line-form (line-ok (frame-of c)) (c .lines) (c .pool) (now lines) (now pool) ≡ true) × (c .nodes ≤ node-limit)
         × (length (now raw) ≤ name-limit) × (length (now demangled) ≤ name-limit) ⌝ }
-    ensures { λ r. ⌜ r ≡ decided-locality (things line-form (c .lines) (now (lines .entry)) (now (pool .entry)))
-        (deciding-among (frame-of c) (name-of (now (raw .entry)) (now (demangled .entry)))
-        (things line-form (c .lines) (now (lines .entry)) (now (pool .entry)))) ⌝ }
+    ensures { λ r. ⌜ r ≡ locality-among (frame-of c) (name-of (now (raw .entry)) (now (demangled .entry)))
+        (things line-form (c .lines) (now (lines .entry)) (now (pool .entry))) ⌝ }
 {
     match find_match(
         frame_of(c),
@@ -69,7 +69,7 @@ fn decided_locality(c: Counts, lines: &[u32], pool: &[u8], raw: &[u8], demangled
     ) {
         Deciding::Nothing => Locality::Nothing,
         Deciding::Line(i) => {
-            if lines[LINE_WIDTH * i + 1] % 4 / 2 == 0 {
+            if section_of(lines[LINE_WIDTH * i + 1]) == GLOBAL {
                 return Locality::Global;
             }
             Locality::Local
@@ -89,7 +89,8 @@ pub fn locality_in_book(
     demangled: &[u8],
 ) -> Locality
     requires { ⌜ holds c (five (now nodes) (now names) (now lines) (now pool) (now journal)) ≡ true ⌝ }
-    ensures { λ r. ⌜ r ≡ locality-asked (view c (five (now (nodes .entry)) (now (names .entry)) (now (lines .entry)) (now (pool .entry)) (now (journal .entry))))
+    ensures { λ r. ⌜ r ≡ locality-asked
+        (view c (five (now (nodes .entry)) (now (names .entry)) (now (lines .entry)) (now (pool .entry)) (now (journal .entry))))
         (name-of (now (raw .entry)) (now (demangled .entry))) ⌝ }
 {
     if c.kind == EXPORT {
@@ -119,7 +120,8 @@ pub fn locality(
     raw: &[u8],
     demangled: &[u8],
 ) -> Locality
-    ensures { λ r. ⌜ r ≡ locality-asked (view c (five (now (nodes .entry)) (now (names .entry)) (now (lines .entry)) (now (pool .entry)) (now (journal .entry))))
+    ensures { λ r. ⌜ r ≡ locality-asked
+        (view c (five (now (nodes .entry)) (now (names .entry)) (now (lines .entry)) (now (pool .entry)) (now (journal .entry))))
         (name-of (now (raw .entry)) (now (demangled .entry))) ⌝ }
 {
     if !is_book(c, nodes, names, lines, pool, journal) {

@@ -10,8 +10,7 @@ ghost use Rattle.book.specs.Layout.{five, frame-of, line-form};
 ghost use Rattle.book.specs.Sanity.{line-ok};
 ghost use Rattle.book.specs.View.{holds, view};
 ghost use Rattle.ranking.specs.Matching.{name-of};
-ghost use Rattle.ranking.specs.Walk.{deciding-among};
-ghost use Rattle.lookups.specs.Lookups.{decided-version, long-wanted, node-version, version-asked, wanted-of};
+ghost use Rattle.lookups.specs.Lookups.{long-wanted, node-version, version-among, version-asked, wanted-of};
 use crate::answers::Version;
 use crate::index::NodeNumber;
 use crate::index::VersionIndex;
@@ -44,9 +43,8 @@ fn node_version(node: u32) -> Version
 fn decided_version(c: Counts, lines: &[u32], pool: &[u8], raw: &[u8], demangled: &[u8]) -> Version
     requires { ⌜ (packs line-form (line-ok (frame-of c)) (c .lines) (c .pool) (now lines) (now pool) ≡ true) × (c .nodes ≤ node-limit)
         × (length (now raw) ≤ name-limit) × (length (now demangled) ≤ name-limit) ⌝ }
-    ensures { λ r. ⌜ r ≡ decided-version (things line-form (c .lines) (now (lines .entry)) (now (pool .entry)))
-        (deciding-among (frame-of c) (name-of (now (raw .entry)) (now (demangled .entry)))
-        (things line-form (c .lines) (now (lines .entry)) (now (pool .entry)))) ⌝ }
+    ensures { λ r. ⌜ r ≡ version-among (frame-of c) (name-of (now (raw .entry)) (now (demangled .entry)))
+        (things line-form (c .lines) (now (lines .entry)) (now (pool .entry))) ⌝ }
 {
     match find_match(
         frame_of(c),
@@ -86,7 +84,8 @@ pub fn version_in_book(
     wanted: &[u8],
 ) -> Version
     requires { ⌜ holds c (five (now nodes) (now names) (now lines) (now pool) (now journal)) ≡ true ⌝ }
-    ensures { λ r. ⌜ r ≡ version-asked (view c (five (now (nodes .entry)) (now (names .entry)) (now (lines .entry)) (now (pool .entry)) (now (journal .entry))))
+    ensures { λ r. ⌜ r ≡ version-asked
+        (view c (five (now (nodes .entry)) (now (names .entry)) (now (lines .entry)) (now (pool .entry)) (now (journal .entry))))
         (name-of (now (raw .entry)) (now (demangled .entry))) (wanted-of «has_wanted» (now (wanted .entry))) ⌝ }
 {
     if c.kind == EXPORT {
@@ -118,7 +117,8 @@ pub fn version_for_symbol(
     has_wanted: bool,
     wanted: &[u8],
 ) -> Version
-    ensures { λ r. ⌜ r ≡ version-asked (view c (five (now (nodes .entry)) (now (names .entry)) (now (lines .entry)) (now (pool .entry)) (now (journal .entry))))
+    ensures { λ r. ⌜ r ≡ version-asked
+        (view c (five (now (nodes .entry)) (now (names .entry)) (now (lines .entry)) (now (pool .entry)) (now (journal .entry))))
         (name-of (now (raw .entry)) (now (demangled .entry))) (wanted-of «has_wanted» (now (wanted .entry))) ⌝ }
 {
     if !is_book(c, nodes, names, lines, pool, journal) {

@@ -21,7 +21,8 @@ chars-as false b s = s
 pub record Closed-ok (e : Edition) (p : List ℕ) (at : ℕ) (token : Bool) (n : ℕ) : Type 0 where
   pub onward : at ≤ n
   pub good : opened e (chars-as token true (chars (drop at p))) .good ≡ true
-  pub behind : drop (opened e (chars-as token true (chars (drop at p))) .more) (chars-as token true (chars (drop at p))) ≡ chars-as token false (chars (drop n p))
+  pub behind : drop (opened e (chars-as token true (chars (drop at p))) .more) (chars-as token true (chars (drop at p)))
+      ≡ chars-as token false (chars (drop n p))
 
 abbrev pub Closing-ok : Edition → List ℕ → ℕ → Bool → Closing → Type 0
 Closing-ok e p at token (Behind n) = Closed-ok e p at token n

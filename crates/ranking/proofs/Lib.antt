@@ -3,4 +3,5 @@ pub mod Deciders
 pub mod Unmatched
 pub mod NameTests
 pub mod Answers
+mod LineTests
 mod Leading

@@ -1,10 +1,10 @@
--- The line that decides a name, as 01 has it under 'Ranking'. The source's own comments on the rule, which it takes from LLD: "1) The first version tag with an
--- exact pattern wins." "2) Otherwise, the last version tag with a non-* wildcard pattern wins ('global' should be checked first). Otherwise, the last version
--- tag with a * pattern wins." "3) Otherwise, the last version tag with match all (*)." 01 says besides in which order the four kinds of exact lines of a node are
--- asked. The ld manual ('VERSION Command') gives no order of patterns. It says that "if you specify the symbol name inside double quotes, then the name is treated
--- as literal", that names are demangled "before matching them to the patterns" of a language, and "You can bind all otherwise unspecified symbols to a given
--- version node by using 'global: *;' somewhere in the version script": `*` comes last. 01 departs from it in that several nodes may have a `*`, of which the last
--- counts, and from LLD, which knows two kinds of patterns, in that those without a star go before those with one. Assumes nothing.
+-- The line that decides a name, as 01 has it under 'Ranking'. The source's own comments on the rule, which it takes from LLD: "1) The first version tag with
+-- an exact pattern wins." "2) Otherwise, the last version tag with a non-* wildcard pattern wins ('global' should be checked first). Otherwise, the last
+-- version tag with a * pattern wins." "3) Otherwise, the last version tag with match all (*)." 01 says besides in which order the four kinds of exact lines
+-- of a node are asked. The ld manual ('VERSION Command') gives no order of patterns. It says that "if you specify the symbol name inside double quotes, then
+-- the name is treated as literal", that names are demangled "before matching them to the patterns" of a language, and "You can bind all otherwise unspecified
+-- symbols to a given version node by using 'global: *;' somewhere in the version script": `*` comes last. 01 departs from it in that several nodes may have a
+-- `*`, of which the last counts, and from LLD, which knows two kinds of patterns, in that those without a star go before those with one. Assumes nothing.
 use Prim.Native.Nat.{ℕ, zero, suc, _+_}
 use mathlib.Core.List.{List, [], _∷_, _++_}
 use mathlib.Core.Bool.{Bool, cond, _&&_}

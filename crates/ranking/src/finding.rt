@@ -14,9 +14,14 @@ use crate::Deciding;
 use crate::rank_of;
 use book::Frame;
 use book::LINE_WIDTH;
-use book::STRUCK;
+use book::codes::class_of;
+use book::codes::is_struck;
+use book::codes::language_of;
 use book::editions::edition_of;
 use matching::match_name;
+use numbers::ALL_CLASS;
+use numbers::CXX;
+use numbers::ESCAPED_CLASS;
 use numbers::Edition;
 use packing::same_bytes;
 
@@ -25,10 +30,10 @@ fn class_matches(edition: Edition, class: u32, bytes: &[u8], name: &[u8]) -> boo
     requires { ⌜ (length (now bytes) ≤ token-limit) × (length (now name) ≤ name-limit) ⌝ }
     ensures { λ r. ⌜ r ≡ class-matches edition class (now (bytes .entry)) (now (name .entry)) ⌝ }
 {
-    if class <= 1 {
+    if class <= ESCAPED_CLASS {
         return same_bytes(bytes, name);
     }
-    if class == 4 {
+    if class == ALL_CLASS {
         return true;
     }
     let tried = match_name(edition, bytes, name);
@@ -40,13 +45,14 @@ fn line_matches(edition: Edition, code: u32, bytes: &[u8], raw: &[u8], demangled
     requires { ⌜ (length (now bytes) ≤ token-limit) × (length (now raw) ≤ name-limit) × (length (now demangled) ≤ name-limit) ⌝ }
     ensures { λ r. ⌜ r ≡ line-matches edition (name-of (now (raw .entry)) (now (demangled .entry))) (line-of 0 code (now (bytes .entry))) ⌝ }
 {
-    if STRUCK <= code {
+    if is_struck(code) {
         return false;
     }
-    if code % 2 == 1 {
-        return class_matches(edition, code % STRUCK / 4, bytes, demangled);
+    let class = class_of(code);
+    if language_of(code) == CXX {
+        return class_matches(edition, class, bytes, demangled);
     }
-    class_matches(edition, code % STRUCK / 4, bytes, raw)
+    class_matches(edition, class, bytes, raw)
 }
 
 // The deciding line among n lines, whose bytes end at p of the pool, in a book with that frame.

@@ -6,7 +6,11 @@ ghost use Prim.Native.Nat.{_≤_, _<_};
 ghost use Rattle.numbers.specs.Limits.{node-limit};
 ghost use Rattle.book.specs.Layout.{line-of};
 ghost use Rattle.ranking.specs.Ranks.{rank};
-use book::STRUCK;
+use book::codes::class_of;
+use book::codes::language_of;
+use book::codes::section_of;
+use numbers::ESCAPED_CLASS;
+use numbers::NONSTAR_CLASS;
 
 pub mod finding;
 pub mod names;
@@ -22,10 +26,10 @@ pub fn rank_of(n: u32, node: u32, code: u32) -> u32
     requires { ⌜ (n ≤ node-limit) × (node < n) × (code < 64) ⌝ }
     ensures { λ r. ⌜ r ≡ rank n (line-of node code []) ⌝ }
 {
-    let class = code % STRUCK / 4;
-    let section = code % 4 / 2;
-    if class <= 1 {
-        return 4 * node + 2 * (code % 2) + section;
+    let class = class_of(code);
+    let section = section_of(code);
+    if class <= ESCAPED_CLASS {
+        return 4 * node + 2 * language_of(code) + section;
     }
-    4 * n + 2 * n * (class - 2) + 2 * (n - 1 - node) + section
+    4 * n + 2 * n * (class - NONSTAR_CLASS) + 2 * (n - 1 - node) + section
 }

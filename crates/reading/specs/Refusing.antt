@@ -17,7 +17,8 @@ use Rattle.reading_cursors.specs.declared.Step.the-variants.{Go}
 use Rattle.reading_cursors.specs.Moves.{edition-at, start}
 use Rattle.reading_matchers.specs.Matchers.{extern-word, cxx-word, c-word}
 use Rattle.reading.specs.Scripts.{next}
-use Rattle.reading.specs.Rules.{Byte, None, No-pair, Word, No-word, Name-byte, Token, extern-token, to-closing, Rule, skip-to, node, opening, parent, last-semicolon, end, matcher, block, token, Over, Comes}
+use Rattle.reading.specs.Rules.{Byte, None, No-pair, Word, No-word, Name-byte, Token, extern-token, to-closing, Rule}
+use Rattle.reading.specs.Rules.{skip-to, node, opening, parent, last-semicolon, end, matcher, block, token, Over, Comes}
 
 -- ---- 2: "no reading rule fits, or bytes remain"
 pub data Unreadable (s : List ℕ) (c : Cursor) (p : ℕ) : Type 0 where

@@ -17,7 +17,8 @@ use Rattle.reading_tokens.specs.Tokens.{brace-next, named, stands-at}
 use Rattle.reading_cursors.specs.declared.Cursor.{Cursor}
 use Rattle.reading_cursors.specs.Moves.{edition-at}
 use Rattle.reading_matchers.specs.Matchers.{extern-word, cxx-word, c-word, close-word}
-use Rattle.reading_cursors.specs.Places.{at-script, at-node, at-body, in-body, in-body-extern, in-sole, in-sole-extern, at-list, in-list, in-list-extern, at-symbol, in-symbol-extern, at-bare, in-bare-extern}
+use Rattle.reading_cursors.specs.Places.{at-script, at-node, at-body, in-body, in-body-extern, in-sole, in-sole-extern}
+use Rattle.reading_cursors.specs.Places.{at-list, in-list, in-list-extern, at-symbol, in-symbol-extern, at-bare, in-bare-extern}
 use Rattle.reading_bodies.specs.Bodies.{global-word, local-word}
 
 -- ---- the text at a place

@@ -13,7 +13,8 @@ use Rattle.reading_cursors.specs.declared.Step.{Step}
 use Rattle.reading_cursors.specs.declared.Step.the-variants.{Go, End, Refused}
 use Rattle.reading_cursors.specs.Moves.{moved, skipping, expecting}
 use Rattle.reading_matchers.specs.Matchers.{matcher, bare-matcher, in-extern, in-bare}
-use Rattle.reading_cursors.specs.Places.{at-script, at-node, at-body, in-body, in-body-extern, in-sole, at-list, in-list, at-symbol, in-symbol-extern, at-bare, in-bare-extern, behind-symbol}
+use Rattle.reading_cursors.specs.Places.{at-script, at-node, at-body, in-body, in-body-extern, in-sole}
+use Rattle.reading_cursors.specs.Places.{at-list, in-list, at-symbol, in-symbol-extern, at-bare, in-bare-extern, behind-symbol}
 use Rattle.reading_bodies.specs.Bodies.{node-at, script-at, body-at, sole-at, list-at}
 
 -- a body or a list opens: "skip, `{`"

@@ -1,7 +1,8 @@
-// Bodies, and what a script or a list has beside them, as steps of a reading that stands behind a skip: it knows the byte there. The leaves are `reading_matchers`.
-// Definitions: specs/, from document 01, 'Reading'.
+// Bodies, and what a script or a list has beside them, as steps of a reading that stands behind a skip: it knows the byte there. The leaves are
+// `reading_matchers`. Definitions: specs/, from document 01, 'Reading'.
 ghost use mathlib.Core.Path.{_≡_};
-ghost use Rattle.reading_bodies.specs.Bodies.{end-behind, name-to, node-at, script-at, parent-at, node-end, sole-end, inside-body, body-at, sole-at, list-at};
+ghost use Rattle.reading_bodies.specs.Bodies.{end-behind, name-to, node-at, script-at, parent-at};
+ghost use Rattle.reading_bodies.specs.Bodies.{node-end, sole-end, inside-body, body-at, sole-at, list-at};
 use linker_script::Found;
 use linker_script::Skipped;
 use linker_script::byte_at;

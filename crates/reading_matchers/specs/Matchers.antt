@@ -1,5 +1,5 @@
--- Matchers, as 01 has them under 'Reading'. Here p, q and r are places of the text, and `place` and `inner` places of the grammar (reading_cursors/specs/Places.antt):
--- where the reading goes on. Assumes nothing.
+-- Matchers, as 01 has them under 'Reading'. Here p, q and r are places of the text, and `place` and `inner` places of the grammar
+-- (reading_cursors/specs/Places.antt): where the reading goes on. Assumes nothing.
 use Prim.Native.Nat.{ℕ, _+_}
 use mathlib.Core.List.{List, [], _∷_, _++_}
 use mathlib.Core.Bool.{cond}

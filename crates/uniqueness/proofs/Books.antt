@@ -3,6 +3,15 @@
 use mathlib.Core.Path.{refl}
 use Rattle.uniqueness.specs.Unique.{Unique}
 use Rattle.uniqueness.proofs.Same.{_▹_, same}
+use Rattle.book.proofs.codes.code_of
+use Rattle.book.proofs.codes.class_of
+use Rattle.book.proofs.codes.section_of
+use Rattle.book.proofs.codes.language_of
+use Rattle.book.proofs.codes.is_struck
+use Rattle.book.proofs.rows.put_line
+use Rattle.book.proofs.frame_of
+use Rattle.book.proofs.no_counts
+use Rattle.book.proofs.counts_with
 use Rattle.book.proofs.editions.edition_of
 use Rattle.book.proofs.frame_of
 use Rattle.book.proofs.nodes.first_named
@@ -34,6 +43,33 @@ use Rattle.export_list.proofs.open as export-list-open
 use Rattle.export_list.proofs.lookups.contains
 
 -- ---- book
+pub code-of-unique : Unique code_of.ended code_of.Reads.Post
+code-of-unique κs a x y v w p q = (same p q, refl)
+
+pub class-of-unique : Unique class_of.ended class_of.Reads.Post
+class-of-unique κs a x y v w p q = (same p q, refl)
+
+pub section-of-unique : Unique section_of.ended section_of.Reads.Post
+section-of-unique κs a x y v w p q = (same p q, refl)
+
+pub language-of-unique : Unique language_of.ended language_of.Reads.Post
+language-of-unique κs a x y v w p q = (same p q, refl)
+
+pub is-struck-unique : Unique is_struck.ended is_struck.Reads.Post
+is-struck-unique κs a x y v w p q = (same p q, refl)
+
+pub put-line-unique : Unique put_line.ended put_line.Reads.Post
+put-line-unique κs a x y v w p q = (refl, λ i. same p q i ▹ tt ▹ tt ▹ tt ▹ tt ▹ tt ▹ tt)
+
+pub frame-of-unique : Unique frame_of.ended frame_of.Reads.Post
+frame-of-unique κs a x y v w p q = (same p q, refl)
+
+pub no-counts-unique : Unique no_counts.ended no_counts.Reads.Post
+no-counts-unique κs a x y v w p q = (same p q, refl)
+
+pub counts-with-unique : Unique counts_with.ended counts_with.Reads.Post
+counts-with-unique κs a x y v w p q = (same p q, refl)
+
 pub edition-of-unique : Unique edition_of.ended edition_of.Reads.Post
 edition-of-unique κs a x y v w p q = (same p q, refl)
 

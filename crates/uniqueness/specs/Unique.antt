@@ -12,7 +12,8 @@ abbrev pub Promise : Ended → Type 1
 Promise T = (κs : Lfts (T .signature .lifetimes)) → Args (T .signature) κs → Res (T .signature) κs → AtExit T κs → Type 0
 
 -- x and y are answers, of which `see` is told; v and w are what the parameters last are: of each `&mut` its contents, of any other nothing
-abbrev pub Unique-as : (T : Ended) (S : Lfts (T .signature .lifetimes) → Type 0) → ((κs : Lfts (T .signature .lifetimes)) → Res (T .signature) κs → S κs) → Promise T → Type 0
+abbrev pub Unique-as : (T : Ended) (S : Lfts (T .signature .lifetimes) → Type 0)
+    → ((κs : Lfts (T .signature .lifetimes)) → Res (T .signature) κs → S κs) → Promise T → Type 0
 Unique-as T S see P =
     (κs : Lfts (T .signature .lifetimes)) (a : Args (T .signature) κs) (x y : Res (T .signature) κs) (v w : Lasts T κs a)
     → P κs a x (atExit T κs a v) → P κs a y (atExit T κs a w) → (see κs x ≡ see κs y) × (v ≡ w)

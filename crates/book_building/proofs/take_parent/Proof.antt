@@ -5,7 +5,7 @@ use mathlib.Core.Path.{refl}
 use mathlib.Core.List.{[]}
 use Rattle.book.proofs.NodeRows.{nodes-packed}
 use Rattle.book.specs.Layout.{node-form}
-use Rattle.book_building.proofs.NodeEvents.{parent-none, parent-refused, parent-set}
+use Rattle.book_building.proofs.NodeEvents.{parent-none, parent-refused, parent-set, parent-unknown}
 use Rattle.book_building.proofs.take_parent.Statement.{statement}
 use Rattle.book_building.proofs.take_parent.Tie as tie
 
@@ -20,15 +20,20 @@ sub-i c = search needs
 first-named-requires : tie.Need-first-named-requires
 first-named-requires c κs = search needs
 
+enum-told : tie.Need-enum-told
+enum-told c = search needs
+
+enum-known-q : tie.Need-enum-known-q
+enum-known-q c = search needs
+
 same-length : tie.Need-same-length
 same-length c = search needs
 
 returns-2 : tie.Need-returns-2
 returns-2 c =
-    let x = c .before in
+    let x = c .before .before .before .before in
     let a = x .before .before .before .before .before .before .args in
-    parent-refused (a .g) (a .p) (a .nodes .now) (a .names .now) (x .first-named .result) (a .parent .now) [] (x .before .before .if1 .left)
-    (x .first-named .ensures) (omega arith)
+    parent-refused (a .g) (a .p) (a .nodes .now) (a .names .now) (x .first-named .result) _ (c .before .before .q .given .1) (a .parent .now) [] (x .before .before .if1 .left) (x .first-named .ensures) (omega arith)
 
 cast-nodes : tie.Need-cast-nodes
 cast-nodes c = search needs
@@ -45,7 +50,7 @@ mul-nodes-2 c = search needs
 slice-write-nodes : tie.Need-slice-write-nodes
 unfolding node-form
 slice-write-nodes c =
-    let s = c .before .before .before .before .before .before .before in
+    let s = c .before .before .before .before .before .before .before .before .before .before in
     let a = s .args in
     omega (arith, nodes-packed (a .g .nodes) (a .g .names) (a .nodes .now) (a .names .now) (s .pre .0) .rowroom)
 
@@ -54,10 +59,18 @@ same-length-2 c = search needs
 
 returns-3 : tie.Need-returns-3
 returns-3 c =
-    let x = c .before in
+    let x = c .before .before in
     let a = x .before .before .before .before .before .before .args in
-    parent-set (a .g) (a .p) (a .nodes .now) (a .names .now) (x .first-named .result) (a .parent .now) _ (x .before .before .if1 .left)
-    (x .first-named .ensures) (omega arith) refl
+    parent-unknown (a .g) (a .p) (a .nodes .now) (a .names .now) (x .first-named .result) (a .parent .now) [] (x .before .before .if1 .left) (x .first-named .ensures) (c .enum-told .given .1)
+
+same-length-3 : tie.Need-same-length-3
+same-length-3 c = search needs
+
+returns-4 : tie.Need-returns-4
+returns-4 c =
+    let x = c .before .before .before .before in
+    let a = x .before .before .before .before .before .before .args in
+    parent-set (a .g) (a .p) (a .nodes .now) (a .names .now) (x .first-named .result) _ (c .before .before .q .given .1) (a .parent .now) _ (x .before .before .if1 .left) (x .first-named .ensures) (omega arith) refl
 
 pub take-parent-spec : {M : Type 1} → statement M
 take-parent-spec =
@@ -66,6 +79,8 @@ take-parent-spec =
     returns
     sub-i
     first-named-requires
+    enum-told
+    enum-known-q
     same-length
     returns-2
     cast-nodes
@@ -74,4 +89,6 @@ take-parent-spec =
     mul-nodes-2
     slice-write-nodes
     same-length-2
-    returns-3)
+    returns-3
+    same-length-3
+    returns-4)

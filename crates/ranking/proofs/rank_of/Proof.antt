@@ -1,15 +1,26 @@
 -- `rank_of` meets its contract. Assumes nothing.
-use Prim.Native.Nat.{_-_, _/_, _%_}
+use Prim.Native.Nat.{ℕ, _-_, _*_}
+use mathlib.Core.Path.{ap}
 use mathlib.Core.List.{[]}
 use borrow.Author.Needs.{needs}
 use native.Mathlib.Omega.{arith}
+use Rattle.numbers.specs.Classes.{nonstar-class}
 use Rattle.book.specs.Layout.{line-of}
 use Rattle.ranking.proofs.Stages.{rank-exact, rank-glob, span-fits}
 use Rattle.ranking.proofs.rank_of.Statement.{statement}
 use Rattle.ranking.proofs.rank_of.Tie as tie
 
+class-of-requires : tie.Need-class-of-requires
+class-of-requires c κs = search needs
+
+section-of-requires : tie.Need-section-of-requires
+section-of-requires c κs = search needs
+
 mul-result : tie.Need-mul-result
 mul-result c = search needs
+
+language-of-requires : tie.Need-language-of-requires
+language-of-requires c κs = search needs
 
 mul-result-2 : tie.Need-mul-result-2
 mul-result-2 c = search needs
@@ -21,7 +32,7 @@ add-result-2 : tie.Need-add-result-2
 add-result-2 c = search needs
 
 returns : tie.Need-returns
-returns c = omega (arith, rank-exact (c .before .args .n) (line-of (c .before .args .node) (c .before .args .code) []) (c .if1 .taken))
+returns c = let a = c .before .before .before .before .args in omega (arith, rank-exact (a .n) (line-of (a .node) (a .code) []) (omega arith))
 
 mul-result-3 : tie.Need-mul-result-3
 mul-result-3 c = search needs
@@ -33,10 +44,10 @@ sub-result : tie.Need-sub-result
 sub-result c = search needs
 
 mul-result-5 : tie.Need-mul-result-5
-mul-result-5 c = omega (arith, span-fits (c .before .args .n) (c .before .args .code % 32 / 4 - 2) (omega arith) (omega arith))
+mul-result-5 c = omega (arith, span-fits (c .before .before .before .args .n) (c .before .before .class-of .result - 2) (omega arith) (omega arith))
 
 add-result-3 : tie.Need-add-result-3
-add-result-3 c = omega (arith, span-fits (c .before .args .n) (c .before .args .code % 32 / 4 - 2) (omega arith) (omega arith))
+add-result-3 c = omega (arith, span-fits (c .before .before .before .args .n) (c .before .before .class-of .result - 2) (omega arith) (omega arith))
 
 sub-result-2 : tie.Need-sub-result-2
 sub-result-2 c = search needs
@@ -48,20 +59,22 @@ mul-result-6 : tie.Need-mul-result-6
 mul-result-6 c = search needs
 
 add-result-4 : tie.Need-add-result-4
-add-result-4 c = omega (arith, span-fits (c .before .args .n) (c .before .args .code % 32 / 4 - 2) (omega arith) (omega arith))
+add-result-4 c = omega (arith, span-fits (c .before .before .before .args .n) (c .before .before .class-of .result - 2) (omega arith) (omega arith))
 
 add-result-5 : tie.Need-add-result-5
-add-result-5 c = omega (arith, span-fits (c .before .args .n) (c .before .args .code % 32 / 4 - 2) (omega arith) (omega arith))
+add-result-5 c = omega (arith, span-fits (c .before .before .before .args .n) (c .before .before .class-of .result - 2) (omega arith) (omega arith))
 
 returns-2 : tie.Need-returns-2
-returns-2 c = omega (arith, rank-glob (c .before .args .n) (line-of (c .before .args .node) (c .before .args .code) []) (c .if1 .left))
+returns-2 c =
+    let a = c .before .before .before .args in
+    omega (arith, rank-glob (a .n) (line-of (a .node) (a .code) []) (omega arith), ap (λ (k : ℕ). 2 * a .n * (k - nonstar-class)) (c .before .before .class-of .ensures))
 
 pub rank-of-spec : {M : Type 1} → statement M
 rank-of-spec =
     tie.close
     (tie.spec
-    mul-result
-    mul-result-2
+    class-of-requires section-of-requires mul-result
+    language-of-requires mul-result-2
     add-result
     add-result-2
     returns

@@ -10,17 +10,20 @@ shared-slice-read-if1 c = search needs
 returns : tie.Need-returns
 returns c = search stands-marked
 
-mul-result : tie.Need-mul-result
-mul-result c = search needs
+mul-is-struck : tie.Need-mul-is-struck
+mul-is-struck c = search needs
 
-add-result : tie.Need-add-result
-add-result c = search needs
+add-is-struck : tie.Need-add-is-struck
+add-is-struck c = search needs
 
-mul-result-2 : tie.Need-mul-result-2
-mul-result-2 c = search needs
+mul-is-struck-2 : tie.Need-mul-is-struck-2
+mul-is-struck-2 c = search needs
 
-shared-slice-read-result : tie.Need-shared-slice-read-result
-shared-slice-read-result c = search needs
+shared-slice-read-is-struck : tie.Need-shared-slice-read-is-struck
+shared-slice-read-is-struck c = search needs
+
+is-struck-requires : tie.Need-is-struck-requires
+is-struck-requires c κs = search needs
 
 returns-2 : tie.Need-returns-2
 returns-2 c = search stands-code
@@ -31,8 +34,8 @@ stands-now-spec =
     (tie.spec
     shared-slice-read-if1
     returns
-    mul-result
-    add-result
-    mul-result-2
-    shared-slice-read-result
-    returns-2)
+    mul-is-struck
+    add-is-struck
+    mul-is-struck-2
+    shared-slice-read-is-struck
+    is-struck-requires returns-2)

@@ -1,7 +1,7 @@
 -- `is_parent` meets its contract, part by part. Assumes nothing.
 use native.Mathlib.Omega.{arith}
 use Rattle.book.proofs.NodeRows.{Row}
-use Rattle.book_check.proofs.NodeChecks.{parent-none, parent-late, parent-row, parent-again, parent-ends}
+use Rattle.book_check.proofs.NodeChecks.{parent-none, parent-late, parent-row, parent-nowhere, parent-again, parent-ends}
 use Prim.Native.Nat.{_*_}
 use borrow.Author.Needs.{needs}
 use Rattle.book_check.proofs.nodes.is_parent.Statement.{statement}
@@ -61,8 +61,17 @@ part-first-named-end c = let r = row (c .before .before) in omega arith
 first-named-requires : tie.Need-first-named-requires
 first-named-requires c κs = search needs
 
+enum-told : tie.Need-enum-told
+enum-told c = search needs
+
+enum-known-first : tie.Need-enum-known-first
+enum-known-first c = search needs
+
 returns-3 : tie.Need-returns-3
-returns-3 c = search parent-again
+returns-3 c =
+    let a = c .before .before .before .before in
+    let s = a .before .before .before .before .before .before .before .before in
+    parent-again _ _ _ _ (s .pre .0) _ _ (s .pre .1) (a .before .before .before .before .if2 .left) _ (a .before .before .before .before .before .if1 .left) (a .first-named .ensures) _ (c .before .before .first .given .1) (c .if3 .taken)
 
 sub-has-no-semicolon : tie.Need-sub-has-no-semicolon
 sub-has-no-semicolon c = search needs
@@ -71,13 +80,22 @@ part-has-no-semicolon-start : tie.Need-part-has-no-semicolon-start
 part-has-no-semicolon-start c = search needs
 
 part-has-no-semicolon-end : tie.Need-part-has-no-semicolon-end
-part-has-no-semicolon-end c = let r = row (c .before .before .before .before .before) in omega arith
+part-has-no-semicolon-end c = let r = row (c .before .before .before .before .before .before .before .before) in omega arith
 
 has-no-semicolon-requires : tie.Need-has-no-semicolon-requires
 has-no-semicolon-requires c κs = search needs
 
 returns-4 : tie.Need-returns-4
-returns-4 c = search parent-ends
+returns-4 c =
+    let a = c .before .before in
+    let s = a .before .before .before .before .before .before .before .before in
+    parent-nowhere _ _ _ _ (s .pre .0) _ _ (s .pre .1) (a .before .before .before .before .if2 .left) _ (a .before .before .before .before .before .if1 .left) (a .first-named .ensures) (c .enum-told .given .1)
+
+returns-5 : tie.Need-returns-5
+returns-5 c =
+    let a = c .before .before .before .before .before .before in
+    let s = a .before .before .before .before .before .before .before .before in
+    parent-ends _ _ _ _ (s .pre .0) _ _ (s .pre .1) (a .before .before .before .before .if2 .left) _ (a .before .before .before .before .before .if1 .left) (a .first-named .ensures) _ _ (c .before .before .before .before .first .given .1) (c .before .before .if3 .left) (c .has-no-semicolon .ensures)
 
 pub is-parent-spec : {M : Type 1} → statement M
 is-parent-spec =
@@ -98,9 +116,12 @@ is-parent-spec =
     part-first-named-start
     part-first-named-end
     first-named-requires
+    enum-told
+    enum-known-first
     returns-3
     sub-has-no-semicolon
     part-has-no-semicolon-start
     part-has-no-semicolon-end
     has-no-semicolon-requires
-    returns-4)
+    returns-4
+    returns-5)

@@ -23,26 +23,29 @@ enum-told c = search needs
 enum-known-i : tie.Need-enum-known-i
 enum-known-i c = search needs
 
-mul-if1 : tie.Need-mul-if1
-mul-if1 c = let r = decider-row _ _ _ _ _ _ _ (c .before .before .before .before .before .before .before .before .before .before .before .pre .0) _ (c .before .before .before .before .before .before .frame-of .ensures) _ (c .before .before .before .find-match .ensures) _ (c .before .i .given .1) in omega arith
+mul-section-of : tie.Need-mul-section-of
+mul-section-of c = let r = decider-row _ _ _ _ _ _ _ (c .before .before .before .before .before .before .before .before .before .before .before .pre .0) _ (c .before .before .before .before .before .before .frame-of .ensures) _ (c .before .before .before .find-match .ensures) _ (c .before .i .given .1) in omega arith
 
-add-if1 : tie.Need-add-if1
-add-if1 c = let r = decider-row _ _ _ _ _ _ _ (c .before .before .before .before .before .before .before .before .before .before .before .pre .0) _ (c .before .before .before .before .before .before .frame-of .ensures) _ (c .before .before .before .find-match .ensures) _ (c .before .i .given .1) in omega arith
+add-section-of : tie.Need-add-section-of
+add-section-of c = let r = decider-row _ _ _ _ _ _ _ (c .before .before .before .before .before .before .before .before .before .before .before .pre .0) _ (c .before .before .before .before .before .before .frame-of .ensures) _ (c .before .before .before .find-match .ensures) _ (c .before .i .given .1) in omega arith
 
-mul-if1-2 : tie.Need-mul-if1-2
-mul-if1-2 c = let r = decider-row _ _ _ _ _ _ _ (c .before .before .before .before .before .before .before .before .before .before .before .pre .0) _ (c .before .before .before .before .before .before .frame-of .ensures) _ (c .before .before .before .find-match .ensures) _ (c .before .i .given .1) in omega arith
+mul-section-of-2 : tie.Need-mul-section-of-2
+mul-section-of-2 c = let r = decider-row _ _ _ _ _ _ _ (c .before .before .before .before .before .before .before .before .before .before .before .pre .0) _ (c .before .before .before .before .before .before .frame-of .ensures) _ (c .before .before .before .find-match .ensures) _ (c .before .i .given .1) in omega arith
 
-shared-slice-read-if1 : tie.Need-shared-slice-read-if1
-shared-slice-read-if1 c = let r = decider-row _ _ _ _ _ _ _ (c .before .before .before .before .before .before .before .before .before .before .before .before .pre .0) _ (c .before .before .before .before .before .before .before .frame-of .ensures) _ (c .before .before .before .before .find-match .ensures) _ (c .before .before .i .given .1) in omega arith
+shared-slice-read-section-of : tie.Need-shared-slice-read-section-of
+shared-slice-read-section-of c = let r = decider-row _ _ _ _ _ _ _ (c .before .before .before .before .before .before .before .before .before .before .before .before .pre .0) _ (c .before .before .before .before .before .before .before .frame-of .ensures) _ (c .before .before .before .before .find-match .ensures) _ (c .before .before .i .given .1) in omega arith
+
+section-of-requires : tie.Need-section-of-requires
+section-of-requires c κs = search needs
 
 returns : tie.Need-returns
-returns c = let d = c .before .before .before .before .before in decider-global _ _ _ _ _ _ _ (d .before .before .before .before .before .before .before .before .pre .0) _ (d .before .before .before .frame-of .ensures) _ (d .find-match .ensures) _ (c .before .before .before .i .given .1) (c .if1 .taken)
+returns c = let d = c .before .before .before .before .before .before in decider-global _ _ _ _ _ _ _ (d .before .before .before .before .before .before .before .before .pre .0) _ (d .before .before .before .frame-of .ensures) _ (d .find-match .ensures) _ (c .before .before .before .before .i .given .1) _ (c .before .section-of .ensures) (c .if1 .taken)
 
 returns-2 : tie.Need-returns-2
 returns-2 c = let d = c .before .before in nothing-decides _ _ _ _ _ _ _ (d .before .before .before .before .before .before .before .before .pre .0) _ (d .before .before .before .frame-of .ensures) _ (d .find-match .ensures) (c .enum-told .given .1)
 
 returns-3 : tie.Need-returns-3
-returns-3 c = let d = c .before .before .before .before .before in decider-local _ _ _ _ _ _ _ (d .before .before .before .before .before .before .before .before .pre .0) _ (d .before .before .before .frame-of .ensures) _ (d .find-match .ensures) _ (c .before .before .before .i .given .1) (c .if1 .left)
+returns-3 c = let d = c .before .before .before .before .before .before in decider-local _ _ _ _ _ _ _ (d .before .before .before .before .before .before .before .before .pre .0) _ (d .before .before .before .frame-of .ensures) _ (d .find-match .ensures) _ (c .before .before .before .before .i .given .1) _ (c .before .section-of .ensures) (c .if1 .left)
 
 pub decided-locality-spec : {M : Type 1} → statement M
 decided-locality-spec =
@@ -54,10 +57,11 @@ decided-locality-spec =
     find-match-requires
     enum-told
     enum-known-i
-    mul-if1
-    add-if1
-    mul-if1-2
-    shared-slice-read-if1
+    mul-section-of
+    add-section-of
+    mul-section-of-2
+    shared-slice-read-section-of
+    section-of-requires
     returns
     returns-2
     returns-3)

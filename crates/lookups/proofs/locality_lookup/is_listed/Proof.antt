@@ -24,47 +24,50 @@ add-at c = let d = c in let r = listing-row _ _ _ _ _ _ (d .before .before .befo
 add-i : tie.Need-add-i Inv-loop μ-loop
 add-i c = search needs
 
-add-if1 : tie.Need-add-if1 Inv-loop μ-loop
-add-if1 c = let d = c in let r = listing-row _ _ _ _ _ _ (d .before .before .before .before .before .before .pre) _ _ (d .before .loop .inv) (d .loop-test .taken) in omega arith
+add-section-of : tie.Need-add-section-of Inv-loop μ-loop
+add-section-of c = let d = c in let r = listing-row _ _ _ _ _ _ (d .before .before .before .before .before .before .pre) _ _ (d .before .loop .inv) (d .loop-test .taken) in omega arith
 
-mul-if1 : tie.Need-mul-if1 Inv-loop μ-loop
-mul-if1 c = let d = c in let r = listing-row _ _ _ _ _ _ (d .before .before .before .before .before .before .pre) _ _ (d .before .loop .inv) (d .loop-test .taken) in omega arith
+mul-section-of : tie.Need-mul-section-of Inv-loop μ-loop
+mul-section-of c = let d = c in let r = listing-row _ _ _ _ _ _ (d .before .before .before .before .before .before .pre) _ _ (d .before .loop .inv) (d .loop-test .taken) in omega arith
 
-shared-slice-read-if1 : tie.Need-shared-slice-read-if1 Inv-loop μ-loop
-shared-slice-read-if1 c = let d = c .before in let r = listing-row _ _ _ _ _ _ (d .before .before .before .before .before .before .pre) _ _ (d .before .loop .inv) (d .loop-test .taken) in omega arith
+shared-slice-read-section-of : tie.Need-shared-slice-read-section-of Inv-loop μ-loop
+shared-slice-read-section-of c = let d = c .before in let r = listing-row _ _ _ _ _ _ (d .before .before .before .before .before .before .pre) _ _ (d .before .loop .inv) (d .loop-test .taken) in omega arith
+
+section-of-requires : tie.Need-section-of-requires Inv-loop μ-loop
+section-of-requires c κs = search needs
 
 loop-less : tie.Need-loop-less Inv-loop μ-loop
 loop-less c = search needs
 
 loop-again : tie.Need-loop-again Inv-loop μ-loop
-loop-again c = let d = c .before .before in listing-local _ _ _ _ _ _ (d .before .before .before .before .before .before .pre) _ _ (d .before .loop .inv) (d .loop-test .taken) (c .if1 .taken)
+loop-again c = let d = c .before .before .before in listing-local _ _ _ _ _ _ (d .before .before .before .before .before .before .pre) _ _ (d .before .loop .inv) (d .loop-test .taken) _ (c .before .section-of .ensures) (c .if1 .taken)
 
 add-start : tie.Need-add-start Inv-loop μ-loop
-add-start c = let d = c .before .before in let r = listing-row _ _ _ _ _ _ (d .before .before .before .before .before .before .pre) _ _ (d .before .loop .inv) (d .loop-test .taken) in omega arith
+add-start c = let d = c .before .before .before in let r = listing-row _ _ _ _ _ _ (d .before .before .before .before .before .before .pre) _ _ (d .before .loop .inv) (d .loop-test .taken) in omega arith
 
 mul-start : tie.Need-mul-start Inv-loop μ-loop
-mul-start c = let d = c .before .before in let r = listing-row _ _ _ _ _ _ (d .before .before .before .before .before .before .pre) _ _ (d .before .loop .inv) (d .loop-test .taken) in omega arith
+mul-start c = let d = c .before .before .before in let r = listing-row _ _ _ _ _ _ (d .before .before .before .before .before .before .pre) _ _ (d .before .loop .inv) (d .loop-test .taken) in omega arith
 
 shared-slice-read-start : tie.Need-shared-slice-read-start Inv-loop μ-loop
-shared-slice-read-start c = let d = c .before .before .before in let r = listing-row _ _ _ _ _ _ (d .before .before .before .before .before .before .pre) _ _ (d .before .loop .inv) (d .loop-test .taken) in omega arith
+shared-slice-read-start c = let d = c .before .before .before .before in let r = listing-row _ _ _ _ _ _ (d .before .before .before .before .before .before .pre) _ _ (d .before .loop .inv) (d .loop-test .taken) in omega arith
 
 cast-start : tie.Need-cast-start Inv-loop μ-loop
-cast-start c = let d = c .before .before .before in let r = listing-row _ _ _ _ _ _ (d .before .before .before .before .before .before .pre) _ _ (d .before .loop .inv) (d .loop-test .taken) in omega arith
+cast-start c = let d = c .before .before .before .before in let r = listing-row _ _ _ _ _ _ (d .before .before .before .before .before .before .pre) _ _ (d .before .loop .inv) (d .loop-test .taken) in omega arith
 
 add-end : tie.Need-add-end Inv-loop μ-loop
-add-end c = let d = c .before .before .before in let r = listing-row _ _ _ _ _ _ (d .before .before .before .before .before .before .pre) _ _ (d .before .loop .inv) (d .loop-test .taken) in omega arith
+add-end c = let d = c .before .before .before .before in let r = listing-row _ _ _ _ _ _ (d .before .before .before .before .before .before .pre) _ _ (d .before .loop .inv) (d .loop-test .taken) in omega arith
 
 mul-end : tie.Need-mul-end Inv-loop μ-loop
-mul-end c = let d = c .before .before .before in let r = listing-row _ _ _ _ _ _ (d .before .before .before .before .before .before .pre) _ _ (d .before .loop .inv) (d .loop-test .taken) in omega arith
+mul-end c = let d = c .before .before .before .before in let r = listing-row _ _ _ _ _ _ (d .before .before .before .before .before .before .pre) _ _ (d .before .loop .inv) (d .loop-test .taken) in omega arith
 
 shared-slice-read-end : tie.Need-shared-slice-read-end Inv-loop μ-loop
-shared-slice-read-end c = let d = c .before .before .before .before in let r = listing-row _ _ _ _ _ _ (d .before .before .before .before .before .before .pre) _ _ (d .before .loop .inv) (d .loop-test .taken) in omega arith
+shared-slice-read-end c = let d = c .before .before .before .before .before in let r = listing-row _ _ _ _ _ _ (d .before .before .before .before .before .before .pre) _ _ (d .before .loop .inv) (d .loop-test .taken) in omega arith
 
 cast-end : tie.Need-cast-end Inv-loop μ-loop
-cast-end c = let d = c .before .before .before .before in let r = listing-row _ _ _ _ _ _ (d .before .before .before .before .before .before .pre) _ _ (d .before .loop .inv) (d .loop-test .taken) in omega arith
+cast-end c = let d = c .before .before .before .before .before in let r = listing-row _ _ _ _ _ _ (d .before .before .before .before .before .before .pre) _ _ (d .before .loop .inv) (d .loop-test .taken) in omega arith
 
 add-end-2 : tie.Need-add-end-2 Inv-loop μ-loop
-add-end-2 c = let d = c .before .before .before .before in let r = listing-row _ _ _ _ _ _ (d .before .before .before .before .before .before .pre) _ _ (d .before .loop .inv) (d .loop-test .taken) in omega arith
+add-end-2 c = let d = c .before .before .before .before .before in let r = listing-row _ _ _ _ _ _ (d .before .before .before .before .before .before .pre) _ _ (d .before .loop .inv) (d .loop-test .taken) in omega arith
 
 sub-same-bytes : tie.Need-sub-same-bytes Inv-loop μ-loop
 sub-same-bytes c = search needs
@@ -73,19 +76,19 @@ part-same-bytes-start : tie.Need-part-same-bytes-start Inv-loop μ-loop
 part-same-bytes-start c = search needs
 
 part-same-bytes-end : tie.Need-part-same-bytes-end Inv-loop μ-loop
-part-same-bytes-end c = let d = c .before .before .before .before in let r = listing-row _ _ _ _ _ _ (d .before .before .before .before .before .before .pre) _ _ (d .before .loop .inv) (d .loop-test .taken) in omega arith
+part-same-bytes-end c = let d = c .before .before .before .before .before in let r = listing-row _ _ _ _ _ _ (d .before .before .before .before .before .before .pre) _ _ (d .before .loop .inv) (d .loop-test .taken) in omega arith
 
 same-bytes-requires : tie.Need-same-bytes-requires Inv-loop μ-loop
 same-bytes-requires c κs = search needs
 
 returns : tie.Need-returns Inv-loop μ-loop
-returns c = let d = c .before .before .before .before .before .before .before in listing-found _ _ _ _ _ _ (d .before .before .before .before .before .before .pre) _ _ (d .before .loop .inv) (d .loop-test .taken) (c .before .before .before .before .before .if1 .left) _ (c .before .same-bytes .ensures) (c .if2 .taken)
+returns c = let d = c .before .before .before .before .before .before .before .before in listing-found _ _ _ _ _ _ (d .before .before .before .before .before .before .pre) _ _ (d .before .loop .inv) (d .loop-test .taken) _ (c .before .before .before .before .before .before .section-of .ensures) (c .before .before .before .before .before .if1 .left) _ (c .before .same-bytes .ensures) (c .if2 .taken)
 
 loop-less-2 : tie.Need-loop-less-2 Inv-loop μ-loop
 loop-less-2 c = search needs
 
 loop-again-2 : tie.Need-loop-again-2 Inv-loop μ-loop
-loop-again-2 c = let d = c .before .before .before .before .before .before .before in listing-other _ _ _ _ _ _ (d .before .before .before .before .before .before .pre) _ _ (d .before .loop .inv) (d .loop-test .taken) (c .before .before .before .before .before .if1 .left) _ (c .before .same-bytes .ensures) (c .if2 .left)
+loop-again-2 c = let d = c .before .before .before .before .before .before .before .before in listing-other _ _ _ _ _ _ (d .before .before .before .before .before .before .pre) _ _ (d .before .loop .inv) (d .loop-test .taken) _ (c .before .before .before .before .before .before .section-of .ensures) (c .before .before .before .before .before .if1 .left) _ (c .before .same-bytes .ensures) (c .if2 .left)
 
 returns-2 : tie.Need-returns-2 Inv-loop μ-loop
 returns-2 c = listing-none _ _ _ _ _ _ (c .before .before .before .before .before .before .pre) _ _ (c .before .loop .inv) (c .loop-test .left)
@@ -100,9 +103,10 @@ is-listed-spec =
     loop-holds
     add-at
     add-i
-    add-if1
-    mul-if1
-    shared-slice-read-if1
+    add-section-of
+    mul-section-of
+    shared-slice-read-section-of
+    section-of-requires
     loop-less
     loop-again
     add-start
