@@ -14,38 +14,11 @@ returns c =
     let a = c .before .before .before .before .args in
     parent-none (a .g) (a .p) (a .nodes .now) (a .names .now) (a .parent .now) (c .if1 .taken)
 
-sub-i : tie.Need-sub-i
-sub-i c = search needs
-
-first-named-requires : tie.Need-first-named-requires
-first-named-requires c κs = search needs
-
-enum-told : tie.Need-enum-told
-enum-told c = search needs
-
-enum-known-q : tie.Need-enum-known-q
-enum-known-q c = search needs
-
-same-length : tie.Need-same-length
-same-length c = search needs
-
 returns-2 : tie.Need-returns-2
 returns-2 c =
     let x = c .before .before .before .before in
     let a = x .before .before .before .before .before .before .args in
     parent-refused (a .g) (a .p) (a .nodes .now) (a .names .now) (x .first-named .result) _ (c .before .before .q .given .1) (a .parent .now) [] (x .before .before .if1 .left) (x .first-named .ensures) (omega arith)
-
-cast-nodes : tie.Need-cast-nodes
-cast-nodes c = search needs
-
-mul-nodes : tie.Need-mul-nodes
-mul-nodes c = search needs
-
-add-nodes : tie.Need-add-nodes
-add-nodes c = search needs
-
-mul-nodes-2 : tie.Need-mul-nodes-2
-mul-nodes-2 c = search needs
 
 slice-write-nodes : tie.Need-slice-write-nodes
 unfolding node-form
@@ -54,17 +27,11 @@ slice-write-nodes c =
     let a = s .args in
     omega (arith, nodes-packed (a .g .nodes) (a .g .names) (a .nodes .now) (a .names .now) (s .pre .0) .rowroom)
 
-same-length-2 : tie.Need-same-length-2
-same-length-2 c = search needs
-
 returns-3 : tie.Need-returns-3
 returns-3 c =
     let x = c .before .before in
     let a = x .before .before .before .before .before .before .args in
     parent-unknown (a .g) (a .p) (a .nodes .now) (a .names .now) (x .first-named .result) (a .parent .now) [] (x .before .before .if1 .left) (x .first-named .ensures) (c .enum-told .given .1)
-
-same-length-3 : tie.Need-same-length-3
-same-length-3 c = search needs
 
 returns-4 : tie.Need-returns-4
 returns-4 c =
@@ -77,18 +44,11 @@ take-parent-spec =
     tie.close
     (tie.spec
     returns
-    sub-i
-    first-named-requires
-    enum-told
-    enum-known-q
-    same-length
+    (λ c. search needs) (λ c κs. search needs) (λ c. search needs) (λ c. search needs) (λ c. search needs)
     returns-2
-    cast-nodes
-    mul-nodes
-    add-nodes
-    mul-nodes-2
+    (λ c. search needs) (λ c. search needs) (λ c. search needs) (λ c. search needs)
     slice-write-nodes
-    same-length-2
+    (λ c. search needs)
     returns-3
-    same-length-3
+    (λ c. search needs)
     returns-4)

@@ -4,29 +4,8 @@ use Rattle.book_opening.proofs.Opens.{clear-now, open-filled}
 use Rattle.book_opening.proofs.open.Statement.{statement}
 use Rattle.book_opening.proofs.open.Tie as tie
 
-clear-book-requires : tie.Need-clear-book-requires
-clear-book-requires c κs = search needs
-
-clear-numbers-requires : tie.Need-clear-numbers-requires
-clear-numbers-requires c κs = search needs
-
 fill-requires : tie.Need-fill-requires
 fill-requires c κs = clear-now _ _ _ _ _ _ _ _ (c .before .before .before .before .before .before .before .before .before .before .before .before .before .before .before .before .clear-book .ensures)
-
-same-length : tie.Need-same-length
-same-length c = search needs
-
-same-length-2 : tie.Need-same-length-2
-same-length-2 c = search needs
-
-same-length-3 : tie.Need-same-length-3
-same-length-3 c = search needs
-
-same-length-4 : tie.Need-same-length-4
-same-length-4 c = search needs
-
-same-length-5 : tie.Need-same-length-5
-same-length-5 c = search needs
 
 returns : tie.Need-returns
 returns c =
@@ -45,12 +24,7 @@ pub open-spec : {M : Type 1} → statement M
 open-spec =
     tie.close
     (tie.spec
-    clear-book-requires
-    clear-numbers-requires
+    (λ c κs. search needs) (λ c κs. search needs)
     fill-requires
-    same-length
-    same-length-2
-    same-length-3
-    same-length-4
-    same-length-5
+    (λ c. search needs) (λ c. search needs) (λ c. search needs) (λ c. search needs) (λ c. search needs)
     returns)

@@ -6,26 +6,11 @@ use Rattle.book_rooms.proofs.Putting.{put-part, room-length}
 use Rattle.book_rooms.proofs.put_token.Statement.{statement}
 use Rattle.book_rooms.proofs.put_token.Tie as tie
 
-pool-end-requires : tie.Need-pool-end-requires
-pool-end-requires c κs = search needs
-
-sub-store-token : tie.Need-sub-store-token
-sub-store-token c = search needs
-
-part-store-token-start : tie.Need-part-store-token-start
-part-store-token-start c = search needs
-
 part-store-token-end : tie.Need-part-store-token-end
 part-store-token-end c =
     let p = c in
     let a = p .before .before .before .before .args in
     omega (arith, room-length (a .pool .now), p .pool-end .ensures)
-
-store-token-requires : tie.Need-store-token-requires
-store-token-requires c κs = search needs
-
-same-length : tie.Need-same-length
-same-length c = search needs
 
 returns : tie.Need-returns
 returns c =
@@ -40,10 +25,7 @@ pub put-token-spec : {M : Type 1} → statement M
 put-token-spec =
     tie.close
     (tie.spec
-    pool-end-requires
-    sub-store-token
-    part-store-token-start
+    (λ c κs. search needs) (λ c. search needs) (λ c. search needs)
     part-store-token-end
-    store-token-requires
-    same-length
+    (λ c κs. search needs) (λ c. search needs)
     returns)

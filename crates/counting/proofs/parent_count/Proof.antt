@@ -4,17 +4,11 @@ use Rattle.counting.proofs.Nodes.{count-no-book, count-export, asks-par
 use Rattle.counting.proofs.parent_count.Statement.{statement}
 use Rattle.counting.proofs.parent_count.Tie as tie
 
-is-book-requires : tie.Need-is-book-requires
-is-book-requires c κs = search needs
-
 returns : tie.Need-returns
 returns c = search count-no-book
 
 returns-2 : tie.Need-returns-2
 returns-2 c = search count-export
-
-cast-parents-among : tie.Need-cast-parents-among
-cast-parents-among c = search needs
 
 parents-among-requires : tie.Need-parents-among-requires
 parents-among-requires c κs = asks-parents _ _ _ _ _ _ _ (c .before .before .before .before .is-book .ensures) (c .before .before .before .if1 .left) (c .before .if2 .left)
@@ -26,9 +20,9 @@ pub parent-count-spec : {M : Type 1} → statement M
 parent-count-spec =
     tie.close
     (tie.spec
-    is-book-requires
+    (λ c κs. search needs)
     returns
     returns-2
-    cast-parents-among
+    (λ c. search needs)
     parents-among-requires
     returns-3)

@@ -5,9 +5,6 @@ use Rattle.counting.proofs.Nodes.{node-no-book, node-export, node-missi
 use Rattle.counting.proofs.version_node.Statement.{statement}
 use Rattle.counting.proofs.version_node.Tie as tie
 
-is-book-requires : tie.Need-is-book-requires
-is-book-requires c κs = search needs
-
 returns : tie.Need-returns
 returns c = search node-no-book
 
@@ -17,35 +14,17 @@ returns-2 c = search node-export
 returns-3 : tie.Need-returns-3
 returns-3 c = search node-missing
 
-mul-at : tie.Need-mul-at
-mul-at c = search needs
-
-mul-t11 : tie.Need-mul-t11
-mul-t11 c = search needs
-
 shared-slice-read-t13 : tie.Need-shared-slice-read-t13
 shared-slice-read-t13 c =
     let d = c .before in
     let r = node-within _ _ _ _ _ _ _ (d .before .before .before .before .before .is-book .ensures) (d .before .before .before .before .if1 .left) (d .before .before .if2 .left) _ (d .if3 .left) in
     omega arith
 
-add-t14 : tie.Need-add-t14
-add-t14 c = search needs
-
-mul-t15 : tie.Need-mul-t15
-mul-t15 c = search needs
-
 shared-slice-read-t17 : tie.Need-shared-slice-read-t17
 shared-slice-read-t17 c =
     let d = c .before .before in
     let r = node-within _ _ _ _ _ _ _ (d .before .before .before .before .before .is-book .ensures) (d .before .before .before .before .if1 .left) (d .before .before .if2 .left) _ (d .if3 .left) in
     omega arith
-
-add-t18 : tie.Need-add-t18
-add-t18 c = search needs
-
-mul-t19 : tie.Need-mul-t19
-mul-t19 c = search needs
 
 shared-slice-read-t21 : tie.Need-shared-slice-read-t21
 shared-slice-read-t21 c =
@@ -60,17 +39,14 @@ pub version-node-spec : {M : Type 1} → statement M
 version-node-spec =
     tie.close
     (tie.spec
-    is-book-requires
+    (λ c κs. search needs)
     returns
     returns-2
     returns-3
-    mul-at
-    mul-t11
+    (λ c. search needs) (λ c. search needs)
     shared-slice-read-t13
-    add-t14
-    mul-t15
+    (λ c. search needs) (λ c. search needs)
     shared-slice-read-t17
-    add-t18
-    mul-t19
+    (λ c. search needs) (λ c. search needs)
     shared-slice-read-t21
     returns-4)

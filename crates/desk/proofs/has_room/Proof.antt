@@ -4,9 +4,6 @@ use Rattle.desk.proofs.RanLines.{room-lacks, room-left}
 use Rattle.desk.proofs.has_room.Statement.{statement}
 use Rattle.desk.proofs.has_room.Tie as tie
 
-shown-room-requires : tie.Need-shown-room-requires
-shown-room-requires c κs = search needs
-
 returns : tie.Need-returns
 returns c =
     let at-shown-room = c .before in
@@ -25,6 +22,6 @@ pub has-room-spec : {M : Type 1} → statement M
 has-room-spec =
     tie.close
     (tie.spec
-    shown-room-requires
+    (λ c κs. search needs)
     returns
     returns-2)

@@ -6,9 +6,6 @@ use Rattle.desk.proofs.RanLines.{answer-room, edit-answered, line-room,
 use Rattle.desk.proofs.run_line.Statement.{statement}
 use Rattle.desk.proofs.run_line.Tie as tie
 
-has-room-requires : tie.Need-has-room-requires
-has-room-requires c κs = search needs
-
 returns : tie.Need-returns
 returns c =
     let at-has-room = c .before in
@@ -16,12 +13,6 @@ returns c =
     let a = at-args .args in
     not-answered (a .c) (a .line .now) (a .out .now) _ (at-has-room .has-room .ensures)
     (five (a .nodes .now) (a .names .now) (a .lines .now) (a .pool .now) (a .journal .now)) (c .if1 .taken)
-
-command-of-requires : tie.Need-command-of-requires
-command-of-requires c κs = search needs
-
-enum-known-e : tie.Need-enum-known-e
-enum-known-e c = search needs
 
 run-edit-requires : tie.Need-run-edit-requires
 run-edit-requires c κs =
@@ -31,9 +22,6 @@ run-edit-requires c κs =
     let a = at-args .args in
     answer-room (a .c) (a .line .now) (a .out .now) _ (at-has-room .has-room .ensures) (at-if1 .if1 .left)
 
-enum-known-q : tie.Need-enum-known-q
-enum-known-q c = search needs
-
 run-question-requires : tie.Need-run-question-requires
 run-question-requires c κs =
     let at-if1 = c .before .before .before .before .before .before .before .before in
@@ -42,9 +30,6 @@ run-question-requires c κs =
     let a = at-args .args in
     line-room (a .c) (a .line .now) (a .out .now) _ (at-has-room .has-room .ensures) (at-if1 .if1 .left)
 
-enum-told : tie.Need-enum-told
-enum-told c = search needs
-
 run-unknown-requires : tie.Need-run-unknown-requires
 run-unknown-requires c κs =
     let at-if1 = c .before .before .before .before in
@@ -52,18 +37,6 @@ run-unknown-requires c κs =
     let at-args = at-has-room .before .before .before .before .before .before .before .before in
     let a = at-args .args in
     answer-room (a .c) (a .line .now) (a .out .now) _ (at-has-room .has-room .ensures) (at-if1 .if1 .left)
-
-same-length : tie.Need-same-length
-same-length c = c .before .before .before .before .before .before .before .lines .given
-
-same-length-2 : tie.Need-same-length-2
-same-length-2 c = c .before .before .before .before .before .pool .given
-
-same-length-3 : tie.Need-same-length-3
-same-length-3 c = c .before .before .before .journal .given
-
-same-length-4 : tie.Need-same-length-4
-same-length-4 c = c .before .out .given
 
 returns-2 : tie.Need-returns-2
 returns-2 c =
@@ -78,18 +51,6 @@ returns-2 c =
     (five (a .nodes .now) (a .names .now) (a .lines .now) (a .pool .now) (a .journal .now)) _ (at-command-of .command-of .ensures) _ _
     (five _ _ _ _ _) _ (at-e .e .given .1) (at-run-edit .run-edit .ensures)
 
-same-length-5 : tie.Need-same-length-5
-same-length-5 c = refl
-
-same-length-6 : tie.Need-same-length-6
-same-length-6 c = refl
-
-same-length-7 : tie.Need-same-length-7
-same-length-7 c = refl
-
-same-length-8 : tie.Need-same-length-8
-same-length-8 c = c .before .out2 .given
-
 returns-3 : tie.Need-returns-3
 returns-3 c =
     let at-run-question = c .before .before in
@@ -102,9 +63,6 @@ returns-3 c =
     let b = five (a .nodes .now) (a .names .now) (a .lines .now) (a .pool .now) (a .journal .now) in
     question-answered (a .c) (a .line .now) (a .out .now) _ (at-has-room .has-room .ensures) (at-if1 .if1 .left) b _
     (at-command-of .command-of .ensures) _ _ b _ (at-q .q .given .1) (at-run-question .run-question .ensures) refl
-
-same-length-9 : tie.Need-same-length-9
-same-length-9 c = c .before .out3 .given
 
 returns-4 : tie.Need-returns-4
 returns-4 c =
@@ -123,24 +81,21 @@ pub run-line-spec : {M : Type 1} → statement M
 run-line-spec =
     tie.close
     (tie.spec
-    has-room-requires
+    (λ c κs. search needs)
     returns
-    command-of-requires
-    enum-known-e
+    (λ c κs. search needs) (λ c. search needs)
     run-edit-requires
-    enum-known-q
+    (λ c. search needs)
     run-question-requires
-    enum-told
+    (λ c. search needs)
     run-unknown-requires
-    same-length
-    same-length-2
-    same-length-3
-    same-length-4
+    (λ c. c .before .before .before .before .before .before .before .lines .given)
+    (λ c. c .before .before .before .before .before .pool .given)
+    (λ c. c .before .before .before .journal .given)
+    (λ c. c .before .out .given)
     returns-2
-    same-length-5
-    same-length-6
-    same-length-7
-    same-length-8
+    (λ c. refl) (λ c. refl) (λ c. refl)
+    (λ c. c .before .out2 .given)
     returns-3
-    same-length-9
+    (λ c. c .before .out3 .given)
     returns-4)

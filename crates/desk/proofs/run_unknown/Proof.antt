@@ -4,15 +4,6 @@ use Rattle.desk.proofs.RanLines.{unknown-told}
 use Rattle.desk.proofs.run_unknown.Statement.{statement}
 use Rattle.desk.proofs.run_unknown.Tie as tie
 
-slice-aggregate-put-text : tie.Need-slice-aggregate-put-text
-slice-aggregate-put-text c = search needs
-
-put-text-requires : tie.Need-put-text-requires
-put-text-requires c κs = search needs
-
-same-length : tie.Need-same-length
-same-length c = c .before .out .given
-
 returns : tie.Need-returns
 returns c =
     let at-put-text = c .before .before in
@@ -25,7 +16,6 @@ pub run-unknown-spec : {M : Type 1} → statement M
 run-unknown-spec =
     tie.close
     (tie.spec
-    slice-aggregate-put-text
-    put-text-requires
-    same-length
+    (λ c. search needs) (λ c κs. search needs)
+    (λ c. c .before .out .given)
     returns)

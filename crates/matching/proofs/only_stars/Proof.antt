@@ -12,23 +12,11 @@ Inv-loop p from at₀ at = Stars p from at
 abbrev μ-loop : tie.MeasureT-loop
 μ-loop p from at₀ at = length p - at
 
-loop-holds : tie.Need-loop-holds Inv-loop μ-loop
-loop-holds c = search stars-start
-
-character-at-requires : tie.Need-character-at-requires Inv-loop μ-loop
-character-at-requires c κs = search needs
-
 returns : tie.Need-returns Inv-loop μ-loop
 returns c = search stars-no
 
-loop-less : tie.Need-loop-less Inv-loop μ-loop
-loop-less c = search stars-less
-
 loop-again : tie.Need-loop-again Inv-loop μ-loop
 loop-again c = search stars-on
-
-returns-2 : tie.Need-returns-2 Inv-loop μ-loop
-returns-2 c = search stars-end
 
 pub only-stars-spec : {M : Type 1} → statement M
 only-stars-spec =
@@ -36,9 +24,9 @@ only-stars-spec =
     (tie.spec
     Inv-loop
     μ-loop
-    loop-holds
-    character-at-requires
+    (λ c. search stars-start)
+    (λ c κs. search needs)
     returns
-    loop-less
+    (λ c. search stars-less)
     loop-again
-    returns-2)
+    (λ c. search stars-end))

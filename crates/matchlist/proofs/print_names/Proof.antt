@@ -12,49 +12,11 @@ Inv-loop class stored text at₀ at = at ≤ length text + 1
 abbrev μ-loop : tie.MeasureT-loop
 μ-loop class stored text at₀ at = length text - at
 
-loop-holds : tie.Need-loop-holds Inv-loop μ-loop
-loop-holds c = search needs
-
-find-requires : tie.Need-find-requires Inv-loop μ-loop
-find-requires c κs = search needs
-
-sub-print-name : tie.Need-sub-print-name Inv-loop μ-loop
-sub-print-name c = search needs
-
-part-print-name-start : tie.Need-part-print-name-start Inv-loop μ-loop
-part-print-name-start c = search needs
-
-part-print-name-end : tie.Need-part-print-name-end Inv-loop μ-loop
-part-print-name-end c = search needs
-
-print-name-requires : tie.Need-print-name-requires Inv-loop μ-loop
-print-name-requires c κs = search needs
-
-add-at : tie.Need-add-at Inv-loop μ-loop
-add-at c = search needs
-
-loop-less : tie.Need-loop-less Inv-loop μ-loop
-loop-less c = search needs
-
-loop-again : tie.Need-loop-again Inv-loop μ-loop
-loop-again c = search needs
-
-returns : tie.Need-returns Inv-loop μ-loop
-returns c = search needs
-
 pub print-names-spec : {M : Type 1} → statement M
 print-names-spec =
     tie.close
     (tie.spec
     Inv-loop
     μ-loop
-    loop-holds
-    find-requires
-    sub-print-name
-    part-print-name-start
-    part-print-name-end
-    print-name-requires
-    add-at
-    loop-less
-    loop-again
-    returns)
+    (λ c. search needs) (λ c κs. search needs) (λ c. search needs) (λ c. search needs) (λ c. search needs)
+    (λ c κs. search needs) (λ c. search needs) (λ c. search needs) (λ c. search needs) (λ c. search needs))

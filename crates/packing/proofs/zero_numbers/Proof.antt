@@ -14,41 +14,14 @@ Inv-loop rows from i₀ i = all-zero (drop from rows) ≡ all-zero (drop i rows)
 abbrev μ-loop : tie.MeasureT-loop
 μ-loop rows from i₀ i = length rows - i
 
-loop-holds : tie.Need-loop-holds Inv-loop μ-loop
-loop-holds c = refl
-
-mul-if1 : tie.Need-mul-if1 Inv-loop μ-loop
-mul-if1 c = search needs
-
-shared-slice-read-if1 : tie.Need-shared-slice-read-if1 Inv-loop μ-loop
-shared-slice-read-if1 c = search needs
-
-returns : tie.Need-returns Inv-loop μ-loop
-returns c = search zero-stops
-
-add-i : tie.Need-add-i Inv-loop μ-loop
-add-i c = search needs
-
-loop-less : tie.Need-loop-less Inv-loop μ-loop
-loop-less c = search needs
-
-loop-again : tie.Need-loop-again Inv-loop μ-loop
-loop-again c = search zero-more
-
-returns-2 : tie.Need-returns-2 Inv-loop μ-loop
-returns-2 c = search zero-ends
-
 pub zero-numbers-spec : {M : Type 1} → statement M
 zero-numbers-spec =
     tie.close
     (tie.spec
     Inv-loop
     μ-loop
-    loop-holds
-    mul-if1
-    shared-slice-read-if1
-    returns
-    add-i
-    loop-less
-    loop-again
-    returns-2)
+    (λ c. refl) (λ c. search needs) (λ c. search needs)
+    (λ c. search zero-stops)
+    (λ c. search needs) (λ c. search needs)
+    (λ c. search zero-more)
+    (λ c. search zero-ends))

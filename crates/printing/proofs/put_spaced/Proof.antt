@@ -4,21 +4,6 @@ use Rattle.printing.proofs.Pieces.{spaced-put}
 use Rattle.printing.proofs.put_spaced.Statement.{statement}
 use Rattle.printing.proofs.put_spaced.Tie as tie
 
-put-text-requires : tie.Need-put-text-requires
-put-text-requires c κs = search needs
-
-slice-aggregate-put-text : tie.Need-slice-aggregate-put-text
-slice-aggregate-put-text c = search needs
-
-put-text-requires-2 : tie.Need-put-text-requires-2
-put-text-requires-2 c κs = search needs
-
-put-number-requires : tie.Need-put-number-requires
-put-number-requires c κs = search needs
-
-same-length : tie.Need-same-length
-same-length c = search needs
-
 returns : tie.Need-returns
 returns c =
     let at-put-number = c .before .before in
@@ -36,9 +21,5 @@ pub put-spaced-spec : {M : Type 1} → statement M
 put-spaced-spec =
     tie.close
     (tie.spec
-    put-text-requires
-    slice-aggregate-put-text
-    put-text-requires-2
-    put-number-requires
-    same-length
+    (λ c κs. search needs) (λ c. search needs) (λ c κs. search needs) (λ c κs. search needs) (λ c. search needs)
     returns)

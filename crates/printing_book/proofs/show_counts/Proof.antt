@@ -78,48 +78,30 @@ put-spaced-requires : tie.Need-put-spaced-requires
 unfolding shown-room
 put-spaced-requires c κs = omega arith
 
-slice-aggregate-put-spaced-2 : tie.Need-slice-aggregate-put-spaced-2
-slice-aggregate-put-spaced-2 c = search needs
-
 put-spaced-requires-2 : tie.Need-put-spaced-requires-2
 put-spaced-requires-2 c κs =
     let p = c .before .before .before .before in
     room-behind (kind p) 6 (omega (arith, ample (start p)))
-
-slice-aggregate-put-spaced-3 : tie.Need-slice-aggregate-put-spaced-3
-slice-aggregate-put-spaced-3 c = search needs
 
 put-spaced-requires-3 : tie.Need-put-spaced-requires-3
 put-spaced-requires-3 c κs =
     let p = c .before .before .before .before in
     room-behind (nodes p) 6 (omega (arith, ample (start2 p)))
 
-slice-aggregate-put-spaced-4 : tie.Need-slice-aggregate-put-spaced-4
-slice-aggregate-put-spaced-4 c = search needs
-
 put-spaced-requires-4 : tie.Need-put-spaced-requires-4
 put-spaced-requires-4 c κs =
     let p = c .before .before .before .before in
     room-behind (names p) 6 (omega (arith, ample (start3 p)))
-
-slice-aggregate-put-spaced-5 : tie.Need-slice-aggregate-put-spaced-5
-slice-aggregate-put-spaced-5 c = search needs
 
 put-spaced-requires-5 : tie.Need-put-spaced-requires-5
 put-spaced-requires-5 c κs =
     let p = c .before .before .before .before in
     room-behind (lines p) 5 (omega (arith, ample (start4 p)))
 
-slice-aggregate-put-spaced-6 : tie.Need-slice-aggregate-put-spaced-6
-slice-aggregate-put-spaced-6 c = search needs
-
 put-spaced-requires-6 : tie.Need-put-spaced-requires-6
 put-spaced-requires-6 c κs =
     let p = c .before .before .before .before in
     room-behind (pool p) 6 (omega (arith, ample (start5 p)))
-
-slice-aggregate-put-text : tie.Need-slice-aggregate-put-text
-slice-aggregate-put-text c = search needs
 
 put-text-requires : tie.Need-put-text-requires
 put-text-requires c κs =
@@ -144,17 +126,17 @@ show-counts-spec =
     (tie.spec
     slice-aggregate-put-spaced
     put-spaced-requires
-    slice-aggregate-put-spaced-2
+    (λ c. search needs)
     put-spaced-requires-2
-    slice-aggregate-put-spaced-3
+    (λ c. search needs)
     put-spaced-requires-3
-    slice-aggregate-put-spaced-4
+    (λ c. search needs)
     put-spaced-requires-4
-    slice-aggregate-put-spaced-5
+    (λ c. search needs)
     put-spaced-requires-5
-    slice-aggregate-put-spaced-6
+    (λ c. search needs)
     put-spaced-requires-6
-    slice-aggregate-put-text
+    (λ c. search needs)
     put-text-requires
     same-length
     returns)

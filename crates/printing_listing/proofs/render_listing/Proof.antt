@@ -5,12 +5,6 @@ use Rattle.printing_listing.proofs.Inputs.{line-room, lines-room, not-l
 use Rattle.printing_listing.proofs.render_listing.Statement.{statement}
 use Rattle.printing_listing.proofs.render_listing.Tie as tie
 
-has-room-requires : tie.Need-has-room-requires
-has-room-requires c κs = search needs
-
-nothing-listed-requires : tie.Need-nothing-listed-requires
-nothing-listed-requires c κs = search needs
-
 returns : tie.Need-returns
 returns c =
     let at-if1 = c .before in
@@ -32,21 +26,6 @@ render-too-long-requires c κs =
 same-length : tie.Need-same-length
 same-length c = c .before .before .before .before .before .before .before .before .before .before .before .nodes .given
 
-same-length-2 : tie.Need-same-length-2
-same-length-2 c = c .before .before .before .before .before .before .before .before .before .names .given
-
-same-length-3 : tie.Need-same-length-3
-same-length-3 c = c .before .before .before .before .before .before .before .lines .given
-
-same-length-4 : tie.Need-same-length-4
-same-length-4 c = c .before .before .before .before .before .pool .given
-
-same-length-5 : tie.Need-same-length-5
-same-length-5 c = c .before .before .before .journal .given
-
-same-length-6 : tie.Need-same-length-6
-same-length-6 c = c .before .out .given
-
 returns-2 : tie.Need-returns-2
 returns-2 c =
     let at-too-long = c .before .before .before .before .before .before .before .before .before .before .before .before in
@@ -59,9 +38,6 @@ returns-2 c =
     too-long-listed (five (a .nodes .now) (a .names .now) (a .lines .now) (a .pool .now) (a .journal .now)) (a .text .now) (a .out .now) _ (at-has-room .has-room .ensures)
     (at-if1 .if1 .left) (at-if2 .if2 .taken) (r .result) (r .last .1 .1 .1 .1 .1 .0)
     (five (r .last .0) (r .last .1 .0) (r .last .1 .1 .0) (r .last .1 .1 .1 .0) (r .last .1 .1 .1 .1 .0)) (r .ensures)
-
-script-end-requires : tie.Need-script-end-requires
-script-end-requires c κs = search needs
 
 symbols-start-requires : tie.Need-symbols-start-requires
 symbols-start-requires c κs =
@@ -88,9 +64,6 @@ part-render-script-start c =
     let at-args = at-script-end .before .before .before .before .before .before .before .before .before .before .before in
     symbols-within (at-args .args .text .now) _ (at-script-end .script-end .ensures) _ (at-symbols-start .symbols-start .ensures)
 
-part-render-script-end : tie.Need-part-render-script-end
-part-render-script-end c = search needs
-
 render-script-requires : tie.Need-render-script-requires
 render-script-requires c κs =
     let at-symbols-start = c .before .before .before .before .before .before .before .before in
@@ -106,21 +79,6 @@ render-script-requires c κs =
 
 same-length-7 : tie.Need-same-length-7
 same-length-7 c = c .before .before .before .before .before .before .before .before .before .before .before .nodes2 .given
-
-same-length-8 : tie.Need-same-length-8
-same-length-8 c = c .before .before .before .before .before .before .before .before .before .names2 .given
-
-same-length-9 : tie.Need-same-length-9
-same-length-9 c = c .before .before .before .before .before .before .before .lines2 .given
-
-same-length-10 : tie.Need-same-length-10
-same-length-10 c = c .before .before .before .before .before .pool2 .given
-
-same-length-11 : tie.Need-same-length-11
-same-length-11 c = c .before .before .before .journal2 .given
-
-same-length-12 : tie.Need-same-length-12
-same-length-12 c = c .before .out2 .given
 
 returns-3 : tie.Need-returns-3
 returns-3 c =
@@ -142,28 +100,27 @@ pub render-listing-spec : {M : Type 1} → statement M
 render-listing-spec =
     tie.close
     (tie.spec
-    has-room-requires
-    nothing-listed-requires
+    (λ c κs. search needs) (λ c κs. search needs)
     returns
     render-too-long-requires
     same-length
-    same-length-2
-    same-length-3
-    same-length-4
-    same-length-5
-    same-length-6
+    (λ c. c .before .before .before .before .before .before .before .before .before .names .given)
+    (λ c. c .before .before .before .before .before .before .before .lines .given)
+    (λ c. c .before .before .before .before .before .pool .given)
+    (λ c. c .before .before .before .journal .given)
+    (λ c. c .before .out .given)
     returns-2
-    script-end-requires
+    (λ c κs. search needs)
     symbols-start-requires
     slice-aggregate-render-script
     sub-render-script
     part-render-script-start
-    part-render-script-end
+    (λ c. search needs)
     render-script-requires
     same-length-7
-    same-length-8
-    same-length-9
-    same-length-10
-    same-length-11
-    same-length-12
+    (λ c. c .before .before .before .before .before .before .before .before .before .names2 .given)
+    (λ c. c .before .before .before .before .before .before .before .lines2 .given)
+    (λ c. c .before .before .before .before .before .pool2 .given)
+    (λ c. c .before .before .before .journal2 .given)
+    (λ c. c .before .out2 .given)
     returns-3)

@@ -6,18 +6,6 @@ use Rattle.printing_symbols.proofs.Pieces.{counts-line-put}
 use Rattle.printing_symbols.proofs.put_counts_line.Statement.{statement}
 use Rattle.printing_symbols.proofs.put_counts_line.Tie as tie
 
-slice-aggregate-put-text : tie.Need-slice-aggregate-put-text
-slice-aggregate-put-text c = search needs
-
-put-text-requires : tie.Need-put-text-requires
-put-text-requires c κs = search needs
-
-put-number-requires : tie.Need-put-number-requires
-put-number-requires c κs = search needs
-
-slice-aggregate-put-text-2 : tie.Need-slice-aggregate-put-text-2
-slice-aggregate-put-text-2 c = search needs
-
 put-text-requires-2 : tie.Need-put-text-requires-2
 put-text-requires-2 c κs =
     let at-args = c .before .before .before .before .before .before .before .before .before .before .before .before in
@@ -28,16 +16,10 @@ put-number-requires-2 c κs =
     let at-args = c .before .before .before .before .before .before .before .before .before .before .before .before .before .before .before .before in
     omega (arith, few-digits (at-args .args .n))
 
-slice-aggregate-put-text-3 : tie.Need-slice-aggregate-put-text-3
-slice-aggregate-put-text-3 c = search needs
-
 put-text-requires-3 : tie.Need-put-text-requires-3
 put-text-requires-3 c κs =
     let at-args = c .before .before .before .before .before .before .before .before .before .before .before .before .before .before .before .before .before .before .before .before .before in
     omega (arith, few-digits (at-args .args .n), few-digits (at-args .args .p))
-
-same-length : tie.Need-same-length
-same-length c = search needs
 
 returns : tie.Need-returns
 returns c =
@@ -61,13 +43,10 @@ pub put-counts-line-spec : {M : Type 1} → statement M
 put-counts-line-spec =
     tie.close
     (tie.spec
-    slice-aggregate-put-text
-    put-text-requires
-    put-number-requires
-    slice-aggregate-put-text-2
+    (λ c. search needs) (λ c κs. search needs) (λ c κs. search needs) (λ c. search needs)
     put-text-requires-2
     put-number-requires-2
-    slice-aggregate-put-text-3
+    (λ c. search needs)
     put-text-requires-3
-    same-length
+    (λ c. search needs)
     returns)

@@ -9,36 +9,6 @@ use Rattle.printing_symbols.proofs.render_counts.Tie as tie
 returns : tie.Need-returns
 returns c = no-room 0 _ (c .before .before .before .before .before .before .before .args .out .now) (c .if1 .taken)
 
-version-count-requires : tie.Need-version-count-requires
-version-count-requires c κs = search needs
-
-enum-known-no : tie.Need-enum-known-no
-enum-known-no c = search needs
-
-put-refused-line-requires : tie.Need-put-refused-line-requires
-put-refused-line-requires c κs = search needs
-
-enum-known-n : tie.Need-enum-known-n
-enum-known-n c = search needs
-
-parent-count-requires : tie.Need-parent-count-requires
-parent-count-requires c κs = search needs
-
-enum-known-no-2 : tie.Need-enum-known-no-2
-enum-known-no-2 c = search needs
-
-put-refused-line-requires-2 : tie.Need-put-refused-line-requires-2
-put-refused-line-requires-2 c κs = search needs
-
-enum-known-p : tie.Need-enum-known-p
-enum-known-p c = search needs
-
-put-counts-line-requires : tie.Need-put-counts-line-requires
-put-counts-line-requires c κs = search needs
-
-same-length : tie.Need-same-length
-same-length c = search needs
-
 returns-2 : tie.Need-returns-2
 returns-2 c =
     let p = c .before .before in
@@ -48,9 +18,6 @@ returns-2 c =
     let a = i .before .before .before .before .before .before .before .args in
     first-refused (a .out .now) (i .if1 .left) (view (a .c) (five (a .nodes .now) (a .names .now) (a .lines .now) (a .pool .now) (a .journal .now))) (v .version-count .ensures) (n .no .given .1)
     (p .put-refused-line .ensures)
-
-same-length-2 : tie.Need-same-length-2
-same-length-2 c = search needs
 
 returns-3 : tie.Need-returns-3
 returns-3 c =
@@ -63,9 +30,6 @@ returns-3 c =
     let a = i .before .before .before .before .before .before .before .args in
     second-refused (a .out .now) (i .if1 .left) (view (a .c) (five (a .nodes .now) (a .names .now) (a .lines .now) (a .pool .now) (a .journal .now))) (v .version-count .ensures) (n .n .given .1)
     (w .parent-count .ensures) (m .no2 .given .1) (p .put-refused-line2 .ensures)
-
-same-length-3 : tie.Need-same-length-3
-same-length-3 c = search needs
 
 returns-4 : tie.Need-returns-4
 returns-4 c =
@@ -84,18 +48,10 @@ render-counts-spec =
     tie.close
     (tie.spec
     returns
-    version-count-requires
-    enum-known-no
-    put-refused-line-requires
-    enum-known-n
-    parent-count-requires
-    enum-known-no-2
-    put-refused-line-requires-2
-    enum-known-p
-    put-counts-line-requires
-    same-length
+    (λ c κs. search needs) (λ c. search needs) (λ c κs. search needs) (λ c. search needs) (λ c κs. search needs)
+    (λ c. search needs) (λ c κs. search needs) (λ c. search needs) (λ c κs. search needs) (λ c. search needs)
     returns-2
-    same-length-2
+    (λ c. search needs)
     returns-3
-    same-length-3
+    (λ c. search needs)
     returns-4)

@@ -25,38 +25,14 @@ language-of-requires c κs = search needs
 mul-result-2 : tie.Need-mul-result-2
 mul-result-2 c = search needs
 
-add-result : tie.Need-add-result
-add-result c = search needs
-
-add-result-2 : tie.Need-add-result-2
-add-result-2 c = search needs
-
 returns : tie.Need-returns
 returns c = let a = c .before .before .before .before .args in omega (arith, rank-exact (a .n) (line-of (a .node) (a .code) []) (omega arith))
-
-mul-result-3 : tie.Need-mul-result-3
-mul-result-3 c = search needs
-
-mul-result-4 : tie.Need-mul-result-4
-mul-result-4 c = search needs
-
-sub-result : tie.Need-sub-result
-sub-result c = search needs
 
 mul-result-5 : tie.Need-mul-result-5
 mul-result-5 c = omega (arith, span-fits (c .before .before .before .args .n) (c .before .before .class-of .result - 2) (omega arith) (omega arith))
 
 add-result-3 : tie.Need-add-result-3
 add-result-3 c = omega (arith, span-fits (c .before .before .before .args .n) (c .before .before .class-of .result - 2) (omega arith) (omega arith))
-
-sub-result-2 : tie.Need-sub-result-2
-sub-result-2 c = search needs
-
-sub-result-3 : tie.Need-sub-result-3
-sub-result-3 c = search needs
-
-mul-result-6 : tie.Need-mul-result-6
-mul-result-6 c = search needs
 
 add-result-4 : tie.Need-add-result-4
 add-result-4 c = omega (arith, span-fits (c .before .before .before .args .n) (c .before .before .class-of .result - 2) (omega arith) (omega arith))
@@ -75,17 +51,12 @@ rank-of-spec =
     (tie.spec
     class-of-requires section-of-requires mul-result
     language-of-requires mul-result-2
-    add-result
-    add-result-2
+    (λ c. search needs) (λ c. search needs)
     returns
-    mul-result-3
-    mul-result-4
-    sub-result
+    (λ c. search needs) (λ c. search needs) (λ c. search needs)
     mul-result-5
     add-result-3
-    sub-result-2
-    sub-result-3
-    mul-result-6
+    (λ c. search needs) (λ c. search needs) (λ c. search needs)
     add-result-4
     add-result-5
     returns-2)

@@ -6,21 +6,9 @@ use Rattle.reading_bodies.proofs.Deciding.{ways}
 use Rattle.reading_bodies.proofs.body_at.Statement.{statement}
 use Rattle.reading_bodies.proofs.body_at.Tie as tie
 
-byte-at-requires : tie.Need-byte-at-requires
-byte-at-requires c κs = search needs
-
-add-node-end : tie.Need-add-node-end
-add-node-end c = search (needs, byte-fits)
-
-node-end-requires : tie.Need-node-end-requires
-node-end-requires c κs = search needs
-
 returns : tie.Need-returns
 unfolding body-at
 returns c = search ways
-
-inside-body-requires : tie.Need-inside-body-requires
-inside-body-requires c κs = search needs
 
 returns-2 : tie.Need-returns-2
 unfolding body-at
@@ -30,9 +18,9 @@ pub body-at-spec : {M : Type 1} → statement M
 body-at-spec =
     tie.close
     (tie.spec
-    byte-at-requires
-    add-node-end
-    node-end-requires
+    (λ c κs. search needs)
+    (λ c. search (needs, byte-fits))
+    (λ c κs. search needs)
     returns
-    inside-body-requires
+    (λ c κs. search needs)
     returns-2)

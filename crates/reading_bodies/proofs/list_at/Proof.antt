@@ -6,24 +6,9 @@ use Rattle.reading_bodies.proofs.Deciding.{ways}
 use Rattle.reading_bodies.proofs.list_at.Statement.{statement}
 use Rattle.reading_bodies.proofs.list_at.Tie as tie
 
-slice-aggregate-try-take : tie.Need-slice-aggregate-try-take
-slice-aggregate-try-take c = search needs
-
-try-take-requires : tie.Need-try-take-requires
-try-take-requires c κs = search needs
-
-add-end-behind : tie.Need-add-end-behind
-add-end-behind c = search (needs, word-fits)
-
-end-behind-requires : tie.Need-end-behind-requires
-end-behind-requires c κs = search needs
-
 returns : tie.Need-returns
 unfolding list-at
 returns c = search ways
-
-parse-matcher-requires : tie.Need-parse-matcher-requires
-parse-matcher-requires c κs = search needs
 
 returns-2 : tie.Need-returns-2
 unfolding list-at
@@ -33,10 +18,9 @@ pub list-at-spec : {M : Type 1} → statement M
 list-at-spec =
     tie.close
     (tie.spec
-    slice-aggregate-try-take
-    try-take-requires
-    add-end-behind
-    end-behind-requires
+    (λ c. search needs) (λ c κs. search needs)
+    (λ c. search (needs, word-fits))
+    (λ c κs. search needs)
     returns
-    parse-matcher-requires
+    (λ c κs. search needs)
     returns-2)

@@ -4,24 +4,6 @@ use Rattle.reading_bodies.proofs.Deciding.{no-parent, parent-goes, pare
 use Rattle.reading_bodies.proofs.parent_at.Statement.{statement}
 use Rattle.reading_bodies.proofs.parent_at.Tie as tie
 
-find-requires : tie.Need-find-requires
-find-requires c κs = search needs
-
-enum-told : tie.Need-enum-told
-enum-told c = search needs
-
-enum-known-q : tie.Need-enum-known-q
-enum-known-q c = search needs
-
-sub-move-to : tie.Need-sub-move-to
-sub-move-to c = search parent-long
-
-add-move-to : tie.Need-add-move-to
-add-move-to c = search parent-fits
-
-move-to-requires : tie.Need-move-to-requires
-move-to-requires c κs = search needs
-
 returns : tie.Need-returns
 returns c = search no-parent
 
@@ -32,11 +14,9 @@ pub parent-at-spec : {M : Type 1} → statement M
 parent-at-spec =
     tie.close
     (tie.spec
-    find-requires
-    enum-told
-    enum-known-q
-    sub-move-to
-    add-move-to
-    move-to-requires
+    (λ c κs. search needs) (λ c. search needs) (λ c. search needs)
+    (λ c. search parent-long)
+    (λ c. search parent-fits)
+    (λ c κs. search needs)
     returns
     returns-2)

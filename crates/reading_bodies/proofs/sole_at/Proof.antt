@@ -6,21 +6,9 @@ use Rattle.reading_bodies.proofs.Deciding.{ways}
 use Rattle.reading_bodies.proofs.sole_at.Statement.{statement}
 use Rattle.reading_bodies.proofs.sole_at.Tie as tie
 
-byte-at-requires : tie.Need-byte-at-requires
-byte-at-requires c κs = search needs
-
-add-sole-end : tie.Need-add-sole-end
-add-sole-end c = search (needs, byte-fits)
-
-sole-end-requires : tie.Need-sole-end-requires
-sole-end-requires c κs = search needs
-
 returns : tie.Need-returns
 unfolding sole-at
 returns c = search ways
-
-inside-body-requires : tie.Need-inside-body-requires
-inside-body-requires c κs = search needs
 
 returns-2 : tie.Need-returns-2
 unfolding sole-at
@@ -30,9 +18,9 @@ pub sole-at-spec : {M : Type 1} → statement M
 sole-at-spec =
     tie.close
     (tie.spec
-    byte-at-requires
-    add-sole-end
-    sole-end-requires
+    (λ c κs. search needs)
+    (λ c. search (needs, byte-fits))
+    (λ c κs. search needs)
     returns
-    inside-body-requires
+    (λ c κs. search needs)
     returns-2)

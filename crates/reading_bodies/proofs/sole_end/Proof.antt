@@ -6,27 +6,9 @@ use Rattle.reading_bodies.proofs.Deciding.{ways}
 use Rattle.reading_bodies.proofs.sole_end.Statement.{statement}
 use Rattle.reading_bodies.proofs.sole_end.Tie as tie
 
-skip-at-requires : tie.Need-skip-at-requires
-skip-at-requires c κs = search needs
-
-enum-known-o : tie.Need-enum-known-o
-enum-known-o c = search needs
-
-enum-known-q : tie.Need-enum-known-q
-enum-known-q c = search needs
-
-byte-at-requires : tie.Need-byte-at-requires
-byte-at-requires c κs = search needs
-
 returns : tie.Need-returns
 unfolding sole-end
 returns c = search ways
-
-add-end-behind : tie.Need-add-end-behind
-add-end-behind c = search (needs, byte-fits)
-
-end-behind-requires : tie.Need-end-behind-requires
-end-behind-requires c κs = search needs
 
 returns-2 : tie.Need-returns-2
 unfolding sole-end
@@ -40,12 +22,9 @@ pub sole-end-spec : {M : Type 1} → statement M
 sole-end-spec =
     tie.close
     (tie.spec
-    skip-at-requires
-    enum-known-o
-    enum-known-q
-    byte-at-requires
+    (λ c κs. search needs) (λ c. search needs) (λ c. search needs) (λ c κs. search needs)
     returns
-    add-end-behind
-    end-behind-requires
+    (λ c. search (needs, byte-fits))
+    (λ c κs. search needs)
     returns-2
     returns-3)

@@ -13,71 +13,11 @@ Inv-loop place text rows₀ c₀ n₀ rows c n = Tabled place text rows₀ rows 
 abbrev μ-loop : tie.MeasureT-loop
 μ-loop place text rows₀ c₀ n₀ rows c n = length text + 2 - c .at
 
-start-at-requires : tie.Need-start-at-requires Inv-loop μ-loop
-start-at-requires c κs = search needs
-
-loop-holds : tie.Need-loop-holds Inv-loop μ-loop
-loop-holds c = search tabled-start
-
-next-event-requires : tie.Need-next-event-requires Inv-loop μ-loop
-next-event-requires c κs = search needs
-
-enum-told : tie.Need-enum-told Inv-loop μ-loop
-enum-told c = search needs
-
-mul-result : tie.Need-mul-result Inv-loop μ-loop
-mul-result c = search end-fits
-
-same-length : tie.Need-same-length Inv-loop μ-loop
-same-length c = search needs
-
 returns : tie.Need-returns Inv-loop μ-loop
 returns c = (search end-told, search end-rows)
 
-enum-known-no : tie.Need-enum-known-no Inv-loop μ-loop
-enum-known-no c = search needs
-
-cast-result : tie.Need-cast-result Inv-loop μ-loop
-cast-result c = search needs
-
-mul-result-2 : tie.Need-mul-result-2 Inv-loop μ-loop
-mul-result-2 c = search place-fits
-
-add-result : tie.Need-add-result Inv-loop μ-loop
-add-result c = search refused-fits
-
-same-length-2 : tie.Need-same-length-2 Inv-loop μ-loop
-same-length-2 c = search needs
-
 returns-2 : tie.Need-returns-2 Inv-loop μ-loop
 returns-2 c = (search refused-told, search refused-rows)
-
-enum-known-e : tie.Need-enum-known-e Inv-loop μ-loop
-enum-known-e c = search needs
-
-sub-if1 : tie.Need-sub-if1 Inv-loop μ-loop
-sub-if1 c = omega arith
-
-cast-result-2 : tie.Need-cast-result-2 Inv-loop μ-loop
-cast-result-2 c = search needs
-
-same-length-3 : tie.Need-same-length-3 Inv-loop μ-loop
-same-length-3 c = search needs
-
-returns-3 : tie.Need-returns-3 Inv-loop μ-loop
-returns-3 c = (search room-told, search room-rows)
-
-put-row-requires : tie.Need-put-row-requires Inv-loop μ-loop
-put-row-requires c κs = omega arith
-
-add-n : tie.Need-add-n Inv-loop μ-loop
-add-n c = omega arith
-
-loop-less : tie.Need-loop-less Inv-loop μ-loop
-loop-less c = search onward
-
-loop-again : tie.Need-loop-again Inv-loop μ-loop
-loop-again c = search tabled-more
 
 pub write-events-spec : {M : Type 1} → statement M
 write-events-spec =
@@ -85,25 +25,19 @@ write-events-spec =
     (tie.spec
     Inv-loop
     μ-loop
-    start-at-requires
-    loop-holds
-    next-event-requires
-    enum-told
-    mul-result
-    same-length
+    (λ c κs. search needs)
+    (λ c. search tabled-start)
+    (λ c κs. search needs) (λ c. search needs)
+    (λ c. search end-fits)
+    (λ c. search needs)
     returns
-    enum-known-no
-    cast-result
-    mul-result-2
-    add-result
-    same-length-2
+    (λ c. search needs) (λ c. search needs)
+    (λ c. search place-fits)
+    (λ c. search refused-fits)
+    (λ c. search needs)
     returns-2
-    enum-known-e
-    sub-if1
-    cast-result-2
-    same-length-3
-    returns-3
-    put-row-requires
-    add-n
-    loop-less
-    loop-again)
+    (λ c. search needs) (λ c. omega arith) (λ c. search needs) (λ c. search needs)
+    (λ c. (search room-told, search room-rows))
+    (λ c κs. omega arith) (λ c. omega arith)
+    (λ c. search onward)
+    (λ c. search tabled-more))

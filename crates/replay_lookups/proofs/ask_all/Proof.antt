@@ -12,49 +12,11 @@ Inv-loop text c nodes names rows pool journal walk₀ walk = Onward (length text
 abbrev μ-loop : tie.MeasureT-loop
 μ-loop text c nodes names rows pool journal walk₀ walk = length text - walk .at
 
-loop-holds : tie.Need-loop-holds Inv-loop μ-loop
-loop-holds c = search needs
-
-line-at-requires : tie.Need-line-at-requires Inv-loop μ-loop
-line-at-requires c κs = search needs
-
-byte-or-zero-requires : tie.Need-byte-or-zero-requires Inv-loop μ-loop
-byte-or-zero-requires c κs = search needs
-
-returns : tie.Need-returns Inv-loop μ-loop
-returns c = search needs
-
-same-question-requires : tie.Need-same-question-requires Inv-loop μ-loop
-same-question-requires c κs = search needs
-
-passed-requires : tie.Need-passed-requires Inv-loop μ-loop
-passed-requires c κs = search needs
-
-counted-requires : tie.Need-counted-requires Inv-loop μ-loop
-counted-requires c κs = search needs
-
-loop-less : tie.Need-loop-less Inv-loop μ-loop
-loop-less c = search needs
-
-loop-again : tie.Need-loop-again Inv-loop μ-loop
-loop-again c = search needs
-
-returns-2 : tie.Need-returns-2 Inv-loop μ-loop
-returns-2 c = search needs
-
 pub ask-all-spec : {M : Type 1} → statement M
 ask-all-spec =
     tie.close
     (tie.spec
     Inv-loop
     μ-loop
-    loop-holds
-    line-at-requires
-    byte-or-zero-requires
-    returns
-    same-question-requires
-    passed-requires
-    counted-requires
-    loop-less
-    loop-again
-    returns-2)
+    (λ c. search needs) (λ c κs. search needs) (λ c κs. search needs) (λ c. search needs) (λ c κs. search needs)
+    (λ c κs. search needs) (λ c κs. search needs) (λ c. search needs) (λ c. search needs) (λ c. search needs))

@@ -5,35 +5,13 @@ use lib.ListN.{length-replicate}
 use Rattle.replay_lookups.proofs.main.Statement.{statement}
 use Rattle.replay_lookups.proofs.main.Tie as tie
 
-slice-aggregate-read-cases : tie.Need-slice-aggregate-read-cases
-slice-aggregate-read-cases c = sym (length-replicate {0} {A = ℕ} 262144 0)
-
-read-cases-requires : tie.Need-read-cases-requires
-read-cases-requires c κs = tt
-
-slice-aggregate-front : tie.Need-slice-aggregate-front
-slice-aggregate-front c = sym (c .before .text2 .given)
-
-front-requires : tie.Need-front-requires
-front-requires c κs = tt
-
-replay-requires : tie.Need-replay-requires
-replay-requires c κs = tt
-
-print-counts-requires : tie.Need-print-counts-requires
-print-counts-requires c κs = c .replay .ensures
-
-returns : tie.Need-returns
-returns c = tt
-
 pub main-spec : {M : Type 1} → statement M
 main-spec =
     tie.close
     (tie.spec
-    slice-aggregate-read-cases
-    read-cases-requires
-    slice-aggregate-front
-    front-requires
-    replay-requires
-    print-counts-requires
-    returns)
+    (λ c. sym (length-replicate {0} {A = ℕ} 262144 0))
+    (λ c κs. tt)
+    (λ c. sym (c .before .text2 .given))
+    (λ c κs. tt) (λ c κs. tt)
+    (λ c κs. c .replay .ensures)
+    (λ c. tt))

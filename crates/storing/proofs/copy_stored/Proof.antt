@@ -16,30 +16,6 @@ Inv-loop src out₀ i₀ opened₀ out i opened = Written (negated-from false sr
 abbrev μ-loop : tie.MeasureT-loop
 μ-loop src out₀ i₀ opened₀ out i opened = length src - i
 
-loop-holds : tie.Need-loop-holds Inv-loop μ-loop
-loop-holds c = search written-start
-
-shared-slice-read-c : tie.Need-shared-slice-read-c Inv-loop μ-loop
-shared-slice-read-c c = search needs
-
-with-negation-requires : tie.Need-with-negation-requires Inv-loop μ-loop
-with-negation-requires c κs = search needs
-
-slice-write-out : tie.Need-slice-write-out Inv-loop μ-loop
-slice-write-out c = omega arith
-
-add-i : tie.Need-add-i Inv-loop μ-loop
-add-i c = search needs
-
-loop-less : tie.Need-loop-less Inv-loop μ-loop
-loop-less c = omega arith
-
-loop-again : tie.Need-loop-again Inv-loop μ-loop
-loop-again c = search (written-more, negated-here, negated-fits)
-
-same-length : tie.Need-same-length Inv-loop μ-loop
-same-length c = search needs
-
 returns : tie.Need-returns Inv-loop μ-loop
 unfolding stored
 returns c = search (written-end, negated-end)
@@ -50,12 +26,8 @@ copy-stored-spec =
     (tie.spec
     Inv-loop
     μ-loop
-    loop-holds
-    shared-slice-read-c
-    with-negation-requires
-    slice-write-out
-    add-i
-    loop-less
-    loop-again
-    same-length
+    (λ c. search written-start)
+    (λ c. search needs) (λ c κs. search needs) (λ c. omega arith) (λ c. search needs) (λ c. omega arith)
+    (λ c. search (written-more, negated-here, negated-fits))
+    (λ c. search needs)
     returns)

@@ -16,54 +16,9 @@ Inv-loop src out₀ i₀ n₀ out i n = (n ≤ i) × Written (unescape src) out�
 abbrev μ-loop : tie.MeasureT-loop
 μ-loop src out₀ i₀ n₀ out i n = length src - i
 
-loop-holds : tie.Need-loop-holds Inv-loop μ-loop
-loop-holds c = (omega arith, search written-start)
-
-add-j : tie.Need-add-j Inv-loop μ-loop
-add-j c = search needs
-
-shared-slice-read-if1 : tie.Need-shared-slice-read-if1 Inv-loop μ-loop
-shared-slice-read-if1 c = search needs
-
-shared-slice-read-out : tie.Need-shared-slice-read-out Inv-loop μ-loop
-shared-slice-read-out c = search needs
-
-slice-write-out : tie.Need-slice-write-out Inv-loop μ-loop
-slice-write-out c = search (written-room, unescape-some)
-
-add-n : tie.Need-add-n Inv-loop μ-loop
-add-n c = search needs
-
-add-i : tie.Need-add-i Inv-loop μ-loop
-add-i c = search needs
-
-loop-less : tie.Need-loop-less Inv-loop μ-loop
-loop-less c = omega arith
-
-loop-again : tie.Need-loop-again Inv-loop μ-loop
-loop-again c = (omega arith, search (written-more, unescape-goes))
-
-shared-slice-read-out-2 : tie.Need-shared-slice-read-out-2 Inv-loop μ-loop
-shared-slice-read-out-2 c = search needs
-
-slice-write-out-2 : tie.Need-slice-write-out-2 Inv-loop μ-loop
-slice-write-out-2 c = search (written-room, unescape-some)
-
-add-n-2 : tie.Need-add-n-2 Inv-loop μ-loop
-add-n-2 c = search needs
-
-loop-less-2 : tie.Need-loop-less-2 Inv-loop μ-loop
-loop-less-2 c = omega arith
-
 loop-again-2 : tie.Need-loop-again-2 Inv-loop μ-loop
 loop-again-2 c =
     (omega arith, ⊎-elim (λ last. search (written-more, unescape-stays-last)) (λ other. search (written-more, unescape-stays)) (c .before .if1 .came))
-
-same-length : tie.Need-same-length Inv-loop μ-loop
-same-length c = search needs
-
-returns : tie.Need-returns Inv-loop μ-loop
-returns c = search (written-end, unescape-end)
 
 pub copy-unescaped-spec : {M : Type 1} → statement M
 copy-unescaped-spec =
@@ -71,19 +26,14 @@ copy-unescaped-spec =
     (tie.spec
     Inv-loop
     μ-loop
-    loop-holds
-    add-j
-    shared-slice-read-if1
-    shared-slice-read-out
-    slice-write-out
-    add-n
-    add-i
-    loop-less
-    loop-again
-    shared-slice-read-out-2
-    slice-write-out-2
-    add-n-2
-    loop-less-2
+    (λ c. (omega arith, search written-start))
+    (λ c. search needs) (λ c. search needs) (λ c. search needs)
+    (λ c. search (written-room, unescape-some))
+    (λ c. search needs) (λ c. search needs) (λ c. omega arith)
+    (λ c. (omega arith, search (written-more, unescape-goes)))
+    (λ c. search needs)
+    (λ c. search (written-room, unescape-some))
+    (λ c. search needs) (λ c. omega arith)
     loop-again-2
-    same-length
-    returns)
+    (λ c. search needs)
+    (λ c. search (written-end, unescape-end)))

@@ -8,23 +8,8 @@ use Rattle.rounds.proofs.Turns.{line-runs}
 use Rattle.trial_desk.proofs.run_command.Statement.{statement}
 use Rattle.trial_desk.proofs.run_command.Tie as tie
 
-run-line-requires : tie.Need-run-line-requires
-run-line-requires c κs = tt
-
-front-requires : tie.Need-front-requires
-front-requires c κs = tt
-
-tell-requires : tie.Need-tell-requires
-tell-requires c κs = tt
-
 same-length : tie.Need-same-length
 same-length c = c .before .before .before .before .before .before .before .before .before .before .lines .given
-
-same-length-2 : tie.Need-same-length-2
-same-length-2 c = c .before .before .before .before .before .before .before .before .pool .given
-
-same-length-3 : tie.Need-same-length-3
-same-length-3 c = c .before .before .before .before .before .before .journal .given
 
 returns : tie.Need-returns
 returns c =
@@ -41,10 +26,8 @@ pub run-command-spec : {M : Type 1} → statement M
 run-command-spec =
     tie.close
     (tie.spec
-    run-line-requires
-    front-requires
-    tell-requires
+    (λ c κs. tt) (λ c κs. tt) (λ c κs. tt)
     same-length
-    same-length-2
-    same-length-3
+    (λ c. c .before .before .before .before .before .before .before .before .pool .given)
+    (λ c. c .before .before .before .before .before .before .journal .given)
     returns)

@@ -23,9 +23,6 @@ loop-holds c =
     let s = c .before .before .before .before .before .before in
     (refl, refl, refl, turns-begin _ (s .args .commands .now) (s .pre .0))
 
-line-end-requires : tie.Need-line-end-requires Inv-loop μ-loop
-line-end-requires c κs = tt
-
 sub-run-command : tie.Need-sub-run-command Inv-loop μ-loop
 sub-run-command c =
     let f = c .before .before .before in
@@ -82,18 +79,6 @@ loop-again c =
     let on = turns-on _ _ _ _ (o .loop .inv .3) (f .before .loop-test .taken) (f .line-end .result) (f .line-end .ensures) _ (r .run-command .ensures) in
     (c .before .before .before .before .before .lines .given ∙ o .loop .inv .0, c .before .before .before .pool .given ∙ o .loop .inv .1, c .before .journal .given ∙ o .loop .inv .2, on)
 
-same-length : tie.Need-same-length Inv-loop μ-loop
-same-length c = c .before .loop .inv .0
-
-same-length-2 : tie.Need-same-length-2 Inv-loop μ-loop
-same-length-2 c = c .before .loop .inv .1
-
-same-length-3 : tie.Need-same-length-3 Inv-loop μ-loop
-same-length-3 c = c .before .loop .inv .2
-
-returns : tie.Need-returns Inv-loop μ-loop
-returns c = turns-end _ _ _ _ (c .before .loop .inv .3) (c .loop-test .left)
-
 pub run-commands-spec : {M : Type 1} → statement M
 run-commands-spec =
     tie.close
@@ -101,7 +86,7 @@ run-commands-spec =
     Inv-loop
     μ-loop
     loop-holds
-    line-end-requires
+    (λ c κs. tt)
     sub-run-command
     part-run-command-start
     part-run-command-end
@@ -109,7 +94,7 @@ run-commands-spec =
     add-at
     loop-less
     loop-again
-    same-length
-    same-length-2
-    same-length-3
-    returns)
+    (λ c. c .before .loop .inv .0)
+    (λ c. c .before .loop .inv .1)
+    (λ c. c .before .loop .inv .2)
+    (λ c. turns-end _ _ _ _ (c .before .loop .inv .3) (c .loop-test .left)))

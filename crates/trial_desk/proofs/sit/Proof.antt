@@ -8,35 +8,17 @@ use Rattle.trial_desk.proofs.sit.Tie as tie
 long : (n : ℕ) → length {A = ℕ} (replicate n 0) ≡ n
 long n = length-replicate {0} {A = ℕ} n 0
 
-slice-aggregate-work : tie.Need-slice-aggregate-work
-slice-aggregate-work c = sym (long 3072)
-
-slice-aggregate-work-2 : tie.Need-slice-aggregate-work-2
-slice-aggregate-work-2 c = sym (long 65536)
-
-slice-aggregate-work-3 : tie.Need-slice-aggregate-work-3
-slice-aggregate-work-3 c = sym (long 16384)
-
-slice-aggregate-work-4 : tie.Need-slice-aggregate-work-4
-slice-aggregate-work-4 c = sym (long 65536)
-
-slice-aggregate-work-5 : tie.Need-slice-aggregate-work-5
-slice-aggregate-work-5 c = sym (long 2048)
-
 work-requires : tie.Need-work-requires
 work-requires c κs = (record { nodes = long 3072; names = long 65536; lines = long 16384; pool = long 65536; journal = long 2048 }, c .before .before .before .before .before .before .before .before .pre)
-
-returns : tie.Need-returns
-returns c = tt
 
 pub sit-spec : {M : Type 1} → statement M
 sit-spec =
     tie.close
     (tie.spec
-    slice-aggregate-work
-    slice-aggregate-work-2
-    slice-aggregate-work-3
-    slice-aggregate-work-4
-    slice-aggregate-work-5
+    (λ c. sym (long 3072))
+    (λ c. sym (long 65536))
+    (λ c. sym (long 16384))
+    (λ c. sym (long 65536))
+    (λ c. sym (long 2048))
     work-requires
-    returns)
+    (λ c. tt))

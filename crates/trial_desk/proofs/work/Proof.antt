@@ -8,29 +8,11 @@ use Rattle.trial_desk.proofs.Choices.{chosen-opens, opens-there}
 use Rattle.trial_desk.proofs.work.Statement.{statement}
 use Rattle.trial_desk.proofs.work.Tie as tie
 
-how-of-requires : tie.Need-how-of-requires
-how-of-requires c κs = tt
-
-open-requires : tie.Need-open-requires
-open-requires c κs = tt
-
-refuse-requires : tie.Need-refuse-requires
-refuse-requires c κs = tt
-
 same-length : tie.Need-same-length
 same-length c = c .before .before .before .before .before .before .before .before .before .before .before .before .before .nodes .given
 
 same-length-2 : tie.Need-same-length-2
 same-length-2 c = c .before .before .before .before .before .before .before .before .before .before .before .names .given
-
-same-length-3 : tie.Need-same-length-3
-same-length-3 c = c .before .before .before .before .before .before .before .before .before .lines .given
-
-same-length-4 : tie.Need-same-length-4
-same-length-4 c = c .before .before .before .before .before .before .before .pool .given
-
-same-length-5 : tie.Need-same-length-5
-same-length-5 c = c .before .before .before .before .before .journal .given
 
 returns : tie.Need-returns
 returns c =
@@ -94,14 +76,12 @@ pub work-spec : {M : Type 1} → statement M
 work-spec =
     tie.close
     (tie.spec
-    how-of-requires
-    open-requires
-    refuse-requires
+    (λ c κs. tt) (λ c κs. tt) (λ c κs. tt)
     same-length
     same-length-2
-    same-length-3
-    same-length-4
-    same-length-5
+    (λ c. c .before .before .before .before .before .before .before .before .before .lines .given)
+    (λ c. c .before .before .before .before .before .before .before .pool .given)
+    (λ c. c .before .before .before .before .before .journal .given)
     returns
     run-commands-requires
     same-length-6

@@ -12,18 +12,6 @@ entry c = c .before .before .before .before .before .before .before .before .bef
 abbrev lent : tie.Start → Buffers
 lent s = let a = s .args in five (a .nodes .now) (a .names .now) (a .lines .now) (a .pool .now) (a .journal .now)
 
-is-book-requires : tie.Need-is-book-requires
-is-book-requires c κs = search needs
-
-same-length : tie.Need-same-length
-same-length c = search needs
-
-same-length-2 : tie.Need-same-length-2
-same-length-2 c = search needs
-
-same-length-3 : tie.Need-same-length-3
-same-length-3 c = search needs
-
 returns : tie.Need-returns
 returns c = settle-refused _ (lent (entry (c .before))) _ (c .before .is-book .ensures) (c .if1 .taken)
 
@@ -31,15 +19,6 @@ settle-lines-requires : tie.Need-settle-lines-requires
 settle-lines-requires c κs =
     let a = c .before .before .before .before in
     settle-laid _ (lent (entry a)) _ (a .is-book .ensures) (c .before .before .before .if1 .left)
-
-same-length-4 : tie.Need-same-length-4
-same-length-4 c = search needs
-
-same-length-5 : tie.Need-same-length-5
-same-length-5 c = search needs
-
-same-length-6 : tie.Need-same-length-6
-same-length-6 c = search needs
 
 returns-2 : tie.Need-returns-2
 returns-2 c =
@@ -51,13 +30,8 @@ pub settle-spec : {M : Type 1} → statement M
 settle-spec =
     tie.close
     (tie.spec
-    is-book-requires
-    same-length
-    same-length-2
-    same-length-3
+    (λ c κs. search needs) (λ c. search needs) (λ c. search needs) (λ c. search needs)
     returns
     settle-lines-requires
-    same-length-4
-    same-length-5
-    same-length-6
+    (λ c. search needs) (λ c. search needs) (λ c. search needs)
     returns-2)

@@ -17,61 +17,16 @@ listed c =
     let d = c .before .before in
     symbol-listed _ _ _ (d .before .is-book .ensures) (d .if1 .left) (c .if2 .left)
 
-is-book-requires : tie.Need-is-book-requires
-is-book-requires c κs = search needs
-
-same-length : tie.Need-same-length
-same-length c = search needs
-
-same-length-2 : tie.Need-same-length-2
-same-length-2 c = search needs
-
-same-length-3 : tie.Need-same-length-3
-same-length-3 c = search needs
-
 returns : tie.Need-returns
 returns c = symbol-no-book _ _ _ (c .before .is-book .ensures) _ _ (c .if1 .taken)
-
-same-length-4 : tie.Need-same-length-4
-same-length-4 c = search needs
-
-same-length-5 : tie.Need-same-length-5
-same-length-5 c = search needs
-
-same-length-6 : tie.Need-same-length-6
-same-length-6 c = search needs
 
 returns-2 : tie.Need-returns-2
 returns-2 c =
     let d = c .before .before in
     symbol-kind _ _ _ (d .before .is-book .ensures) (d .if1 .left) _ _ (c .if2 .taken)
 
-same-length-7 : tie.Need-same-length-7
-same-length-7 c = search needs
-
-same-length-8 : tie.Need-same-length-8
-same-length-8 c = search needs
-
-same-length-9 : tie.Need-same-length-9
-same-length-9 c = search needs
-
 returns-3 : tie.Need-returns-3
 returns-3 c = symbol-long (listed (c .before)) _ _ (c .if3 .taken)
-
-place-of-requires : tie.Need-place-of-requires
-place-of-requires c κs = search needs
-
-add-lines-requires : tie.Need-add-lines-requires
-add-lines-requires c κs = lines-asks (listed (c .before .before .before .before .before))
-
-same-length-10 : tie.Need-same-length-10
-same-length-10 c = search needs
-
-same-length-11 : tie.Need-same-length-11
-same-length-11 c = search needs
-
-same-length-12 : tie.Need-same-length-12
-same-length-12 c = search needs
 
 returns-4 : tie.Need-returns-4
 returns-4 c =
@@ -83,22 +38,13 @@ pub add-symbol-spec : {M : Type 1} → statement M
 add-symbol-spec =
     tie.close
     (tie.spec
-    is-book-requires
-    same-length
-    same-length-2
-    same-length-3
+    (λ c κs. search needs) (λ c. search needs) (λ c. search needs) (λ c. search needs)
     returns
-    same-length-4
-    same-length-5
-    same-length-6
+    (λ c. search needs) (λ c. search needs) (λ c. search needs)
     returns-2
-    same-length-7
-    same-length-8
-    same-length-9
+    (λ c. search needs) (λ c. search needs) (λ c. search needs)
     returns-3
-    place-of-requires
-    add-lines-requires
-    same-length-10
-    same-length-11
-    same-length-12
+    (λ c κs. search needs)
+    (λ c κs. lines-asks (listed (c .before .before .before .before .before)))
+    (λ c. search needs) (λ c. search needs) (λ c. search needs)
     returns-4)

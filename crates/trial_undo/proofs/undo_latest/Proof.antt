@@ -16,29 +16,8 @@ lent s = let a = s .args in five (a .nodes .now) (a .names .now) (a .lines .now)
 here : (c : tie.Else1) → let s = entry c in Shown (s .args .c) (lent s)
 here c = shown _ _ _ (c .before .is-book .ensures) (c .if1 .left)
 
-is-book-requires : tie.Need-is-book-requires
-is-book-requires c κs = search needs
-
-same-length : tie.Need-same-length
-same-length c = search needs
-
-same-length-2 : tie.Need-same-length-2
-same-length-2 c = search needs
-
-same-length-3 : tie.Need-same-length-3
-same-length-3 c = search needs
-
 returns : tie.Need-returns
 returns c = undo-no-book _ _ _ (c .before .is-book .ensures) (c .if1 .taken)
-
-same-length-4 : tie.Need-same-length-4
-same-length-4 c = search needs
-
-same-length-5 : tie.Need-same-length-5
-same-length-5 c = search needs
-
-same-length-6 : tie.Need-same-length-6
-same-length-6 c = search needs
 
 returns-2 : tie.Need-returns-2
 returns-2 c =
@@ -50,15 +29,6 @@ take-back-latest-requires c κs =
     let d = c .before .before .before in
     undo-able (here (d .before .before)) (d .if2 .left)
 
-same-length-7 : tie.Need-same-length-7
-same-length-7 c = search needs
-
-same-length-8 : tie.Need-same-length-8
-same-length-8 c = search needs
-
-same-length-9 : tie.Need-same-length-9
-same-length-9 c = search needs
-
 returns-3 : tie.Need-returns-3
 returns-3 c =
     let t = c .before .before .before .before .before .before in
@@ -69,17 +39,10 @@ pub undo-latest-spec : {M : Type 1} → statement M
 undo-latest-spec =
     tie.close
     (tie.spec
-    is-book-requires
-    same-length
-    same-length-2
-    same-length-3
+    (λ c κs. search needs) (λ c. search needs) (λ c. search needs) (λ c. search needs)
     returns
-    same-length-4
-    same-length-5
-    same-length-6
+    (λ c. search needs) (λ c. search needs) (λ c. search needs)
     returns-2
     take-back-latest-requires
-    same-length-7
-    same-length-8
-    same-length-9
+    (λ c. search needs) (λ c. search needs) (λ c. search needs)
     returns-3)

@@ -19,39 +19,10 @@ at-many : (s : List ℕ) (at : ℕ) → at < length s → (r : Character) (a : �
 unfolding read
 at-many s at h r a i b c d j k l e = e ∙ simp (within s at h, getD-drop, add-assoc, add-zero, i, j, k, l)
 
-add-byte-or-zero : tie.Need-add-byte-or-zero
-add-byte-or-zero c = search needs
-
-byte-or-zero-requires : tie.Need-byte-or-zero-requires
-byte-or-zero-requires c κs = search needs
-
-add-byte-or-zero-2 : tie.Need-add-byte-or-zero-2
-add-byte-or-zero-2 c = search needs
-
-byte-or-zero-requires-2 : tie.Need-byte-or-zero-requires-2
-byte-or-zero-requires-2 c κs = search needs
-
-add-byte-or-zero-3 : tie.Need-add-byte-or-zero-3
-add-byte-or-zero-3 c = search needs
-
-byte-or-zero-requires-3 : tie.Need-byte-or-zero-requires-3
-byte-or-zero-requires-3 c κs = search needs
-
-of-many-requires : tie.Need-of-many-requires
-of-many-requires c κs = search needs
-
-returns : tie.Need-returns
-returns c = search at-many
-
 pub longer-spec : {M : Type 1} → statement M
 longer-spec =
     tie.close
     (tie.spec
-    add-byte-or-zero
-    byte-or-zero-requires
-    add-byte-or-zero-2
-    byte-or-zero-requires-2
-    add-byte-or-zero-3
-    byte-or-zero-requires-3
-    of-many-requires
-    returns)
+    (λ c. search needs) (λ c κs. search needs) (λ c. search needs) (λ c κs. search needs) (λ c. search needs)
+    (λ c κs. search needs) (λ c κs. search needs)
+    (λ c. search at-many))

@@ -5,70 +5,25 @@ use Rattle.utf8.proofs.Exits.{tests}
 use Rattle.utf8.proofs.of_four.Statement.{statement}
 use Rattle.utf8.proofs.of_four.Tie as tie
 
-is-tail-requires : tie.Need-is-tail-requires
-is-tail-requires c κs = search needs
-
-not-found-requires : tie.Need-not-found-requires
-not-found-requires c κs = search needs
-
 returns : tie.Need-returns
 unfolding four
 returns c = search tests
-
-is-tail-requires-2 : tie.Need-is-tail-requires-2
-is-tail-requires-2 c κs = search needs
-
-not-found-requires-2 : tie.Need-not-found-requires-2
-not-found-requires-2 c κs = search needs
 
 returns-2 : tie.Need-returns-2
 unfolding four
 returns-2 c = search tests
 
-is-tail-requires-3 : tie.Need-is-tail-requires-3
-is-tail-requires-3 c κs = search needs
-
-not-found-requires-3 : tie.Need-not-found-requires-3
-not-found-requires-3 c κs = search needs
-
 returns-3 : tie.Need-returns-3
 unfolding four
 returns-3 c = search tests
-
-mul-v : tie.Need-mul-v
-mul-v c = search needs
-
-mul-v-2 : tie.Need-mul-v-2
-mul-v-2 c = search needs
-
-add-v : tie.Need-add-v
-add-v c = search needs
-
-mul-v-3 : tie.Need-mul-v-3
-mul-v-3 c = search needs
-
-add-v-2 : tie.Need-add-v-2
-add-v-2 c = search needs
-
-add-v-3 : tie.Need-add-v-3
-add-v-3 c = search needs
-
-not-found-requires-4 : tie.Need-not-found-requires-4
-not-found-requires-4 c κs = search needs
 
 returns-4 : tie.Need-returns-4
 unfolding four
 returns-4 c = search tests
 
-not-found-requires-5 : tie.Need-not-found-requires-5
-not-found-requires-5 c κs = search needs
-
 returns-5 : tie.Need-returns-5
 unfolding four
 returns-5 c = search tests
-
-found-requires : tie.Need-found-requires
-found-requires c κs = search needs
 
 returns-6 : tie.Need-returns-6
 unfolding four
@@ -78,24 +33,16 @@ pub of-four-spec : {M : Type 1} → statement M
 of-four-spec =
     tie.close
     (tie.spec
-    is-tail-requires
-    not-found-requires
+    (λ c κs. search needs) (λ c κs. search needs)
     returns
-    is-tail-requires-2
-    not-found-requires-2
+    (λ c κs. search needs) (λ c κs. search needs)
     returns-2
-    is-tail-requires-3
-    not-found-requires-3
+    (λ c κs. search needs) (λ c κs. search needs)
     returns-3
-    mul-v
-    mul-v-2
-    add-v
-    mul-v-3
-    add-v-2
-    add-v-3
-    not-found-requires-4
+    (λ c. search needs) (λ c. search needs) (λ c. search needs) (λ c. search needs) (λ c. search needs)
+    (λ c. search needs) (λ c κs. search needs)
     returns-4
-    not-found-requires-5
+    (λ c κs. search needs)
     returns-5
-    found-requires
+    (λ c κs. search needs)
     returns-6)

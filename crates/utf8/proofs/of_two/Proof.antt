@@ -5,24 +5,9 @@ use Rattle.utf8.proofs.Exits.{tests}
 use Rattle.utf8.proofs.of_two.Statement.{statement}
 use Rattle.utf8.proofs.of_two.Tie as tie
 
-is-tail-requires : tie.Need-is-tail-requires
-is-tail-requires c κs = search needs
-
-not-found-requires : tie.Need-not-found-requires
-not-found-requires c κs = search needs
-
 returns : tie.Need-returns
 unfolding two
 returns c = search tests
-
-mul-found : tie.Need-mul-found
-mul-found c = search needs
-
-add-found : tie.Need-add-found
-add-found c = search needs
-
-found-requires : tie.Need-found-requires
-found-requires c κs = search needs
 
 returns-2 : tie.Need-returns-2
 unfolding two
@@ -32,10 +17,7 @@ pub of-two-spec : {M : Type 1} → statement M
 of-two-spec =
     tie.close
     (tie.spec
-    is-tail-requires
-    not-found-requires
+    (λ c κs. search needs) (λ c κs. search needs)
     returns
-    mul-found
-    add-found
-    found-requires
+    (λ c. search needs) (λ c. search needs) (λ c κs. search needs)
     returns-2)

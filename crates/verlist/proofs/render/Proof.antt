@@ -9,24 +9,6 @@ use Rattle.verlist.proofs.render.Tie as tie
 long : (n : ℕ) → length {A = ℕ} (replicate n 0) ≡ n
 long n = length-replicate {0} {A = ℕ} n 0
 
-slice-aggregate-render-listing : tie.Need-slice-aggregate-render-listing
-slice-aggregate-render-listing c = sym (long 3072)
-
-slice-aggregate-render-listing-2 : tie.Need-slice-aggregate-render-listing-2
-slice-aggregate-render-listing-2 c = sym (long 65536)
-
-slice-aggregate-render-listing-3 : tie.Need-slice-aggregate-render-listing-3
-slice-aggregate-render-listing-3 c = sym (long 8192)
-
-slice-aggregate-render-listing-4 : tie.Need-slice-aggregate-render-listing-4
-slice-aggregate-render-listing-4 c = sym (long 65536)
-
-slice-aggregate-render-listing-5 : tie.Need-slice-aggregate-render-listing-5
-slice-aggregate-render-listing-5 c = sym (long 2)
-
-render-listing-requires : tie.Need-render-listing-requires
-render-listing-requires c κs = tt
-
 returns : tie.Need-returns
 unfolding verlist-room
 returns c = (c .before .before .before .before .before .render-listing .ensures .0, c .before .before .before .before .before .render-listing .ensures .1)
@@ -35,10 +17,10 @@ pub render-spec : {M : Type 1} → statement M
 render-spec =
     tie.close
     (tie.spec
-    slice-aggregate-render-listing
-    slice-aggregate-render-listing-2
-    slice-aggregate-render-listing-3
-    slice-aggregate-render-listing-4
-    slice-aggregate-render-listing-5
-    render-listing-requires
+    (λ c. sym (long 3072))
+    (λ c. sym (long 65536))
+    (λ c. sym (long 8192))
+    (λ c. sym (long 65536))
+    (λ c. sym (long 2))
+    (λ c κs. tt)
     returns)

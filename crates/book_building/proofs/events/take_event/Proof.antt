@@ -4,36 +4,12 @@ use Rattle.book_building.proofs.TakenEvents.{line-asks, node-asks, pare
 use Rattle.book_building.proofs.events.take_event.Statement.{statement}
 use Rattle.book_building.proofs.events.take_event.Tie as tie
 
-enum-known-e : tie.Need-enum-known-e
-enum-known-e c = search needs
-
 node-begins-requires : tie.Need-node-begins-requires
 node-begins-requires c κs =
     let s = c .before .before .before .before .before .before .before .before .before .before in
     let a = s .args in
     node-asks (a .s .now) (a .g) (a .nodes .now) (a .names .now) (a .lines .now) (a .pool .now) (s .pre .0) (a .e) _ _ (s .pre .1) (s .pre .2)
     (c .before .before .before .e .given .1)
-
-enum-told : tie.Need-enum-told
-enum-told c = search needs
-
-enum-told-2 : tie.Need-enum-told-2
-enum-told-2 c = search needs
-
-enum-known-e-2 : tie.Need-enum-known-e-2
-enum-known-e-2 c = search needs
-
-take-extern-requires : tie.Need-take-extern-requires
-take-extern-requires c κs = search needs
-
-enum-told-3 : tie.Need-enum-told-3
-enum-told-3 c = search needs
-
-take-closed-requires : tie.Need-take-closed-requires
-take-closed-requires c κs = search needs
-
-enum-known-e-3 : tie.Need-enum-known-e-3
-enum-known-e-3 c = search needs
 
 line-stands-requires : tie.Need-line-stands-requires
 line-stands-requires c κs =
@@ -42,21 +18,12 @@ line-stands-requires c κs =
     line-asks (a .s .now) (a .g) (a .nodes .now) (a .names .now) (a .lines .now) (a .pool .now) (s .pre .0) (a .e) _ _ _ _ (s .pre .2)
     (c .before .before .before .e3 .given .1)
 
-enum-known-e-4 : tie.Need-enum-known-e-4
-enum-known-e-4 c = search needs
-
 node-ends-requires : tie.Need-node-ends-requires
 node-ends-requires c κs =
     let s = c .before .before .before .before .before .before .before .before .before .before in
     let a = s .args in
     parent-asks (a .s .now) (a .g) (a .nodes .now) (a .names .now) (a .lines .now) (a .pool .now) (s .pre .0) (a .e) _ _ (s .pre .2)
     (c .before .before .before .e4 .given .1)
-
-same-length : tie.Need-same-length
-same-length c = search needs
-
-same-length-2 : tie.Need-same-length-2
-same-length-2 c = search needs
 
 returns : tie.Need-returns
 returns c =
@@ -94,12 +61,6 @@ returns-5 c =
     took-closed (a .s .now) (a .g) (a .nodes .now) (a .names .now) (a .lines .now) (a .pool .now) (s .pre .0) (a .e) _
     (c .before .enum-told3 .given .1) (c .take-closed .ensures)
 
-same-length-3 : tie.Need-same-length-3
-same-length-3 c = search needs
-
-same-length-4 : tie.Need-same-length-4
-same-length-4 c = search needs
-
 returns-6 : tie.Need-returns-6
 returns-6 c =
     let x = c .before .before .before .before in
@@ -109,12 +70,6 @@ returns-6 c =
     took-line (a .s .now) (a .g) (a .nodes .now) (a .names .now) (a .lines .now) (a .pool .now) (s .pre .0) (a .e) (e .given .0 .0)
     (e .given .0 .1 .0) (e .given .0 .1 .1 .0) (e .given .0 .1 .1 .1 .0) (x .line-stands .result)
     (x .line-stands .last .1 .1 .1 .1 .1 .1 .0) (x .line-stands .last .1 .1 .1 .1 .1 .1 .1 .0) (e .given .1) (x .line-stands .ensures)
-
-same-length-5 : tie.Need-same-length-5
-same-length-5 c = search needs
-
-same-length-6 : tie.Need-same-length-6
-same-length-6 c = search needs
 
 returns-7 : tie.Need-returns-7
 returns-7 c =
@@ -129,28 +84,20 @@ pub take-event-spec : {M : Type 1} → statement M
 take-event-spec =
     tie.close
     (tie.spec
-    enum-known-e
+    (λ c. search needs)
     node-begins-requires
-    enum-told
-    enum-told-2
-    enum-known-e-2
-    take-extern-requires
-    enum-told-3
-    take-closed-requires
-    enum-known-e-3
+    (λ c. search needs) (λ c. search needs) (λ c. search needs) (λ c κs. search needs) (λ c. search needs)
+    (λ c κs. search needs) (λ c. search needs)
     line-stands-requires
-    enum-known-e-4
+    (λ c. search needs)
     node-ends-requires
-    same-length
-    same-length-2
+    (λ c. search needs) (λ c. search needs)
     returns
     returns-2
     returns-3
     returns-4
     returns-5
-    same-length-3
-    same-length-4
+    (λ c. search needs) (λ c. search needs)
     returns-6
-    same-length-5
-    same-length-6
+    (λ c. search needs) (λ c. search needs)
     returns-7)

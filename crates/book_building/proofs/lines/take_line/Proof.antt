@@ -11,30 +11,6 @@ use Rattle.book_building.proofs.Kept.{class-few}
 use Rattle.book_building.proofs.lines.take_line.Statement.{statement}
 use Rattle.book_building.proofs.lines.take_line.Tie as tie
 
-cast-t19 : tie.Need-cast-t19
-cast-t19 c = search needs
-
-edition-of-requires : tie.Need-edition-of-requires
-edition-of-requires c κs = search needs
-
-put-token-requires : tie.Need-put-token-requires
-put-token-requires c κs = search needs
-
-enum-known-no : tie.Need-enum-known-no
-enum-known-no c = search needs
-
-enum-known-class : tie.Need-enum-known-class
-enum-known-class c = search needs
-
-has-row-requires : tie.Need-has-row-requires
-has-row-requires c κs = search needs
-
-same-length : tie.Need-same-length
-same-length c = search needs
-
-same-length-2 : tie.Need-same-length-2
-same-length-2 c = search needs
-
 returns : tie.Need-returns
 returns c =
     let x = c .before .before .before .before .before .before .before .before in
@@ -43,15 +19,6 @@ returns c =
     (x .before .before .edition-of .result) (x .before .before .edition-of .ensures) (x .put-token .result) _
     (x .before .before .before .before .before .before .before .pre .0) (x .put-token .ensures)
     _ _ [] [] (c .before .before .before .before .class .given .1) (sym (c .before .has-row .ensures) ∙ not-true _ (c .if1 .taken))
-
-class-number-requires : tie.Need-class-number-requires
-class-number-requires c κs = search needs
-
-sub-node : tie.Need-sub-node
-sub-node c = search needs
-
-cast-node : tie.Need-cast-node
-cast-node c = search needs
 
 code-of-requires : tie.Need-code-of-requires
 code-of-requires c κs =
@@ -84,12 +51,6 @@ put-line-requires c κs =
     let r = row-within (a .lines .now) (a .g .lines) (sym (i .before .has-row .ensures) ∙ not-false _ (i .if1 .left)) in
     omega arith
 
-mixed-behind-requires : tie.Need-mixed-behind-requires
-mixed-behind-requires c κs = search needs
-
-starred-behind-requires : tie.Need-starred-behind-requires
-starred-behind-requires c κs = search needs
-
 add-t29 : tie.Need-add-t29
 add-t29 c =
     let x = c .before .before .before .before .before .before .before .before .before .before .before .before .before .before .before .before .before in
@@ -110,9 +71,6 @@ add-t35 c =
           _ _ (c .before .before .before .before .before .before .before .before .before .before .before .before .before .class .given .1),
     )
 
-same-length-3 : tie.Need-same-length-3
-same-length-3 c = search needs
-
 returns-2 : tie.Need-returns-2
 returns-2 c =
     let x = c .before .before .before .before .before in
@@ -120,12 +78,6 @@ returns-2 c =
     line-refused (a .g) (a .p) (a .section) (a .language) (a .token .now) (a .lines .now) (a .pool .now)
     (x .before .before .edition-of .result) (x .before .before .edition-of .ensures) (x .put-token .result) _
     (x .before .before .before .before .before .before .before .pre .0) (x .put-token .ensures) _ [] [] (c .before .no .given .1)
-
-same-length-4 : tie.Need-same-length-4
-same-length-4 c = search needs
-
-same-length-5 : tie.Need-same-length-5
-same-length-5 c = search needs
 
 returns-3 : tie.Need-returns-3
 returns-3 c =
@@ -145,28 +97,18 @@ pub take-line-spec : {M : Type 1} → statement M
 take-line-spec =
     tie.close
     (tie.spec
-    cast-t19
-    edition-of-requires
-    put-token-requires
-    enum-known-no
-    enum-known-class
-    has-row-requires
-    same-length
-    same-length-2
+    (λ c. search needs) (λ c κs. search needs) (λ c κs. search needs) (λ c. search needs) (λ c. search needs)
+    (λ c κs. search needs) (λ c. search needs) (λ c. search needs)
     returns
-    class-number-requires
-    sub-node
-    cast-node
+    (λ c κs. search needs) (λ c. search needs) (λ c. search needs)
     code-of-requires
     cast-put-line
     cast-put-line-2
     put-line-requires
-    mixed-behind-requires
-    starred-behind-requires
+    (λ c κs. search needs) (λ c κs. search needs)
     add-t29
     add-t35
-    same-length-3
+    (λ c. search needs)
     returns-2
-    same-length-4
-    same-length-5
+    (λ c. search needs) (λ c. search needs)
     returns-3)

@@ -11,26 +11,8 @@ Inv-loop lines pool back n i₀ i = Standing lines pool back n i
 abbrev μ-loop : tie.MeasureT-loop
 μ-loop lines pool back n i₀ i = n - i
 
-loop-holds : tie.Need-loop-holds Inv-loop μ-loop
-loop-holds c = search stand-starts
-
-stands-now-requires : tie.Need-stands-now-requires Inv-loop μ-loop
-stands-now-requires c κs = search needs
-
-returns : tie.Need-returns Inv-loop μ-loop
-returns c = search stand-stops
-
-add-i : tie.Need-add-i Inv-loop μ-loop
-add-i c = search needs
-
-loop-less : tie.Need-loop-less Inv-loop μ-loop
-loop-less c = search needs
-
 loop-again : tie.Need-loop-again Inv-loop μ-loop
 loop-again c = search stand-more
-
-returns-2 : tie.Need-returns-2 Inv-loop μ-loop
-returns-2 c = search stand-ends
 
 pub all-stand-spec : {M : Type 1} → statement M
 all-stand-spec =
@@ -38,10 +20,9 @@ all-stand-spec =
     (tie.spec
     Inv-loop
     μ-loop
-    loop-holds
-    stands-now-requires
-    returns
-    add-i
-    loop-less
+    (λ c. search stand-starts)
+    (λ c κs. search needs)
+    (λ c. search stand-stops)
+    (λ c. search needs) (λ c. search needs)
     loop-again
-    returns-2)
+    (λ c. search stand-ends))

@@ -12,35 +12,8 @@ Inv-loop journal n i₀ at₀ i at = Listed journal n i at
 abbrev μ-loop : tie.MeasureT-loop
 μ-loop journal n i₀ at₀ i at = n - i
 
-loop-holds : tie.Need-loop-holds Inv-loop μ-loop
-loop-holds c = search edits-start
-
-mul-what : tie.Need-mul-what Inv-loop μ-loop
-mul-what c = search needs
-
-shared-slice-read-what : tie.Need-shared-slice-read-what Inv-loop μ-loop
-shared-slice-read-what c = search needs
-
-returns : tie.Need-returns Inv-loop μ-loop
-returns c = search edit-wrong
-
-add-at : tie.Need-add-at Inv-loop μ-loop
-add-at c = search needs
-
-add-i : tie.Need-add-i Inv-loop μ-loop
-add-i c = search needs
-
-loop-less : tie.Need-loop-less Inv-loop μ-loop
-loop-less c = search needs
-
 loop-again : tie.Need-loop-again Inv-loop μ-loop
 loop-again c = ⊎-elim (λ w. search edit-strike) (λ w. search edit-add) (c .if1 .came)
-
-zero-numbers-requires : tie.Need-zero-numbers-requires Inv-loop μ-loop
-zero-numbers-requires c κs = search needs
-
-returns-2 : tie.Need-returns-2 Inv-loop μ-loop
-returns-2 c = search edits-end
 
 pub edit-rows-spec : {M : Type 1} → statement M
 edit-rows-spec =
@@ -48,13 +21,10 @@ edit-rows-spec =
     (tie.spec
     Inv-loop
     μ-loop
-    loop-holds
-    mul-what
-    shared-slice-read-what
-    returns
-    add-at
-    add-i
-    loop-less
+    (λ c. search edits-start)
+    (λ c. search needs) (λ c. search needs)
+    (λ c. search edit-wrong)
+    (λ c. search needs) (λ c. search needs) (λ c. search needs)
     loop-again
-    zero-numbers-requires
-    returns-2)
+    (λ c κs. search needs)
+    (λ c. search edits-end))

@@ -11,38 +11,8 @@ Inv-loop lines pool n i₀ at₀ i at = Starring lines pool n i at
 abbrev μ-loop : tie.MeasureT-loop
 μ-loop lines pool n i₀ at₀ i at = n - i
 
-loop-holds : tie.Need-loop-holds Inv-loop μ-loop
-loop-holds c = search stars-start
-
-add-is-bare-star : tie.Need-add-is-bare-star Inv-loop μ-loop
-add-is-bare-star c = search needs
-
-mul-is-bare-star : tie.Need-mul-is-bare-star Inv-loop μ-loop
-mul-is-bare-star c = search needs
-
-shared-slice-read-is-bare-star : tie.Need-shared-slice-read-is-bare-star Inv-loop μ-loop
-shared-slice-read-is-bare-star c = search needs
-
-is-bare-star-requires : tie.Need-is-bare-star-requires Inv-loop μ-loop
-is-bare-star-requires c κs = search needs
-
-returns : tie.Need-returns Inv-loop μ-loop
-returns c = search star-found
-
-add-at : tie.Need-add-at Inv-loop μ-loop
-add-at c = search needs
-
-add-i : tie.Need-add-i Inv-loop μ-loop
-add-i c = search needs
-
-loop-less : tie.Need-loop-less Inv-loop μ-loop
-loop-less c = search needs
-
 loop-again : tie.Need-loop-again Inv-loop μ-loop
 loop-again c = search star-next
-
-returns-2 : tie.Need-returns-2 Inv-loop μ-loop
-returns-2 c = search star-none
 
 pub has-star-spec : {M : Type 1} → statement M
 has-star-spec =
@@ -50,14 +20,9 @@ has-star-spec =
     (tie.spec
     Inv-loop
     μ-loop
-    loop-holds
-    add-is-bare-star
-    mul-is-bare-star
-    shared-slice-read-is-bare-star
-    is-bare-star-requires
-    returns
-    add-at
-    add-i
-    loop-less
+    (λ c. search stars-start)
+    (λ c. search needs) (λ c. search needs) (λ c. search needs) (λ c κs. search needs)
+    (λ c. search star-found)
+    (λ c. search needs) (λ c. search needs) (λ c. search needs)
     loop-again
-    returns-2)
+    (λ c. search star-none))

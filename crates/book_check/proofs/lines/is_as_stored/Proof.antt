@@ -13,26 +13,8 @@ Inv-loop glob i₀ opened₀ i opened = Unchanged glob i opened
 abbrev μ-loop : tie.MeasureT-loop
 μ-loop glob i₀ opened₀ i opened = length glob - i
 
-loop-holds : tie.Need-loop-holds Inv-loop μ-loop
-loop-holds c = search stored-starts
-
-shared-slice-read-c : tie.Need-shared-slice-read-c Inv-loop μ-loop
-shared-slice-read-c c = search needs
-
-returns : tie.Need-returns Inv-loop μ-loop
-returns c = search stored-stops
-
-add-i : tie.Need-add-i Inv-loop μ-loop
-add-i c = search needs
-
-loop-less : tie.Need-loop-less Inv-loop μ-loop
-loop-less c = search needs
-
 loop-again : tie.Need-loop-again Inv-loop μ-loop
 loop-again c = ⊎-elim (λ w. search stored-plain) (λ w. search stored-first) (c .if1 .came)
-
-returns-2 : tie.Need-returns-2 Inv-loop μ-loop
-returns-2 c = search stored-ends
 
 pub is-as-stored-spec : {M : Type 1} → statement M
 is-as-stored-spec =
@@ -40,10 +22,9 @@ is-as-stored-spec =
     (tie.spec
     Inv-loop
     μ-loop
-    loop-holds
-    shared-slice-read-c
-    returns
-    add-i
-    loop-less
+    (λ c. search stored-starts)
+    (λ c. search needs)
+    (λ c. search stored-stops)
+    (λ c. search needs) (λ c. search needs)
     loop-again
-    returns-2)
+    (λ c. search stored-ends))

@@ -17,26 +17,11 @@ Inv-loop name i₀ i = every no-semicolon name ≡ every no-semicolon (drop i na
 abbrev μ-loop : tie.MeasureT-loop
 μ-loop name i₀ i = length name - i
 
-loop-holds : tie.Need-loop-holds Inv-loop μ-loop
-loop-holds c = refl
-
-shared-slice-read-if1 : tie.Need-shared-slice-read-if1 Inv-loop μ-loop
-shared-slice-read-if1 c = search needs
-
 returns : tie.Need-returns Inv-loop μ-loop
 returns c = every-stops no-semicolon _ _ (c .before .before .before .loop .inv) (c .before .before .loop-test .taken) (ap not (eq-eqb _ _ (c .if1 .taken)))
 
-add-i : tie.Need-add-i Inv-loop μ-loop
-add-i c = search needs
-
-loop-less : tie.Need-loop-less Inv-loop μ-loop
-loop-less c = search needs
-
 loop-again : tie.Need-loop-again Inv-loop μ-loop
 loop-again c = every-more no-semicolon _ _ (c .before .before .before .loop .inv) (c .before .before .loop-test .taken) (ap not (ne-eqb _ _ (c .if1 .left)))
-
-returns-2 : tie.Need-returns-2 Inv-loop μ-loop
-returns-2 c = every-ends no-semicolon _ _ (c .before .loop .inv) (c .loop-test .left)
 
 pub has-no-semicolon-spec : {M : Type 1} → statement M
 has-no-semicolon-spec =
@@ -44,10 +29,8 @@ has-no-semicolon-spec =
     (tie.spec
     Inv-loop
     μ-loop
-    loop-holds
-    shared-slice-read-if1
+    (λ c. refl) (λ c. search needs)
     returns
-    add-i
-    loop-less
+    (λ c. search needs) (λ c. search needs)
     loop-again
-    returns-2)
+    (λ c. every-ends no-semicolon _ _ (c .before .loop .inv) (c .loop-test .left)))

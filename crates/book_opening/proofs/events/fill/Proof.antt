@@ -4,9 +4,6 @@ use Rattle.book_opening.proofs.Opens.{fill-done, fill-long, fill-refuse
 use Rattle.book_opening.proofs.events.fill.Statement.{statement}
 use Rattle.book_opening.proofs.events.fill.Tie as tie
 
-refused-requires : tie.Need-refused-requires
-refused-requires c κs = search needs
-
 returns : tie.Need-returns
 returns c =
     let s = c .before .before .before .before .before .before .before in
@@ -14,42 +11,12 @@ returns c =
     fill-long (a .how) (a .s .now) (a .nodes .now) (a .names .now) (a .lines .now) (a .pool .now) (c .refused .result) (s .pre)
     (c .before .if1 .taken) (c .refused .ensures)
 
-refused-requires-2 : tie.Need-refused-requires-2
-refused-requires-2 c κs = search needs
-
 returns-2 : tie.Need-returns-2
 returns-2 c =
     let s = c .before .before .before .before .before .before .before .before in
     let a = s .args in
     fill-roomless (a .how) (a .s .now) (a .nodes .now) (a .names .now) (a .lines .now) (a .pool .now) (c .refused2 .result) (s .pre)
     (c .before .before .if1 .left) (c .before .if2 .taken) (c .refused2 .ensures)
-
-build-requires : tie.Need-build-requires
-build-requires c κs = search needs
-
-enum-known-counts : tie.Need-enum-known-counts
-enum-known-counts c = search needs
-
-enum-known-n : tie.Need-enum-known-n
-enum-known-n c = search needs
-
-clear-book-requires : tie.Need-clear-book-requires
-clear-book-requires c κs = search needs
-
-refused-requires-3 : tie.Need-refused-requires-3
-refused-requires-3 c κs = search needs
-
-same-length : tie.Need-same-length
-same-length c = search needs
-
-same-length-2 : tie.Need-same-length-2
-same-length-2 c = search needs
-
-same-length-3 : tie.Need-same-length-3
-same-length-3 c = search needs
-
-same-length-4 : tie.Need-same-length-4
-same-length-4 c = search needs
 
 returns-3 : tie.Need-returns-3
 returns-3 c =
@@ -60,18 +27,6 @@ returns-3 c =
     (fill-done _ (x .build .result) (a .nodes .now) (a .names .now) (a .lines .now) (a .pool .now)
     (x .build .last .1 .1 .0) (x .build .last .1 .1 .1 .0) (x .build .last .1 .1 .1 .1 .0) (x .build .last .1 .1 .1 .1 .1 .0) (x .build .ensures) _
     (c .before .counts .given .1))
-
-same-length-5 : tie.Need-same-length-5
-same-length-5 c = search needs
-
-same-length-6 : tie.Need-same-length-6
-same-length-6 c = search needs
-
-same-length-7 : tie.Need-same-length-7
-same-length-7 c = search needs
-
-same-length-8 : tie.Need-same-length-8
-same-length-8 c = search needs
 
 returns-4 : tie.Need-returns-4
 returns-4 c =
@@ -91,22 +46,12 @@ pub fill-spec : {M : Type 1} → statement M
 fill-spec =
     tie.close
     (tie.spec
-    refused-requires
+    (λ c κs. search needs)
     returns
-    refused-requires-2
+    (λ c κs. search needs)
     returns-2
-    build-requires
-    enum-known-counts
-    enum-known-n
-    clear-book-requires
-    refused-requires-3
-    same-length
-    same-length-2
-    same-length-3
-    same-length-4
+    (λ c κs. search needs) (λ c. search needs) (λ c. search needs) (λ c κs. search needs) (λ c κs. search needs)
+    (λ c. search needs) (λ c. search needs) (λ c. search needs) (λ c. search needs)
     returns-3
-    same-length-5
-    same-length-6
-    same-length-7
-    same-length-8
+    (λ c. search needs) (λ c. search needs) (λ c. search needs) (λ c. search needs)
     returns-4)

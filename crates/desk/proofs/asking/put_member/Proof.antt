@@ -6,49 +6,10 @@ use Rattle.desk.proofs.AskExits.{refused-put, within-put, without-put}
 use Rattle.desk.proofs.asking.put_member.Statement.{statement}
 use Rattle.desk.proofs.asking.put_member.Tie as tie
 
-put-text-requires : tie.Need-put-text-requires
-put-text-requires c κs = search needs
-
-slice-aggregate-put-text : tie.Need-slice-aggregate-put-text
-slice-aggregate-put-text c = search needs
-
-put-text-requires-2 : tie.Need-put-text-requires-2
-put-text-requires-2 c κs = search needs
-
-enum-told : tie.Need-enum-told
-enum-told c = search needs
-
-slice-aggregate-put-text-2 : tie.Need-slice-aggregate-put-text-2
-slice-aggregate-put-text-2 c = search needs
-
-put-text-requires-3 : tie.Need-put-text-requires-3
-put-text-requires-3 c κs = search needs
-
-enum-told-2 : tie.Need-enum-told-2
-enum-told-2 c = search needs
-
-slice-aggregate-put-text-3 : tie.Need-slice-aggregate-put-text-3
-slice-aggregate-put-text-3 c = search needs
-
-put-text-requires-4 : tie.Need-put-text-requires-4
-put-text-requires-4 c κs = search needs
-
-enum-known-m : tie.Need-enum-known-m
-enum-known-m c = search needs
-
-put-refused-fields-requires : tie.Need-put-refused-fields-requires
-put-refused-fields-requires c κs = search needs
-
-slice-aggregate-put-text-4 : tie.Need-slice-aggregate-put-text-4
-slice-aggregate-put-text-4 c = search needs
-
 put-text-requires-5 : tie.Need-put-text-requires-5
 put-text-requires-5 c κs =
     let at-m = c .before .before .before .before .before .before .before in
     omega (arith, few-refused (at-m .m .given .0 .0))
-
-same-length : tie.Need-same-length
-same-length c = search needs
 
 returns : tie.Need-returns
 returns c =
@@ -63,9 +24,6 @@ returns c =
     (at-put-text2 .put-text2 .ensures) _ (at-put-text3 .put-text3 .result) (at-enum-told .enum-told .given .1)
     (at-put-text3 .put-text3 .ensures)
 
-same-length-2 : tie.Need-same-length-2
-same-length-2 c = search needs
-
 returns-2 : tie.Need-returns-2
 returns-2 c =
     let at-put-text4 = c .before .before in
@@ -78,9 +36,6 @@ returns-2 c =
     (at-put-text .put-text .result) (at-put-text2 .put-text2 .result) (at-args .pre) (at-put-text .put-text .ensures)
     (at-put-text2 .put-text2 .ensures) _ (at-put-text4 .put-text4 .result) (at-enum-told2 .enum-told2 .given .1)
     (at-put-text4 .put-text4 .ensures)
-
-same-length-3 : tie.Need-same-length-3
-same-length-3 c = search needs
 
 returns-3 : tie.Need-returns-3
 returns-3 c =
@@ -101,22 +56,13 @@ pub put-member-spec : {M : Type 1} → statement M
 put-member-spec =
     tie.close
     (tie.spec
-    put-text-requires
-    slice-aggregate-put-text
-    put-text-requires-2
-    enum-told
-    slice-aggregate-put-text-2
-    put-text-requires-3
-    enum-told-2
-    slice-aggregate-put-text-3
-    put-text-requires-4
-    enum-known-m
-    put-refused-fields-requires
-    slice-aggregate-put-text-4
+    (λ c κs. search needs) (λ c. search needs) (λ c κs. search needs) (λ c. search needs) (λ c. search needs)
+    (λ c κs. search needs) (λ c. search needs) (λ c. search needs) (λ c κs. search needs) (λ c. search needs)
+    (λ c κs. search needs) (λ c. search needs)
     put-text-requires-5
-    same-length
+    (λ c. search needs)
     returns
-    same-length-2
+    (λ c. search needs)
     returns-2
-    same-length-3
+    (λ c. search needs)
     returns-3)

@@ -5,15 +5,6 @@ use Rattle.desk.proofs.AskExits.{list-asked, script-asked}
 use Rattle.desk.proofs.asking.run_ask.Statement.{statement}
 use Rattle.desk.proofs.asking.run_ask.Tie as tie
 
-ask-member-requires : tie.Need-ask-member-requires
-ask-member-requires c κs = search needs
-
-printed-requires : tie.Need-printed-requires
-printed-requires c κs = search needs
-
-same-length : tie.Need-same-length
-same-length c = search needs
-
 returns : tie.Need-returns
 returns c =
     let at-ask-member = c .before .before .before in
@@ -23,15 +14,6 @@ returns c =
     let b = five (a .nodes .now) (a .names .now) (a .lines .now) (a .pool .now) (a .journal .now) in
     list-asked (a .c) b (a .t .now) (a .out .now) _ (at-ask-member .ask-member .result) _ (c .printed .ensures)
     (at-if1 .if1 .taken) (at-ask-member .ask-member .ensures)
-
-render-symbol-requires : tie.Need-render-symbol-requires
-render-symbol-requires c κs = search needs
-
-printed-requires-2 : tie.Need-printed-requires-2
-printed-requires-2 c κs = search needs
-
-same-length-2 : tie.Need-same-length-2
-same-length-2 c = search needs
 
 returns-2 : tie.Need-returns-2
 returns-2 c =
@@ -47,11 +29,7 @@ pub run-ask-spec : {M : Type 1} → statement M
 run-ask-spec =
     tie.close
     (tie.spec
-    ask-member-requires
-    printed-requires
-    same-length
+    (λ c κs. search needs) (λ c κs. search needs) (λ c. search needs)
     returns
-    render-symbol-requires
-    printed-requires-2
-    same-length-2
+    (λ c κs. search needs) (λ c κs. search needs) (λ c. search needs)
     returns-2)

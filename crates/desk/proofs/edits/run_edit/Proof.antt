@@ -7,24 +7,6 @@ use Rattle.desk.specs.Edits.{edit-asked, edit-step, said}
 use Rattle.desk.proofs.edits.run_edit.Statement.{statement}
 use Rattle.desk.proofs.edits.run_edit.Tie as tie
 
-make-edit-requires : tie.Need-make-edit-requires
-make-edit-requires c κs = search needs
-
-say-edit-requires : tie.Need-say-edit-requires
-say-edit-requires c κs = search needs
-
-same-length : tie.Need-same-length
-same-length c = search needs
-
-same-length-2 : tie.Need-same-length-2
-same-length-2 c = search needs
-
-same-length-3 : tie.Need-same-length-3
-same-length-3 c = search needs
-
-same-length-4 : tie.Need-same-length-4
-same-length-4 c = search needs
-
 returns : tie.Need-returns
 unfolding edit-step
 returns c =
@@ -39,10 +21,6 @@ pub run-edit-spec : {M : Type 1} → statement M
 run-edit-spec =
     tie.close
     (tie.spec
-    make-edit-requires
-    say-edit-requires
-    same-length
-    same-length-2
-    same-length-3
-    same-length-4
+    (λ c κs. search needs) (λ c κs. search needs) (λ c. search needs) (λ c. search needs) (λ c. search needs)
+    (λ c. search needs)
     returns)

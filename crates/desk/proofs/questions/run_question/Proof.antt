@@ -5,12 +5,6 @@ use Rattle.desk.proofs.Shown.{ask-room, ask-told, show-told}
 use Rattle.desk.proofs.questions.run_question.Statement.{statement}
 use Rattle.desk.proofs.questions.run_question.Tie as tie
 
-enum-known-q : tie.Need-enum-known-q
-enum-known-q c = search needs
-
-tail-requires : tie.Need-tail-requires
-tail-requires c κs = search needs
-
 run-ask-requires : tie.Need-run-ask-requires
 run-ask-requires c κs =
     let at-tail = c .before in
@@ -18,15 +12,6 @@ run-ask-requires c κs =
     let at-args = at-q .before .before .before .before .before .before .before .before .before in
     let a = at-args .args in
     ask-room (a .c) (a .line .now) (a .out .now) (at-args .pre) _ (at-q .q .given .0 .0) (at-tail .tail .ensures)
-
-enum-known-q-2 : tie.Need-enum-known-q-2
-enum-known-q-2 c = search needs
-
-run-show-requires : tie.Need-run-show-requires
-run-show-requires c κs = search needs
-
-same-length : tie.Need-same-length
-same-length c = search needs
 
 returns : tie.Need-returns
 returns c =
@@ -37,9 +22,6 @@ returns c =
     let b = five (a .nodes .now) (a .names .now) (a .lines .now) (a .pool .now) (a .journal .now) in
     ask-told (a .c) b (a .line .now) (a .q) (a .out .now) _ _ _ _ (at-q .q .given .1) (at-tail .tail .ensures)
     (at-run-ask .run-ask .ensures)
-
-same-length-2 : tie.Need-same-length-2
-same-length-2 c = search needs
 
 returns-2 : tie.Need-returns-2
 returns-2 c =
@@ -53,12 +35,9 @@ pub run-question-spec : {M : Type 1} → statement M
 run-question-spec =
     tie.close
     (tie.spec
-    enum-known-q
-    tail-requires
+    (λ c. search needs) (λ c κs. search needs)
     run-ask-requires
-    enum-known-q-2
-    run-show-requires
-    same-length
+    (λ c. search needs) (λ c κs. search needs) (λ c. search needs)
     returns
-    same-length-2
+    (λ c. search needs)
     returns-2)

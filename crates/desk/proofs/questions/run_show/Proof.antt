@@ -8,18 +8,9 @@ use Rattle.desk.proofs.Shown.{held, no-book-shown, some-book-shown}
 use Rattle.desk.proofs.questions.run_show.Statement.{statement}
 use Rattle.desk.proofs.questions.run_show.Tie as tie
 
-is-book-requires : tie.Need-is-book-requires
-is-book-requires c κs = search needs
-
 put-refused-answer-requires : tie.Need-put-refused-answer-requires
 unfolding shown-room
 put-refused-answer-requires c κs = omega arith
-
-printed-requires : tie.Need-printed-requires
-printed-requires c κs = search needs
-
-same-length : tie.Need-same-length
-same-length c = search needs
 
 returns : tie.Need-returns
 returns c =
@@ -42,12 +33,6 @@ show-requires c κs =
     let b = five (a .nodes .now) (a .names .now) (a .lines .now) (a .pool .now) (a .journal .now) in
     (at-args .pre, held (a .c) b _ (at-is-book .is-book .ensures) (at-if1 .if1 .left))
 
-printed-requires-2 : tie.Need-printed-requires-2
-printed-requires-2 c κs = search needs
-
-same-length-2 : tie.Need-same-length-2
-same-length-2 c = search needs
-
 returns-2 : tie.Need-returns-2
 returns-2 c =
     let at-show = c .before .before .before in
@@ -63,12 +48,10 @@ pub run-show-spec : {M : Type 1} → statement M
 run-show-spec =
     tie.close
     (tie.spec
-    is-book-requires
+    (λ c κs. search needs)
     put-refused-answer-requires
-    printed-requires
-    same-length
+    (λ c κs. search needs) (λ c. search needs)
     returns
     show-requires
-    printed-requires-2
-    same-length-2
+    (λ c κs. search needs) (λ c. search needs)
     returns-2)

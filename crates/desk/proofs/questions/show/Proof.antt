@@ -4,40 +4,13 @@ use Rattle.desk.specs.Questions.{book-shown}
 use Rattle.desk.proofs.questions.show.Statement.{statement}
 use Rattle.desk.proofs.questions.show.Tie as tie
 
-enum-told : tie.Need-enum-told
-enum-told c = search needs
-
-show-counts-requires : tie.Need-show-counts-requires
-show-counts-requires c κs = search needs
-
-enum-told-2 : tie.Need-enum-told-2
-enum-told-2 c = search needs
-
-show-lines-requires : tie.Need-show-lines-requires
-show-lines-requires c κs = search needs
-
-enum-told-3 : tie.Need-enum-told-3
-enum-told-3 c = search needs
-
-show-dump-requires : tie.Need-show-dump-requires
-show-dump-requires c κs = search needs
-
-same-length : tie.Need-same-length
-same-length c = search needs
-
 returns : tie.Need-returns
 unfolding book-shown
 returns c = let p = c .before .before in rw (p .before .before .enum-told .given .1) (p .show-counts .ensures)
 
-same-length-2 : tie.Need-same-length-2
-same-length-2 c = search needs
-
 returns-2 : tie.Need-returns-2
 unfolding book-shown
 returns-2 c = let p = c .before .before in rw (p .before .before .enum-told2 .given .1) (p .show-lines .ensures)
-
-same-length-3 : tie.Need-same-length-3
-same-length-3 c = search needs
 
 returns-3 : tie.Need-returns-3
 unfolding book-shown
@@ -47,15 +20,10 @@ pub show-spec : {M : Type 1} → statement M
 show-spec =
     tie.close
     (tie.spec
-    enum-told
-    show-counts-requires
-    enum-told-2
-    show-lines-requires
-    enum-told-3
-    show-dump-requires
-    same-length
+    (λ c. search needs) (λ c κs. search needs) (λ c. search needs) (λ c κs. search needs) (λ c. search needs)
+    (λ c κs. search needs) (λ c. search needs)
     returns
-    same-length-2
+    (λ c. search needs)
     returns-2
-    same-length-3
+    (λ c. search needs)
     returns-3)

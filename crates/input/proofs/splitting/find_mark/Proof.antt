@@ -18,27 +18,6 @@ loop-holds : tie.Need-loop-holds Inv-loop μ-loop
 unfolding mark
 loop-holds c = refl
 
-is-fresh-mark-requires : tie.Need-is-fresh-mark-requires Inv-loop μ-loop
-is-fresh-mark-requires c κs = search needs
-
-returns : tie.Need-returns Inv-loop μ-loop
-returns c = search mark-here
-
-shared-slice-read-fresh : tie.Need-shared-slice-read-fresh Inv-loop μ-loop
-shared-slice-read-fresh c = search needs
-
-add-i : tie.Need-add-i Inv-loop μ-loop
-add-i c = search needs
-
-loop-less : tie.Need-loop-less Inv-loop μ-loop
-loop-less c = search needs
-
-loop-again : tie.Need-loop-again Inv-loop μ-loop
-loop-again c = search mark-on
-
-returns-2 : tie.Need-returns-2 Inv-loop μ-loop
-returns-2 c = search mark-none
-
 pub find-mark-spec : {M : Type 1} → statement M
 find-mark-spec =
     tie.close
@@ -46,10 +25,8 @@ find-mark-spec =
     Inv-loop
     μ-loop
     loop-holds
-    is-fresh-mark-requires
-    returns
-    shared-slice-read-fresh
-    add-i
-    loop-less
-    loop-again
-    returns-2)
+    (λ c κs. search needs)
+    (λ c. search mark-here)
+    (λ c. search needs) (λ c. search needs) (λ c. search needs)
+    (λ c. search mark-on)
+    (λ c. search mark-none))

@@ -14,26 +14,8 @@ Inv-loop s x y at i₀ i = first-from (are x y) s at ≡ first-from (are x y) s 
 abbrev μ-loop : tie.MeasureT-loop
 μ-loop s x y at i₀ i = length s - i
 
-loop-holds : tie.Need-loop-holds Inv-loop μ-loop
-loop-holds c = refl
-
-is-pair-requires : tie.Need-is-pair-requires Inv-loop μ-loop
-is-pair-requires c κs = search needs
-
-returns : tie.Need-returns Inv-loop μ-loop
-returns c = search pair-here
-
-add-i : tie.Need-add-i Inv-loop μ-loop
-add-i c = search needs
-
-loop-less : tie.Need-loop-less Inv-loop μ-loop
-loop-less c = search needs
-
 loop-again : tie.Need-loop-again Inv-loop μ-loop
 loop-again c = search pair-on
-
-returns-2 : tie.Need-returns-2 Inv-loop μ-loop
-returns-2 c = search pair-none
 
 pub find-pair-spec : {M : Type 1} → statement M
 find-pair-spec =
@@ -41,10 +23,8 @@ find-pair-spec =
     (tie.spec
     Inv-loop
     μ-loop
-    loop-holds
-    is-pair-requires
-    returns
-    add-i
-    loop-less
+    (λ c. refl) (λ c κs. search needs)
+    (λ c. search pair-here)
+    (λ c. search needs) (λ c. search needs)
     loop-again
-    returns-2)
+    (λ c. search pair-none))

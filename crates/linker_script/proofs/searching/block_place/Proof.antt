@@ -5,27 +5,6 @@ use Rattle.linker_script.proofs.Blocks.{block-place, zeros-fit}
 use Rattle.linker_script.proofs.searching.block_place.Statement.{statement}
 use Rattle.linker_script.proofs.searching.block_place.Tie as tie
 
-eight-bits-requires : tie.Need-eight-bits-requires
-eight-bits-requires c κs = omega arith
-
-add-eight-bits : tie.Need-add-eight-bits
-add-eight-bits c = search needs
-
-eight-bits-requires-2 : tie.Need-eight-bits-requires-2
-eight-bits-requires-2 c κs = omega arith
-
-mul-result : tie.Need-mul-result
-mul-result c = search needs
-
-add-result : tie.Need-add-result
-add-result c = search needs
-
-add-result-2 : tie.Need-add-result-2
-add-result-2 c = search needs
-
-cast-result : tie.Need-cast-result
-cast-result c = search zeros-fit
-
 returns : tie.Need-returns
 returns c =
     let a = c .before .before .before .args in
@@ -38,11 +17,7 @@ pub block-place-spec : {M : Type 1} → statement M
 block-place-spec =
     tie.close
     (tie.spec
-    eight-bits-requires
-    add-eight-bits
-    eight-bits-requires-2
-    mul-result
-    add-result
-    add-result-2
-    cast-result
+    (λ c κs. omega arith) (λ c. search needs) (λ c κs. omega arith) (λ c. search needs) (λ c. search needs)
+    (λ c. search needs)
+    (λ c. search zeros-fit)
     returns)

@@ -11,30 +11,6 @@ Inv-loop s x at low₀ i₀ low i = Eight x s at low i
 abbrev μ-loop : tie.MeasureT-loop
 μ-loop s x at low₀ i₀ low i = i
 
-loop-holds : tie.Need-loop-holds Inv-loop μ-loop
-loop-holds c = search eight-none
-
-sub-i : tie.Need-sub-i Inv-loop μ-loop
-sub-i c = omega arith
-
-mul-low : tie.Need-mul-low Inv-loop μ-loop
-mul-low c = omega arith
-
-add-mark : tie.Need-add-mark Inv-loop μ-loop
-add-mark c = omega arith
-
-shared-slice-read-mark : tie.Need-shared-slice-read-mark Inv-loop μ-loop
-shared-slice-read-mark c = omega arith
-
-mark-requires : tie.Need-mark-requires Inv-loop μ-loop
-mark-requires c κs = search needs
-
-add-low : tie.Need-add-low Inv-loop μ-loop
-add-low c = omega arith
-
-loop-less : tie.Need-loop-less Inv-loop μ-loop
-loop-less c = omega arith
-
 loop-again : tie.Need-loop-again Inv-loop μ-loop
 loop-again c = search eight-on
 
@@ -49,13 +25,8 @@ eight-bits-spec =
     (tie.spec
     Inv-loop
     μ-loop
-    loop-holds
-    sub-i
-    mul-low
-    add-mark
-    shared-slice-read-mark
-    mark-requires
-    add-low
-    loop-less
+    (λ c. search eight-none)
+    (λ c. omega arith) (λ c. omega arith) (λ c. omega arith) (λ c. omega arith) (λ c κs. search needs)
+    (λ c. omega arith) (λ c. omega arith)
     loop-again
     returns)

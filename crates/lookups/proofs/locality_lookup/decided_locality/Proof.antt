@@ -5,23 +5,8 @@ use Rattle.lookups.proofs.Decided.{decider-global, decider-local, decid
 use Rattle.lookups.proofs.locality_lookup.decided_locality.Statement.{statement}
 use Rattle.lookups.proofs.locality_lookup.decided_locality.Tie as tie
 
-frame-of-requires : tie.Need-frame-of-requires
-frame-of-requires c κs = search needs
-
-cast-find-match : tie.Need-cast-find-match
-cast-find-match c = search needs
-
-cast-find-match-2 : tie.Need-cast-find-match-2
-cast-find-match-2 c = search needs
-
 find-match-requires : tie.Need-find-match-requires
 find-match-requires c κs = rw (c .before .before .frame-of .ensures) (c .before .before .before .before .before .before .before .pre)
-
-enum-told : tie.Need-enum-told
-enum-told c = search needs
-
-enum-known-i : tie.Need-enum-known-i
-enum-known-i c = search needs
 
 mul-section-of : tie.Need-mul-section-of
 mul-section-of c = let r = decider-row _ _ _ _ _ _ _ (c .before .before .before .before .before .before .before .before .before .before .before .pre .0) _ (c .before .before .before .before .before .before .frame-of .ensures) _ (c .before .before .before .find-match .ensures) _ (c .before .i .given .1) in omega arith
@@ -34,9 +19,6 @@ mul-section-of-2 c = let r = decider-row _ _ _ _ _ _ _ (c .before .before .befor
 
 shared-slice-read-section-of : tie.Need-shared-slice-read-section-of
 shared-slice-read-section-of c = let r = decider-row _ _ _ _ _ _ _ (c .before .before .before .before .before .before .before .before .before .before .before .before .pre .0) _ (c .before .before .before .before .before .before .before .frame-of .ensures) _ (c .before .before .before .before .find-match .ensures) _ (c .before .before .i .given .1) in omega arith
-
-section-of-requires : tie.Need-section-of-requires
-section-of-requires c κs = search needs
 
 returns : tie.Need-returns
 returns c = let d = c .before .before .before .before .before .before in decider-global _ _ _ _ _ _ _ (d .before .before .before .before .before .before .before .before .pre .0) _ (d .before .before .before .frame-of .ensures) _ (d .find-match .ensures) _ (c .before .before .before .before .i .given .1) _ (c .before .section-of .ensures) (c .if1 .taken)
@@ -51,17 +33,14 @@ pub decided-locality-spec : {M : Type 1} → statement M
 decided-locality-spec =
     tie.close
     (tie.spec
-    frame-of-requires
-    cast-find-match
-    cast-find-match-2
+    (λ c κs. search needs) (λ c. search needs) (λ c. search needs)
     find-match-requires
-    enum-told
-    enum-known-i
+    (λ c. search needs) (λ c. search needs)
     mul-section-of
     add-section-of
     mul-section-of-2
     shared-slice-read-section-of
-    section-of-requires
+    (λ c κs. search needs)
     returns
     returns-2
     returns-3)

@@ -12,17 +12,8 @@ Inv-loop lines pool name n i₀ at₀ i at = Listing n lines pool name i at
 abbrev μ-loop : tie.MeasureT-loop
 μ-loop lines pool name n i₀ at₀ i at = n - i
 
-cast-n : tie.Need-cast-n Inv-loop μ-loop
-cast-n c = search needs
-
-loop-holds : tie.Need-loop-holds Inv-loop μ-loop
-loop-holds c = search listing-starts
-
 add-at : tie.Need-add-at Inv-loop μ-loop
 add-at c = let d = c in let r = listing-row _ _ _ _ _ _ (d .before .before .before .before .before .before .pre) _ _ (d .before .loop .inv) (d .loop-test .taken) in omega arith
-
-add-i : tie.Need-add-i Inv-loop μ-loop
-add-i c = search needs
 
 add-section-of : tie.Need-add-section-of Inv-loop μ-loop
 add-section-of c = let d = c in let r = listing-row _ _ _ _ _ _ (d .before .before .before .before .before .before .pre) _ _ (d .before .loop .inv) (d .loop-test .taken) in omega arith
@@ -32,12 +23,6 @@ mul-section-of c = let d = c in let r = listing-row _ _ _ _ _ _ (d .before .befo
 
 shared-slice-read-section-of : tie.Need-shared-slice-read-section-of Inv-loop μ-loop
 shared-slice-read-section-of c = let d = c .before in let r = listing-row _ _ _ _ _ _ (d .before .before .before .before .before .before .pre) _ _ (d .before .loop .inv) (d .loop-test .taken) in omega arith
-
-section-of-requires : tie.Need-section-of-requires Inv-loop μ-loop
-section-of-requires c κs = search needs
-
-loop-less : tie.Need-loop-less Inv-loop μ-loop
-loop-less c = search needs
 
 loop-again : tie.Need-loop-again Inv-loop μ-loop
 loop-again c = let d = c .before .before .before in listing-local _ _ _ _ _ _ (d .before .before .before .before .before .before .pre) _ _ (d .before .loop .inv) (d .loop-test .taken) _ (c .before .section-of .ensures) (c .if1 .taken)
@@ -69,23 +54,11 @@ cast-end c = let d = c .before .before .before .before .before in let r = listin
 add-end-2 : tie.Need-add-end-2 Inv-loop μ-loop
 add-end-2 c = let d = c .before .before .before .before .before in let r = listing-row _ _ _ _ _ _ (d .before .before .before .before .before .before .pre) _ _ (d .before .loop .inv) (d .loop-test .taken) in omega arith
 
-sub-same-bytes : tie.Need-sub-same-bytes Inv-loop μ-loop
-sub-same-bytes c = search needs
-
-part-same-bytes-start : tie.Need-part-same-bytes-start Inv-loop μ-loop
-part-same-bytes-start c = search needs
-
 part-same-bytes-end : tie.Need-part-same-bytes-end Inv-loop μ-loop
 part-same-bytes-end c = let d = c .before .before .before .before .before in let r = listing-row _ _ _ _ _ _ (d .before .before .before .before .before .before .pre) _ _ (d .before .loop .inv) (d .loop-test .taken) in omega arith
 
-same-bytes-requires : tie.Need-same-bytes-requires Inv-loop μ-loop
-same-bytes-requires c κs = search needs
-
 returns : tie.Need-returns Inv-loop μ-loop
 returns c = let d = c .before .before .before .before .before .before .before .before in listing-found _ _ _ _ _ _ (d .before .before .before .before .before .before .pre) _ _ (d .before .loop .inv) (d .loop-test .taken) _ (c .before .before .before .before .before .before .section-of .ensures) (c .before .before .before .before .before .if1 .left) _ (c .before .same-bytes .ensures) (c .if2 .taken)
-
-loop-less-2 : tie.Need-loop-less-2 Inv-loop μ-loop
-loop-less-2 c = search needs
 
 loop-again-2 : tie.Need-loop-again-2 Inv-loop μ-loop
 loop-again-2 c = let d = c .before .before .before .before .before .before .before .before in listing-other _ _ _ _ _ _ (d .before .before .before .before .before .before .pre) _ _ (d .before .loop .inv) (d .loop-test .taken) _ (c .before .before .before .before .before .before .section-of .ensures) (c .before .before .before .before .before .if1 .left) _ (c .before .same-bytes .ensures) (c .if2 .left)
@@ -99,15 +72,14 @@ is-listed-spec =
     (tie.spec
     Inv-loop
     μ-loop
-    cast-n
-    loop-holds
+    (λ c. search needs)
+    (λ c. search listing-starts)
     add-at
-    add-i
+    (λ c. search needs)
     add-section-of
     mul-section-of
     shared-slice-read-section-of
-    section-of-requires
-    loop-less
+    (λ c κs. search needs) (λ c. search needs)
     loop-again
     add-start
     mul-start
@@ -118,11 +90,10 @@ is-listed-spec =
     shared-slice-read-end
     cast-end
     add-end-2
-    sub-same-bytes
-    part-same-bytes-start
+    (λ c. search needs) (λ c. search needs)
     part-same-bytes-end
-    same-bytes-requires
+    (λ c κs. search needs)
     returns
-    loop-less-2
+    (λ c. search needs)
     loop-again-2
     returns-2)

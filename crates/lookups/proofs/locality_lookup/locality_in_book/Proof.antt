@@ -9,9 +9,6 @@ use Rattle.lookups.proofs.locality_lookup.locality_in_book.Tie as tie
 returns : tie.Need-returns
 returns c = let s = c .before .before .before .before .before .before .before .before .before in locality-export _ _ _ _ _ _ _ _ true (sym (s .pre)) refl (c .if1 .taken)
 
-name-refusal-requires : tie.Need-name-refusal-requires
-name-refusal-requires c κs = search needs
-
 returns-2 : tie.Need-returns-2
 returns-2 c =
     let d = c in
@@ -53,7 +50,7 @@ locality-in-book-spec =
     tie.close
     (tie.spec
     returns
-    name-refusal-requires
+    (λ c κs. search needs)
     returns-2
     is-listed-requires
     returns-3

@@ -5,23 +5,8 @@ use Rattle.lookups.proofs.Decided.{decider-node, decider-row, decider-v
 use Rattle.lookups.proofs.version_lookup.decided_version.Statement.{statement}
 use Rattle.lookups.proofs.version_lookup.decided_version.Tie as tie
 
-frame-of-requires : tie.Need-frame-of-requires
-frame-of-requires c κs = search needs
-
-cast-find-match : tie.Need-cast-find-match
-cast-find-match c = search needs
-
-cast-find-match-2 : tie.Need-cast-find-match-2
-cast-find-match-2 c = search needs
-
 find-match-requires : tie.Need-find-match-requires
 find-match-requires c κs = rw (c .before .before .frame-of .ensures) (c .before .before .before .before .before .before .before .pre)
-
-enum-told : tie.Need-enum-told
-enum-told c = search needs
-
-enum-known-i : tie.Need-enum-known-i
-enum-known-i c = search needs
 
 mul-node-version : tie.Need-mul-node-version
 mul-node-version c = let r = decider-row _ _ _ _ _ _ _ (c .before .before .before .before .before .before .before .before .before .before .before .pre .0) _ (c .before .before .before .before .before .before .frame-of .ensures) _ (c .before .before .before .find-match .ensures) _ (c .before .i .given .1) in omega arith
@@ -45,12 +30,9 @@ pub decided-version-spec : {M : Type 1} → statement M
 decided-version-spec =
     tie.close
     (tie.spec
-    frame-of-requires
-    cast-find-match
-    cast-find-match-2
+    (λ c κs. search needs) (λ c. search needs) (λ c. search needs)
     find-match-requires
-    enum-told
-    enum-known-i
+    (λ c. search needs) (λ c. search needs)
     mul-node-version
     mul-node-version-2
     shared-slice-read-node-version

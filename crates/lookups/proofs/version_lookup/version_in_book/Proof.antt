@@ -11,12 +11,6 @@ returns c =
     let s = c .before .before .before .before .before .before .before .before .before .before in
     version-export _ _ _ _ _ _ _ _ (s .args .has-wanted) (s .args .wanted .now) true (sym (s .pre)) refl (c .if1 .taken)
 
-is-long-requires : tie.Need-is-long-requires
-is-long-requires c κs = search needs
-
-name-refusal-requires : tie.Need-name-refusal-requires
-name-refusal-requires c κs = search needs
-
 returns-2 : tie.Need-returns-2
 returns-2 c =
     let d = c in
@@ -64,8 +58,7 @@ version-in-book-spec =
     tie.close
     (tie.spec
     returns
-    is-long-requires
-    name-refusal-requires
+    (λ c κs. search needs) (λ c κs. search needs)
     returns-2
     returns-3
     wanted-version-requires

@@ -11,18 +11,6 @@ Inv-loop nodes names wanted i₀ i = Backward i₀ nodes names wanted i
 abbrev μ-loop : tie.MeasureT-loop
 μ-loop nodes names wanted i₀ i = i
 
-cast-i : tie.Need-cast-i Inv-loop μ-loop
-cast-i c = search needs
-
-loop-holds : tie.Need-loop-holds Inv-loop μ-loop
-loop-holds c = back-starts _ _ _ _ _ (c .before .before .before .before .pre .0)
-
-sub-i : tie.Need-sub-i Inv-loop μ-loop
-sub-i c = search needs
-
-mul-at : tie.Need-mul-at Inv-loop μ-loop
-mul-at c = search needs
-
 mul-start : tie.Need-mul-start Inv-loop μ-loop
 mul-start c = let d = c in let r = back-row _ _ _ _ _ (d .before .before .before .before .before .before .pre .0) _ (d .before .loop .inv) (d .loop-test .taken) in omega arith
 
@@ -47,29 +35,11 @@ cast-end c = let d = c .before .before in let r = back-row _ _ _ _ _ (d .before 
 add-end-2 : tie.Need-add-end-2 Inv-loop μ-loop
 add-end-2 c = let d = c .before .before in let r = back-row _ _ _ _ _ (d .before .before .before .before .before .before .pre .0) _ (d .before .loop .inv) (d .loop-test .taken) in omega arith
 
-sub-same-bytes : tie.Need-sub-same-bytes Inv-loop μ-loop
-sub-same-bytes c = search needs
-
-part-same-bytes-start : tie.Need-part-same-bytes-start Inv-loop μ-loop
-part-same-bytes-start c = search needs
-
 part-same-bytes-end : tie.Need-part-same-bytes-end Inv-loop μ-loop
 part-same-bytes-end c = let d = c .before .before in let r = back-row _ _ _ _ _ (d .before .before .before .before .before .before .pre .0) _ (d .before .loop .inv) (d .loop-test .taken) in omega arith
 
-same-bytes-requires : tie.Need-same-bytes-requires Inv-loop μ-loop
-same-bytes-requires c κs = search needs
-
-cast-t21 : tie.Need-cast-t21 Inv-loop μ-loop
-cast-t21 c = search needs
-
-from-node-requires : tie.Need-from-node-requires Inv-loop μ-loop
-from-node-requires c κs = search needs
-
 returns : tie.Need-returns Inv-loop μ-loop
 returns c = let d = c .before .before .before .before .before .before in back-found _ _ _ _ _ (d .before .before .before .before .before .before .pre .0) _ (d .before .loop .inv) (d .loop-test .taken) _ (c .before .before .same-bytes .ensures) (c .before .if1 .taken) _ (c .from-node .ensures)
-
-loop-less : tie.Need-loop-less Inv-loop μ-loop
-loop-less c = search needs
 
 loop-again : tie.Need-loop-again Inv-loop μ-loop
 loop-again c = let d = c .before .before .before .before .before in back-more _ _ _ _ _ (d .before .before .before .before .before .before .pre .0) _ (d .before .loop .inv) (d .loop-test .taken) _ (c .before .same-bytes .ensures) (c .if1 .left)
@@ -83,10 +53,9 @@ known-version-spec =
     (tie.spec
     Inv-loop
     μ-loop
-    cast-i
-    loop-holds
-    sub-i
-    mul-at
+    (λ c. search needs)
+    (λ c. back-starts _ _ _ _ _ (c .before .before .before .before .pre .0))
+    (λ c. search needs) (λ c. search needs)
     mul-start
     shared-slice-read-start
     cast-start
@@ -95,13 +64,10 @@ known-version-spec =
     shared-slice-read-end
     cast-end
     add-end-2
-    sub-same-bytes
-    part-same-bytes-start
+    (λ c. search needs) (λ c. search needs)
     part-same-bytes-end
-    same-bytes-requires
-    cast-t21
-    from-node-requires
+    (λ c κs. search needs) (λ c. search needs) (λ c κs. search needs)
     returns
-    loop-less
+    (λ c. search needs)
     loop-again
     returns-2)

@@ -8,16 +8,10 @@ use Rattle.printing_book.specs.Shown.{numbers-shown}
 use Rattle.printing_book.proofs.dump.put_buffer.Statement.{statement}
 use Rattle.printing_book.proofs.dump.put_buffer.Tie as tie
 
-put-text-requires : tie.Need-put-text-requires
-put-text-requires c κs = search needs
-
 put-numbers-requires : tie.Need-put-numbers-requires
 put-numbers-requires c κs =
     let at-args = c .before .before .before .before .before .before .before .before in
     (at-args .pre .0, omega (arith, at-args .pre .1))
-
-slice-aggregate-put-text : tie.Need-slice-aggregate-put-text
-slice-aggregate-put-text c = search needs
 
 put-text-requires-2 : tie.Need-put-text-requires-2
 put-text-requires-2 c κs =
@@ -25,9 +19,6 @@ put-text-requires-2 c κs =
     let a = at-args .args in
     let f = few-numbers (a .n) (a .l .now) in
     omega (arith, at-args .pre .1)
-
-same-length : tie.Need-same-length
-same-length c = search needs
 
 returns : tie.Need-returns
 returns c =
@@ -49,9 +40,9 @@ pub put-buffer-spec : {M : Type 1} → statement M
 put-buffer-spec =
     tie.close
     (tie.spec
-    put-text-requires
+    (λ c κs. search needs)
     put-numbers-requires
-    slice-aggregate-put-text
+    (λ c. search needs)
     put-text-requires-2
-    same-length
+    (λ c. search needs)
     returns)

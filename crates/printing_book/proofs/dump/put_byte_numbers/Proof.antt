@@ -18,12 +18,6 @@ loop-holds c =
     let a = at-args .args in
     numbers-start (a .out .now) (a .at) (a .l .now) (a .n)
 
-slice-aggregate-put-spaced : tie.Need-slice-aggregate-put-spaced Inv-loop μ-loop
-slice-aggregate-put-spaced c = search needs
-
-shared-slice-read-put-spaced : tie.Need-shared-slice-read-put-spaced Inv-loop μ-loop
-shared-slice-read-put-spaced c = search needs
-
 cast-put-spaced : tie.Need-cast-put-spaced Inv-loop μ-loop
 cast-put-spaced c =
     let at-loop = c .before .before .before .before in
@@ -40,12 +34,6 @@ put-spaced-requires c κs =
     byte-room (a .out .now) (a .at) (a .l .now) (a .n) (o .out) (o .end) (o .i) (o .inv) (at-loop-test .loop-test .taken)
     (at-shared-slice-known .shared-slice-known .given) (at-args .pre .1)
 
-add-i : tie.Need-add-i Inv-loop μ-loop
-add-i c = search needs
-
-loop-less : tie.Need-loop-less Inv-loop μ-loop
-loop-less c = search needs
-
 loop-again : tie.Need-loop-again Inv-loop μ-loop
 loop-again c =
     let at-put-spaced = c .before .before in
@@ -58,9 +46,6 @@ loop-again c =
     let p = at-put-spaced .put-spaced in
     numbers-more (a .out .now) (a .at) (a .l .now) (a .n) (o .out) (o .end) (o .i) (o .inv) (at-loop-test .loop-test .taken) (at-args .pre .0)
     (byte-room (a .out .now) (a .at) (a .l .now) (a .n) (o .out) (o .end) (o .i) (o .inv) (at-loop-test .loop-test .taken) (at-shared-slice-known .shared-slice-known .given) (at-args .pre .1)) (p .last .0) (p .result) (p .ensures)
-
-same-length : tie.Need-same-length Inv-loop μ-loop
-same-length c = search needs
 
 returns : tie.Need-returns Inv-loop μ-loop
 returns c =
@@ -77,12 +62,10 @@ put-byte-numbers-spec =
     Inv-loop
     μ-loop
     loop-holds
-    slice-aggregate-put-spaced
-    shared-slice-read-put-spaced
+    (λ c. search needs) (λ c. search needs)
     cast-put-spaced
     put-spaced-requires
-    add-i
-    loop-less
+    (λ c. search needs) (λ c. search needs)
     loop-again
-    same-length
+    (λ c. search needs)
     returns)

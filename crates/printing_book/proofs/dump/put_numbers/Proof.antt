@@ -17,15 +17,6 @@ loop-holds c =
     let a = at-args .args in
     numbers-start (a .out .now) (a .at) (a .l .now) (a .n)
 
-slice-aggregate-put-spaced : tie.Need-slice-aggregate-put-spaced Inv-loop μ-loop
-slice-aggregate-put-spaced c = search needs
-
-mul-put-spaced : tie.Need-mul-put-spaced Inv-loop μ-loop
-mul-put-spaced c = search needs
-
-shared-slice-read-put-spaced : tie.Need-shared-slice-read-put-spaced Inv-loop μ-loop
-shared-slice-read-put-spaced c = search needs
-
 put-spaced-requires : tie.Need-put-spaced-requires Inv-loop μ-loop
 put-spaced-requires c κs =
     let at-loop-test = c .before .before .before in
@@ -34,12 +25,6 @@ put-spaced-requires c κs =
     let a = at-args .args in
     let o = at-loop .loop in
     number-room (a .out .now) (a .at) (a .l .now) (a .n) (o .out) (o .end) (o .i) (o .inv) (at-loop-test .loop-test .taken) (at-args .pre .1)
-
-add-i : tie.Need-add-i Inv-loop μ-loop
-add-i c = search needs
-
-loop-less : tie.Need-loop-less Inv-loop μ-loop
-loop-less c = search needs
 
 loop-again : tie.Need-loop-again Inv-loop μ-loop
 loop-again c =
@@ -52,9 +37,6 @@ loop-again c =
     let p = at-put-spaced .put-spaced in
     numbers-more (a .out .now) (a .at) (a .l .now) (a .n) (o .out) (o .end) (o .i) (o .inv) (at-loop-test .loop-test .taken) (at-args .pre .0)
     (number-room (a .out .now) (a .at) (a .l .now) (a .n) (o .out) (o .end) (o .i) (o .inv) (at-loop-test .loop-test .taken) (at-args .pre .1)) (p .last .0) (p .result) (p .ensures)
-
-same-length : tie.Need-same-length Inv-loop μ-loop
-same-length c = search needs
 
 returns : tie.Need-returns Inv-loop μ-loop
 returns c =
@@ -71,12 +53,9 @@ put-numbers-spec =
     Inv-loop
     μ-loop
     loop-holds
-    slice-aggregate-put-spaced
-    mul-put-spaced
-    shared-slice-read-put-spaced
+    (λ c. search needs) (λ c. search needs) (λ c. search needs)
     put-spaced-requires
-    add-i
-    loop-less
+    (λ c. search needs) (λ c. search needs)
     loop-again
-    same-length
+    (λ c. search needs)
     returns)

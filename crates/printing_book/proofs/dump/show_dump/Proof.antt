@@ -23,52 +23,16 @@ ready c =
 slice-aggregate-put-pair : tie.Need-slice-aggregate-put-pair
 slice-aggregate-put-pair c = search needs
 
-cast-put-pair : tie.Need-cast-put-pair
-cast-put-pair c = search needs
-
-mul-put-pair : tie.Need-mul-put-pair
-mul-put-pair c = search needs
-
-slice-aggregate-put-pair-2 : tie.Need-slice-aggregate-put-pair-2
-slice-aggregate-put-pair-2 c = search needs
-
-cast-put-pair-2 : tie.Need-cast-put-pair-2
-cast-put-pair-2 c = search needs
-
 put-pair-requires : tie.Need-put-pair-requires
 put-pair-requires c κs =
     let k = ready c in
     (k .held .nodes, k .held .names, nodes-room k)
-
-slice-aggregate-put-pair-3 : tie.Need-slice-aggregate-put-pair-3
-slice-aggregate-put-pair-3 c = search needs
-
-cast-put-pair-3 : tie.Need-cast-put-pair-3
-cast-put-pair-3 c = search needs
-
-mul-put-pair-2 : tie.Need-mul-put-pair-2
-mul-put-pair-2 c = search needs
-
-slice-aggregate-put-pair-4 : tie.Need-slice-aggregate-put-pair-4
-slice-aggregate-put-pair-4 c = search needs
-
-cast-put-pair-4 : tie.Need-cast-put-pair-4
-cast-put-pair-4 c = search needs
 
 put-pair-requires-2 : tie.Need-put-pair-requires-2
 put-pair-requires-2 c κs =
     let p = c .before .before .before .before .before .before .before in
     let k = ready (p .before) in
     (k .held .lines, k .held .pool, lines-room k _ _ (p .put-pair .ensures))
-
-slice-aggregate-put-buffer : tie.Need-slice-aggregate-put-buffer
-slice-aggregate-put-buffer c = search needs
-
-cast-put-buffer : tie.Need-cast-put-buffer
-cast-put-buffer c = search needs
-
-mul-put-buffer : tie.Need-mul-put-buffer
-mul-put-buffer c = search needs
 
 put-buffer-requires : tie.Need-put-buffer-requires
 put-buffer-requires c κs =
@@ -96,20 +60,11 @@ show-dump-spec =
     tie.close
     (tie.spec
     slice-aggregate-put-pair
-    cast-put-pair
-    mul-put-pair
-    slice-aggregate-put-pair-2
-    cast-put-pair-2
+    (λ c. search needs) (λ c. search needs) (λ c. search needs) (λ c. search needs)
     put-pair-requires
-    slice-aggregate-put-pair-3
-    cast-put-pair-3
-    mul-put-pair-2
-    slice-aggregate-put-pair-4
-    cast-put-pair-4
+    (λ c. search needs) (λ c. search needs) (λ c. search needs) (λ c. search needs) (λ c. search needs)
     put-pair-requires-2
-    slice-aggregate-put-buffer
-    cast-put-buffer
-    mul-put-buffer
+    (λ c. search needs) (λ c. search needs) (λ c. search needs)
     put-buffer-requires
     same-length
     returns)

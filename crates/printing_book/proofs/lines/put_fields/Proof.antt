@@ -72,63 +72,30 @@ struck c =
 class-of-requires : tie.Need-class-of-requires
 class-of-requires c κs = search needs
 
-section-of-requires : tie.Need-section-of-requires
-section-of-requires c κs = search needs
-
-language-of-requires : tie.Need-language-of-requires
-language-of-requires c κs = search needs
-
-slice-aggregate-put-spaced : tie.Need-slice-aggregate-put-spaced
-slice-aggregate-put-spaced c = search needs
-
-put-spaced-requires : tie.Need-put-spaced-requires
-put-spaced-requires c κs = search needs
-
-slice-aggregate-put-spaced-2 : tie.Need-slice-aggregate-put-spaced-2
-slice-aggregate-put-spaced-2 c = search needs
-
 put-spaced-requires-2 : tie.Need-put-spaced-requires-2
 put-spaced-requires-2 c κs =
     let p = c .before .before .before .before in
     room-behind (node p) 0 (omega (arith, start p .pre .0))
-
-slice-aggregate-put-spaced-3 : tie.Need-slice-aggregate-put-spaced-3
-slice-aggregate-put-spaced-3 c = search needs
 
 put-spaced-requires-3 : tie.Need-put-spaced-requires-3
 put-spaced-requires-3 c κs =
     let p = c .before .before .before .before in
     room-behind (class p) 0 (omega (arith, start2 p .pre .0))
 
-slice-aggregate-put-spaced-4 : tie.Need-slice-aggregate-put-spaced-4
-slice-aggregate-put-spaced-4 c = search needs
-
 put-spaced-requires-4 : tie.Need-put-spaced-requires-4
 put-spaced-requires-4 c κs =
     let p = c .before .before .before .before in
     room-behind (section p) 0 (omega (arith, start3 p .pre .0))
-
-slice-aggregate-put-spaced-5 : tie.Need-slice-aggregate-put-spaced-5
-slice-aggregate-put-spaced-5 c = search needs
 
 put-spaced-requires-5 : tie.Need-put-spaced-requires-5
 put-spaced-requires-5 c κs =
     let p = c .before .before .before .before in
     room-behind (language p) 0 (omega (arith, start4 p .pre .0))
 
-slice-aggregate-put-spaced-6 : tie.Need-slice-aggregate-put-spaced-6
-slice-aggregate-put-spaced-6 c = search needs
-
-cast-put-spaced : tie.Need-cast-put-spaced
-cast-put-spaced c = omega (arith, start5 (c .before .before .before .before) .pre .1)
-
 put-spaced-requires-6 : tie.Need-put-spaced-requires-6
 put-spaced-requires-6 c κs =
     let p = c .before .before .before .before in
     room-behind (struck p) 0 (omega (arith, start5 p .pre .0))
-
-same-length : tie.Need-same-length
-same-length c = search needs
 
 returns : tie.Need-returns
 returns c =
@@ -142,20 +109,16 @@ put-fields-spec =
     tie.close
     (tie.spec
     class-of-requires
-    section-of-requires
-    language-of-requires
-    slice-aggregate-put-spaced
-    put-spaced-requires
-    slice-aggregate-put-spaced-2
+    (λ c κs. search needs) (λ c κs. search needs) (λ c. search needs) (λ c κs. search needs) (λ c. search needs)
     put-spaced-requires-2
-    slice-aggregate-put-spaced-3
+    (λ c. search needs)
     put-spaced-requires-3
-    slice-aggregate-put-spaced-4
+    (λ c. search needs)
     put-spaced-requires-4
-    slice-aggregate-put-spaced-5
+    (λ c. search needs)
     put-spaced-requires-5
-    slice-aggregate-put-spaced-6
-    cast-put-spaced
+    (λ c. search needs)
+    (λ c. omega (arith, start5 (c .before .before .before .before) .pre .1))
     put-spaced-requires-6
-    same-length
+    (λ c. search needs)
     returns)

@@ -7,18 +7,12 @@ use Rattle.printing_book.proofs.Fields.{few-fields, line-put}
 use Rattle.printing_book.proofs.lines.put_line.Statement.{statement}
 use Rattle.printing_book.proofs.lines.put_line.Tie as tie
 
-put-number-requires : tie.Need-put-number-requires
-put-number-requires c κs = search needs
-
 put-fields-requires : tie.Need-put-fields-requires
 put-fields-requires c κs =
     let at-args = c .before .before .before .before .before .before .before in
     let a = at-args .args in
     let f = few-digits (a .line) in
     (omega arith, at-args .pre .1)
-
-slice-aggregate-put-text : tie.Need-slice-aggregate-put-text
-slice-aggregate-put-text c = search needs
 
 put-text-requires : tie.Need-put-text-requires
 put-text-requires c κs =
@@ -36,9 +30,6 @@ put-text-requires-2 c κs =
     let g = few-fields (line-of (a .node) (a .code) (a .bytes .now)) in
     omega (arith, at-args .pre .0)
 
-slice-aggregate-put-text-2 : tie.Need-slice-aggregate-put-text-2
-slice-aggregate-put-text-2 c = search needs
-
 put-text-requires-3 : tie.Need-put-text-requires-3
 put-text-requires-3 c κs =
     let at-args = c .before .before .before .before .before .before .before .before .before .before .before .before .before .before .before .before .before .before .before .before .before in
@@ -46,9 +37,6 @@ put-text-requires-3 c κs =
     let f = few-digits (a .line) in
     let g = few-fields (line-of (a .node) (a .code) (a .bytes .now)) in
     omega (arith, at-args .pre .0)
-
-same-length : tie.Need-same-length
-same-length c = search needs
 
 returns : tie.Need-returns
 returns c =
@@ -72,12 +60,12 @@ pub put-line-spec : {M : Type 1} → statement M
 put-line-spec =
     tie.close
     (tie.spec
-    put-number-requires
+    (λ c κs. search needs)
     put-fields-requires
-    slice-aggregate-put-text
+    (λ c. search needs)
     put-text-requires
     put-text-requires-2
-    slice-aggregate-put-text-2
+    (λ c. search needs)
     put-text-requires-3
-    same-length
+    (λ c. search needs)
     returns)

@@ -34,9 +34,6 @@ loop-holds c =
     let a = at-args .args in
     lines-start (things line-form (a .c .lines) (a .lines .now) (a .pool .now)) (a .out .now)
 
-cast-row : tie.Need-cast-row Inv-loop μ-loop
-cast-row c = search needs
-
 mul-row : tie.Need-mul-row Inv-loop μ-loop
 mul-row c =
     let r = row-at c in
@@ -112,12 +109,6 @@ shared-slice-read-put-line-2 c =
     let r = row-at (c .before .before .before .before .before) in
     omega arith
 
-sub-put-line : tie.Need-sub-put-line Inv-loop μ-loop
-sub-put-line c = search needs
-
-part-put-line-start : tie.Need-part-put-line-start Inv-loop μ-loop
-part-put-line-start c = search needs
-
 part-put-line-end : tie.Need-part-put-line-end Inv-loop μ-loop
 part-put-line-end c =
     let r = row-at (c .before .before .before .before .before) in
@@ -130,12 +121,6 @@ put-line-requires c κs =
     let s = start i in
     line-fits (s .args .c) (held s) (s .pre .1) (s .args .out .now) (s .pre .0) (o .out) (o .end) (o .i) (o .inv) (i .if1 .taken)
 
-add-i : tie.Need-add-i Inv-loop μ-loop
-add-i c = search needs
-
-loop-less : tie.Need-loop-less Inv-loop μ-loop
-loop-less c = search needs
-
 loop-again : tie.Need-loop-again Inv-loop μ-loop
 loop-again c =
     let p = c .before .before in
@@ -144,9 +129,6 @@ loop-again c =
     let s = start i in
     line-listed (s .args .c) (held s) (s .pre .1) (s .args .out .now) (s .pre .0) (o .out) (o .end) (o .i) (o .inv) (i .if1 .taken) (p .put-line .last .0)
     (p .put-line .result) (p .put-line .ensures)
-
-same-length : tie.Need-same-length Inv-loop μ-loop
-same-length c = search needs
 
 returns : tie.Need-returns Inv-loop μ-loop
 returns c =
@@ -161,7 +143,7 @@ show-lines-spec =
     Inv-loop
     μ-loop
     loop-holds
-    cast-row
+    (λ c. search needs)
     mul-row
     add-from
     mul-from
@@ -177,12 +159,10 @@ show-lines-spec =
     add-put-line
     mul-put-line-2
     shared-slice-read-put-line-2
-    sub-put-line
-    part-put-line-start
+    (λ c. search needs) (λ c. search needs)
     part-put-line-end
     put-line-requires
-    add-i
-    loop-less
+    (λ c. search needs) (λ c. search needs)
     loop-again
-    same-length
+    (λ c. search needs)
     returns)

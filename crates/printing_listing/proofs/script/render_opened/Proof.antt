@@ -6,12 +6,6 @@ use Rattle.printing_listing.proofs.Scripts.{opened-listed, opened-refus
 use Rattle.printing_listing.proofs.script.render_opened.Statement.{statement}
 use Rattle.printing_listing.proofs.script.render_opened.Tie as tie
 
-render-refused-requires : tie.Need-render-refused-requires
-render-refused-requires c κs = search needs
-
-same-length : tie.Need-same-length
-same-length c = c .before .out .given
-
 returns : tie.Need-returns
 returns c =
     let at-refused = c .before .before in
@@ -21,9 +15,6 @@ returns c =
     let p = at-refused .render-refused in
     opened-refused (view (a .c) (five (a .nodes .now) (a .names .now) (a .lines .now) (a .pool .now) (a .journal .now))) (a .symbols .now)
     (a .out .now) (at-args .pre .0) (a .refusal) (at-if1 .if1 .taken) (p .last .1 .0) (p .result) (p .ensures)
-
-render-counts-requires : tie.Need-render-counts-requires
-render-counts-requires c κs = search needs
 
 render-symbols-requires : tie.Need-render-symbols-requires
 render-symbols-requires c κs =
@@ -36,9 +27,6 @@ render-symbols-requires c κs =
           (a .out .now) (at-args .pre .0) (at-args .pre .1) _ (p .result) (p .ensures),
       at-args .pre .2 (at-if1 .if1 .left),
     )
-
-same-length-2 : tie.Need-same-length-2
-same-length-2 c = search needs
 
 returns-2 : tie.Need-returns-2
 returns-2 c =
@@ -56,10 +44,10 @@ pub render-opened-spec : {M : Type 1} → statement M
 render-opened-spec =
     tie.close
     (tie.spec
-    render-refused-requires
-    same-length
+    (λ c κs. search needs)
+    (λ c. c .before .out .given)
     returns
-    render-counts-requires
+    (λ c κs. search needs)
     render-symbols-requires
-    same-length-2
+    (λ c. search needs)
     returns-2)

@@ -5,9 +5,6 @@ use Rattle.printing_listing.proofs.Scripts.{script-held, script-listed}
 use Rattle.printing_listing.proofs.script.render_script.Statement.{statement}
 use Rattle.printing_listing.proofs.script.render_script.Tie as tie
 
-open-requires : tie.Need-open-requires
-open-requires c κs = search needs
-
 render-opened-requires : tie.Need-render-opened-requires
 render-opened-requires c κs =
     let at-open = c .before .before .before .before .before .before .before .before .before .before .before .before .before .before .before .before in
@@ -35,9 +32,6 @@ same-length-4 c = c .before .before .before .before .before .before .before .bef
 same-length-5 : tie.Need-same-length-5
 same-length-5 c = c .before .before .before .before .before .before .before .before .before .before .journal .given
 
-same-length-6 : tie.Need-same-length-6
-same-length-6 c = c .before .out .given
-
 returns : tie.Need-returns
 returns c =
     let at-opened = c .before .before in
@@ -55,12 +49,12 @@ pub render-script-spec : {M : Type 1} → statement M
 render-script-spec =
     tie.close
     (tie.spec
-    open-requires
+    (λ c κs. search needs)
     render-opened-requires
     same-length
     same-length-2
     same-length-3
     same-length-4
     same-length-5
-    same-length-6
+    (λ c. c .before .out .given)
     returns)

@@ -4,24 +4,6 @@ use Rattle.printing_listing.proofs.Scripts.{all-cleared}
 use Rattle.printing_listing.proofs.script.render_too_long.Statement.{statement}
 use Rattle.printing_listing.proofs.script.render_too_long.Tie as tie
 
-clear-numbers-requires : tie.Need-clear-numbers-requires
-clear-numbers-requires c κs = search needs
-
-clear-bytes-requires : tie.Need-clear-bytes-requires
-clear-bytes-requires c κs = search needs
-
-clear-numbers-requires-2 : tie.Need-clear-numbers-requires-2
-clear-numbers-requires-2 c κs = search needs
-
-clear-bytes-requires-2 : tie.Need-clear-bytes-requires-2
-clear-bytes-requires-2 c κs = search needs
-
-clear-numbers-requires-3 : tie.Need-clear-numbers-requires-3
-clear-numbers-requires-3 c κs = search needs
-
-render-listing-refused-requires : tie.Need-render-listing-refused-requires
-render-listing-refused-requires c κs = search needs
-
 same-length : tie.Need-same-length
 same-length c = c .before .before .before .before .before .before .before .before .before .before .before .before .before .before .before .before .before .before .before .before .before .nodes .given
 
@@ -30,15 +12,6 @@ same-length-2 c = c .before .before .before .before .before .before .before .bef
 
 same-length-3 : tie.Need-same-length-3
 same-length-3 c = c .before .before .before .before .before .before .before .before .before .before .before .before .before .lines .given
-
-same-length-4 : tie.Need-same-length-4
-same-length-4 c = c .before .before .before .before .before .before .before .before .before .pool .given
-
-same-length-5 : tie.Need-same-length-5
-same-length-5 c = c .before .before .before .before .before .journal .given
-
-same-length-6 : tie.Need-same-length-6
-same-length-6 c = c .before .out .given
 
 returns : tie.Need-returns
 returns c =
@@ -61,16 +34,12 @@ pub render-too-long-spec : {M : Type 1} → statement M
 render-too-long-spec =
     tie.close
     (tie.spec
-    clear-numbers-requires
-    clear-bytes-requires
-    clear-numbers-requires-2
-    clear-bytes-requires-2
-    clear-numbers-requires-3
-    render-listing-refused-requires
+    (λ c κs. search needs) (λ c κs. search needs) (λ c κs. search needs) (λ c κs. search needs) (λ c κs. search needs)
+    (λ c κs. search needs)
     same-length
     same-length-2
     same-length-3
-    same-length-4
-    same-length-5
-    same-length-6
+    (λ c. c .before .before .before .before .before .before .before .before .before .pool .given)
+    (λ c. c .before .before .before .before .before .journal .given)
+    (λ c. c .before .out .given)
     returns)

@@ -7,18 +7,6 @@ use Rattle.printing_listing.proofs.Answers.{answer-put, answer-within}
 use Rattle.printing_listing.proofs.symbols.put_answer.Statement.{statement}
 use Rattle.printing_listing.proofs.symbols.put_answer.Tie as tie
 
-sub-render-symbol-in-book : tie.Need-sub-render-symbol-in-book
-sub-render-symbol-in-book c = search needs
-
-part-render-symbol-in-book-start : tie.Need-part-render-symbol-in-book-start
-part-render-symbol-in-book-start c = search needs
-
-part-render-symbol-in-book-end : tie.Need-part-render-symbol-in-book-end
-part-render-symbol-in-book-end c = search needs
-
-render-symbol-in-book-requires : tie.Need-render-symbol-in-book-requires
-render-symbol-in-book-requires c κs = search needs
-
 add-result : tie.Need-add-result
 add-result c =
     let z =
@@ -29,9 +17,6 @@ add-result c =
     (a .out .now) (a .at) _ (p .result) (s .pre .0) (p .ensures)) in
     let g = c .before .before .before .before .before .before .before .before .before .before .before .good in
     omega arith
-
-same-length : tie.Need-same-length
-same-length c = search needs
 
 returns : tie.Need-returns
 returns c =
@@ -46,10 +31,7 @@ pub put-answer-spec : {M : Type 1} → statement M
 put-answer-spec =
     tie.close
     (tie.spec
-    sub-render-symbol-in-book
-    part-render-symbol-in-book-start
-    part-render-symbol-in-book-end
-    render-symbol-in-book-requires
+    (λ c. search needs) (λ c. search needs) (λ c. search needs) (λ c κs. search needs)
     add-result
-    same-length
+    (λ c. search needs)
     returns)

@@ -7,18 +7,6 @@ use Rattle.printing_symbols.proofs.Asked.{asked-put}
 use Rattle.printing_listing.proofs.symbols.render_asked_in_book.Statement.{statement}
 use Rattle.printing_listing.proofs.symbols.render_asked_in_book.Tie as tie
 
-version-in-book-requires : tie.Need-version-in-book-requires
-version-in-book-requires c κs = search needs
-
-locality-in-book-requires : tie.Need-locality-in-book-requires
-locality-in-book-requires c κs = search needs
-
-put-symbol-line-requires : tie.Need-put-symbol-line-requires
-put-symbol-line-requires c κs = search needs
-
-same-length : tie.Need-same-length
-same-length c = search needs
-
 returns : tie.Need-returns
 returns c =
     let at-put-symbol-line = c .before .before in
@@ -35,8 +23,5 @@ pub render-asked-in-book-spec : {M : Type 1} → statement M
 render-asked-in-book-spec =
     tie.close
     (tie.spec
-    version-in-book-requires
-    locality-in-book-requires
-    put-symbol-line-requires
-    same-length
+    (λ c κs. search needs) (λ c κs. search needs) (λ c κs. search needs) (λ c. search needs)
     returns)

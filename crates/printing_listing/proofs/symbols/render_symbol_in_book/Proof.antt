@@ -6,39 +6,6 @@ use Rattle.printing_symbols.proofs.Asked.{name-count, part-room, plain-put, spl
 use Rattle.printing_listing.proofs.symbols.render_symbol_in_book.Statement.{statement}
 use Rattle.printing_listing.proofs.symbols.render_symbol_in_book.Tie as tie
 
-find-at-requires : tie.Need-find-at-requires
-find-at-requires c κs = search needs
-
-enum-told : tie.Need-enum-told
-enum-told c = search needs
-
-render-asked-in-book-requires : tie.Need-render-asked-in-book-requires
-render-asked-in-book-requires c κs = search needs
-
-enum-known-p : tie.Need-enum-known-p
-enum-known-p c = search needs
-
-add-from : tie.Need-add-from
-add-from c = search version-fits
-
-slice-aggregate-render-asked-in-book : tie.Need-slice-aggregate-render-asked-in-book
-slice-aggregate-render-asked-in-book c = search name-count
-
-sub-render-asked-in-book : tie.Need-sub-render-asked-in-book
-sub-render-asked-in-book c = search version-starts
-
-part-render-asked-in-book-start : tie.Need-part-render-asked-in-book-start
-part-render-asked-in-book-start c = search version-starts
-
-part-render-asked-in-book-end : tie.Need-part-render-asked-in-book-end
-part-render-asked-in-book-end c = search needs
-
-render-asked-in-book-requires-2 : tie.Need-render-asked-in-book-requires-2
-render-asked-in-book-requires-2 c κs = search part-room
-
-same-length : tie.Need-same-length
-same-length c = search needs
-
 returns : tie.Need-returns
 returns c =
     let at-render-asked-in-book = c .before .before in
@@ -50,9 +17,6 @@ returns c =
     plain-put (a .line .now) (a .out .now) _ (at-find-at .find-at .ensures)
     (view (a .c) (five (a .nodes .now) (a .names .now) (a .lines .now) (a .pool .now) (a .journal .now))) _ (p .result)
     (at-enum-told .enum-told .given .1) (p .ensures)
-
-same-length-2 : tie.Need-same-length-2
-same-length-2 c = search needs
 
 returns-2 : tie.Need-returns-2
 returns-2 c =
@@ -70,17 +34,14 @@ pub render-symbol-in-book-spec : {M : Type 1} → statement M
 render-symbol-in-book-spec =
     tie.close
     (tie.spec
-    find-at-requires
-    enum-told
-    render-asked-in-book-requires
-    enum-known-p
-    add-from
-    slice-aggregate-render-asked-in-book
-    sub-render-asked-in-book
-    part-render-asked-in-book-start
-    part-render-asked-in-book-end
-    render-asked-in-book-requires-2
-    same-length
+    (λ c κs. search needs) (λ c. search needs) (λ c κs. search needs) (λ c. search needs)
+    (λ c. search version-fits)
+    (λ c. search name-count)
+    (λ c. search version-starts)
+    (λ c. search version-starts)
+    (λ c. search needs)
+    (λ c κs. search part-room)
+    (λ c. search needs)
     returns
-    same-length-2
+    (λ c. search needs)
     returns-2)

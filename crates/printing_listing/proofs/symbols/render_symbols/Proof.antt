@@ -23,12 +23,6 @@ loop-holds c =
     answers-start (view (a .c) (five (a .nodes .now) (a .names .now) (a .lines .now) (a .pool .now) (a .journal .now)))
     (a .symbols .now) (a .out .now) (a .from)
 
-find-requires : tie.Need-find-requires Inv-loop μ-loop
-find-requires c κs = search needs
-
-enum-known-p : tie.Need-enum-known-p Inv-loop μ-loop
-enum-known-p c = search needs
-
 sub-put-answer : tie.Need-sub-put-answer Inv-loop μ-loop
 sub-put-answer c =
     let at-p = c .before in
@@ -124,18 +118,6 @@ loop-again c =
     (a .out .now) (a .from) (o .out) (o .at) (o .end) (o .inv) (at-loop-test .loop-test .taken) (at-args .pre .0) _
     (at-find .find .ensures) _ (at-p .p .given .1) _ (p .result) (p .ensures)
 
-enum-told : tie.Need-enum-told Inv-loop μ-loop
-enum-told c = search needs
-
-sub-put-answer-2 : tie.Need-sub-put-answer-2 Inv-loop μ-loop
-sub-put-answer-2 c = search needs
-
-part-put-answer-start-2 : tie.Need-part-put-answer-start-2 Inv-loop μ-loop
-part-put-answer-start-2 c = search needs
-
-part-put-answer-end-2 : tie.Need-part-put-answer-end-2 Inv-loop μ-loop
-part-put-answer-end-2 c = search needs
-
 put-answer-requires-2 : tie.Need-put-answer-requires-2 Inv-loop μ-loop
 put-answer-requires-2 c κs =
     let at-loop-test = c .before .before .before .before .before in
@@ -148,9 +130,6 @@ put-answer-requires-2 c κs =
           (at-args .pre .0),
       at-args .pre .1,
     )
-
-same-length : tie.Need-same-length Inv-loop μ-loop
-same-length c = search needs
 
 returns : tie.Need-returns Inv-loop μ-loop
 returns c =
@@ -166,9 +145,6 @@ returns c =
     last-put (view (a .c) (five (a .nodes .now) (a .names .now) (a .lines .now) (a .pool .now) (a .journal .now))) (a .symbols .now)
     (a .out .now) (a .from) (o .out) (o .at) (o .end) (o .inv) (at-loop-test .loop-test .taken) (at-args .pre .0) _
     (at-find .find .ensures) (at-enum-told .enum-told .given .1) _ (p .result) (p .ensures)
-
-same-length-2 : tie.Need-same-length-2 Inv-loop μ-loop
-same-length-2 c = search needs
 
 returns-2 : tie.Need-returns-2 Inv-loop μ-loop
 returns-2 c =
@@ -186,8 +162,7 @@ render-symbols-spec =
     Inv-loop
     μ-loop
     loop-holds
-    find-requires
-    enum-known-p
+    (λ c κs. search needs) (λ c. search needs)
     sub-put-answer
     part-put-answer-start
     part-put-answer-end
@@ -195,12 +170,9 @@ render-symbols-spec =
     add-at
     loop-less
     loop-again
-    enum-told
-    sub-put-answer-2
-    part-put-answer-start-2
-    part-put-answer-end-2
+    (λ c. search needs) (λ c. search needs) (λ c. search needs) (λ c. search needs)
     put-answer-requires-2
-    same-length
+    (λ c. search needs)
     returns
-    same-length-2
+    (λ c. search needs)
     returns-2)

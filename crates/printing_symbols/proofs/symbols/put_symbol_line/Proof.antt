@@ -5,28 +5,10 @@ use Rattle.printing_symbols.proofs.Fields.{few-fields, symbol-line-put}
 use Rattle.printing_symbols.proofs.symbols.put_symbol_line.Statement.{statement}
 use Rattle.printing_symbols.proofs.symbols.put_symbol_line.Tie as tie
 
-put-text-requires : tie.Need-put-text-requires
-put-text-requires c κs = search needs
-
-slice-aggregate-put-text : tie.Need-slice-aggregate-put-text
-slice-aggregate-put-text c = search needs
-
-put-text-requires-2 : tie.Need-put-text-requires-2
-put-text-requires-2 c κs = search needs
-
-put-fields-requires : tie.Need-put-fields-requires
-put-fields-requires c κs = search needs
-
-slice-aggregate-put-text-2 : tie.Need-slice-aggregate-put-text-2
-slice-aggregate-put-text-2 c = search needs
-
 put-text-requires-3 : tie.Need-put-text-requires-3
 put-text-requires-3 c κs =
     let at-args = c .before .before .before .before .before .before .before .before .before .before .before .before .before .before .before .before .before in
     omega (arith, few-fields (at-args .args .v) (at-args .args .l))
-
-same-length : tie.Need-same-length
-same-length c = search needs
 
 returns : tie.Need-returns
 returns c =
@@ -47,11 +29,7 @@ pub put-symbol-line-spec : {M : Type 1} → statement M
 put-symbol-line-spec =
     tie.close
     (tie.spec
-    put-text-requires
-    slice-aggregate-put-text
-    put-text-requires-2
-    put-fields-requires
-    slice-aggregate-put-text-2
+    (λ c κs. search needs) (λ c. search needs) (λ c κs. search needs) (λ c κs. search needs) (λ c. search needs)
     put-text-requires-3
-    same-length
+    (λ c. search needs)
     returns)

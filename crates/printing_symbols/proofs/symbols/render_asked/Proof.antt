@@ -7,18 +7,6 @@ use Rattle.printing_symbols.proofs.Asked.{asked-put}
 use Rattle.printing_symbols.proofs.symbols.render_asked.Statement.{statement}
 use Rattle.printing_symbols.proofs.symbols.render_asked.Tie as tie
 
-version-for-symbol-requires : tie.Need-version-for-symbol-requires
-version-for-symbol-requires c κs = search needs
-
-locality-requires : tie.Need-locality-requires
-locality-requires c κs = search needs
-
-put-symbol-line-requires : tie.Need-put-symbol-line-requires
-put-symbol-line-requires c κs = search needs
-
-same-length : tie.Need-same-length
-same-length c = search needs
-
 returns : tie.Need-returns
 returns c =
     let at-put-symbol-line = c .before .before in
@@ -35,8 +23,5 @@ pub render-asked-spec : {M : Type 1} → statement M
 render-asked-spec =
     tie.close
     (tie.spec
-    version-for-symbol-requires
-    locality-requires
-    put-symbol-line-requires
-    same-length
+    (λ c κs. search needs) (λ c κs. search needs) (λ c κs. search needs) (λ c. search needs)
     returns)

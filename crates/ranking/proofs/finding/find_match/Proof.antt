@@ -14,20 +14,8 @@ Inv-loop frame lines pool n p raw demangled edition best₀ line₀ i₀ at₀ b
 abbrev μ-loop : tie.MeasureT-loop
 μ-loop frame lines pool n p raw demangled edition best₀ line₀ i₀ at₀ best line i at = n - i
 
-edition-of-requires : tie.Need-edition-of-requires Inv-loop μ-loop
-edition-of-requires c κs = search needs
-
-mul-best : tie.Need-mul-best Inv-loop μ-loop
-mul-best c = search needs
-
-loop-holds : tie.Need-loop-holds Inv-loop μ-loop
-loop-holds c = seek-starts _ _ _ _ _ _ _ (c .before .before .before .before .before .before .pre .0)
-
 add-at : tie.Need-add-at Inv-loop μ-loop
 add-at c = let r = seek-row _ _ _ _ _ _ _ (c .before .before .before .before .before .before .before .before .pre .0) _ _ _ _ (c .before .loop .inv) (c .loop-test .taken) in omega arith
-
-add-i : tie.Need-add-i Inv-loop μ-loop
-add-i c = search needs
 
 add-code : tie.Need-add-code Inv-loop μ-loop
 add-code c = let r = seek-row _ _ _ _ _ _ _ (c .before .before .before .before .before .before .before .before .pre .0) _ _ _ _ (c .before .loop .inv) (c .loop-test .taken) in omega arith
@@ -46,9 +34,6 @@ shared-slice-read-rank-of c = let r = seek-row _ _ _ _ _ _ _ (c .before .before 
 
 rank-of-requires : tie.Need-rank-of-requires Inv-loop μ-loop
 rank-of-requires c κs = let r = seek-row _ _ _ _ _ _ _ (c .before .before .before .before .before .before .before .before .before .before .pre .0) _ _ _ _ (c .before .before .before .loop .inv) (c .before .before .loop-test .taken) in let g = row-ranged _ _ _ _ _ _ r in (search needs, omega arith, row-code _ _ _ _ _ _ r)
-
-loop-less : tie.Need-loop-less Inv-loop μ-loop
-loop-less c = search needs
 
 loop-again : tie.Need-loop-again Inv-loop μ-loop
 loop-again c = seek-behind _ _ _ _ _ _ _ (c .before .before .before .before .before .before .before .before .before .before .before .before .pre .0) _ _ _ _ (c .before .before .before .before .before .loop .inv) (c .before .before .before .before .loop-test .taken) _ (c .before .rank-of .ensures) (omega arith)
@@ -80,26 +65,14 @@ cast-end c = let r = seek-row _ _ _ _ _ _ _ (c .before .before .before .before .
 add-end-2 : tie.Need-add-end-2 Inv-loop μ-loop
 add-end-2 c = let r = seek-row _ _ _ _ _ _ _ (c .before .before .before .before .before .before .before .before .before .before .before .before .before .before .pre .0) _ _ _ _ (c .before .before .before .before .before .before .before .loop .inv) (c .before .before .before .before .before .before .loop-test .taken) in omega arith
 
-sub-line-matches : tie.Need-sub-line-matches Inv-loop μ-loop
-sub-line-matches c = search needs
-
-part-line-matches-start : tie.Need-part-line-matches-start Inv-loop μ-loop
-part-line-matches-start c = search needs
-
 part-line-matches-end : tie.Need-part-line-matches-end Inv-loop μ-loop
 part-line-matches-end c = let r = seek-row _ _ _ _ _ _ _ (c .before .before .before .before .before .before .before .before .before .before .before .before .before .before .pre .0) _ _ _ _ (c .before .before .before .before .before .before .before .loop .inv) (c .before .before .before .before .before .before .loop-test .taken) in omega arith
 
 line-matches-requires : tie.Need-line-matches-requires Inv-loop μ-loop
 line-matches-requires c κs = let r = seek-row _ _ _ _ _ _ _ (c .before .before .before .before .before .before .before .before .before .before .before .before .before .before .before .pre .0) _ _ _ _ (c .before .before .before .before .before .before .before .before .loop .inv) (c .before .before .before .before .before .before .before .loop-test .taken) in let s = row-short _ _ _ _ _ _ r in (simp (length-take, length-drop) (omega arith), search needs, search needs)
 
-loop-less-2 : tie.Need-loop-less-2 Inv-loop μ-loop
-loop-less-2 c = search needs
-
 loop-again-2 : tie.Need-loop-again-2 Inv-loop μ-loop
 loop-again-2 c = seek-better _ _ _ _ _ _ _ (c .before .before .before .before .before .before .before .before .before .before .before .before .before .before .before .before .before .pre .0) _ _ _ _ (c .before .before .before .before .before .before .before .before .before .before .loop .inv) (c .before .before .before .before .before .before .before .before .before .loop-test .taken) _ (c .before .before .before .before .before .before .rank-of .ensures) _ (c .before .before .before .before .before .before .before .before .before .before .before .before .edition-of .ensures) _ (c .before .line-matches .ensures) (omega arith) (c .if2 .taken)
-
-loop-less-3 : tie.Need-loop-less-3 Inv-loop μ-loop
-loop-less-3 c = search needs
 
 loop-again-3 : tie.Need-loop-again-3 Inv-loop μ-loop
 loop-again-3 c = seek-other _ _ _ _ _ _ _ (c .before .before .before .before .before .before .before .before .before .before .before .before .before .before .before .before .before .pre .0) _ _ _ _ (c .before .before .before .before .before .before .before .before .before .before .loop .inv) (c .before .before .before .before .before .before .before .before .before .loop-test .taken) _ (c .before .before .before .before .before .before .rank-of .ensures) _ (c .before .before .before .before .before .before .before .before .before .before .before .before .edition-of .ensures) _ (c .before .line-matches .ensures) (c .if2 .left)
@@ -116,18 +89,17 @@ find-match-spec =
     (tie.spec
     Inv-loop
     μ-loop
-    edition-of-requires
-    mul-best
-    loop-holds
+    (λ c κs. search needs) (λ c. search needs)
+    (λ c. seek-starts _ _ _ _ _ _ _ (c .before .before .before .before .before .before .pre .0))
     add-at
-    add-i
+    (λ c. search needs)
     add-code
     mul-code
     shared-slice-read-code
     mul-rank-of
     shared-slice-read-rank-of
     rank-of-requires
-    loop-less
+    (λ c. search needs)
     loop-again
     add-start
     mul-start
@@ -138,13 +110,12 @@ find-match-spec =
     shared-slice-read-end
     cast-end
     add-end-2
-    sub-line-matches
-    part-line-matches-start
+    (λ c. search needs) (λ c. search needs)
     part-line-matches-end
     line-matches-requires
-    loop-less-2
+    (λ c. search needs)
     loop-again-2
-    loop-less-3
+    (λ c. search needs)
     loop-again-3
     returns
     returns-2)

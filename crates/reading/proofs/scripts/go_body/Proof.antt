@@ -5,18 +5,6 @@ use Rattle.reading.specs.Scripts.{go-body}
 use Rattle.reading.proofs.scripts.go_body.Statement.{statement}
 use Rattle.reading.proofs.scripts.go_body.Tie as tie
 
-skip-at-requires : tie.Need-skip-at-requires
-skip-at-requires c κs = search needs
-
-enum-known-o : tie.Need-enum-known-o
-enum-known-o c = search needs
-
-enum-known-p : tie.Need-enum-known-p
-enum-known-p c = search needs
-
-body-at-requires : tie.Need-body-at-requires
-body-at-requires c κs = search needs
-
 returns : tie.Need-returns
 unfolding go-body
 returns c = search ways
@@ -29,9 +17,6 @@ pub go-body-spec : {M : Type 1} → statement M
 go-body-spec =
     tie.close
     (tie.spec
-    skip-at-requires
-    enum-known-o
-    enum-known-p
-    body-at-requires
+    (λ c κs. search needs) (λ c. search needs) (λ c. search needs) (λ c κs. search needs)
     returns
     returns-2)

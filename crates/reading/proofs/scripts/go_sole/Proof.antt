@@ -5,18 +5,6 @@ use Rattle.reading.specs.Scripts.{go-sole}
 use Rattle.reading.proofs.scripts.go_sole.Statement.{statement}
 use Rattle.reading.proofs.scripts.go_sole.Tie as tie
 
-skip-at-requires : tie.Need-skip-at-requires
-skip-at-requires c κs = search needs
-
-enum-known-o : tie.Need-enum-known-o
-enum-known-o c = search needs
-
-enum-known-p : tie.Need-enum-known-p
-enum-known-p c = search needs
-
-sole-at-requires : tie.Need-sole-at-requires
-sole-at-requires c κs = search needs
-
 returns : tie.Need-returns
 unfolding go-sole
 returns c = search ways
@@ -29,9 +17,6 @@ pub go-sole-spec : {M : Type 1} → statement M
 go-sole-spec =
     tie.close
     (tie.spec
-    skip-at-requires
-    enum-known-o
-    enum-known-p
-    sole-at-requires
+    (λ c κs. search needs) (λ c. search needs) (λ c. search needs) (λ c κs. search needs)
     returns
     returns-2)

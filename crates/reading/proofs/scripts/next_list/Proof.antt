@@ -9,22 +9,13 @@ returns : tie.Need-returns
 unfolding next-list
 returns c = search ways
 
-opening-at-requires : tie.Need-opening-at-requires
-opening-at-requires c κs = search needs
-
 returns-2 : tie.Need-returns-2
 unfolding next-list
 returns-2 c = search ways
 
-go-list-requires : tie.Need-go-list-requires
-go-list-requires c κs = search needs
-
 returns-3 : tie.Need-returns-3
 unfolding next-list
 returns-3 c = search ways
-
-in-extern-requires : tie.Need-in-extern-requires
-in-extern-requires c κs = search needs
 
 returns-4 : tie.Need-returns-4
 unfolding next-list
@@ -35,9 +26,9 @@ next-list-spec =
     tie.close
     (tie.spec
     returns
-    opening-at-requires
+    (λ c κs. search needs)
     returns-2
-    go-list-requires
+    (λ c κs. search needs)
     returns-3
-    in-extern-requires
+    (λ c κs. search needs)
     returns-4)

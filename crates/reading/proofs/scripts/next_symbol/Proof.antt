@@ -9,15 +9,9 @@ returns : tie.Need-returns
 unfolding next-symbol
 returns c = search ways
 
-parse-matcher-requires : tie.Need-parse-matcher-requires
-parse-matcher-requires c κs = search needs
-
 returns-2 : tie.Need-returns-2
 unfolding next-symbol
 returns-2 c = search ways
-
-in-extern-requires : tie.Need-in-extern-requires
-in-extern-requires c κs = search needs
 
 returns-3 : tie.Need-returns-3
 unfolding next-symbol
@@ -27,15 +21,9 @@ returns-4 : tie.Need-returns-4
 unfolding next-symbol
 returns-4 c = search ways
 
-parse-bare-matcher-requires : tie.Need-parse-bare-matcher-requires
-parse-bare-matcher-requires c κs = search needs
-
 returns-5 : tie.Need-returns-5
 unfolding next-symbol
 returns-5 c = search ways
-
-in-bare-requires : tie.Need-in-bare-requires
-in-bare-requires c κs = search needs
 
 returns-6 : tie.Need-returns-6
 unfolding next-symbol
@@ -50,13 +38,13 @@ next-symbol-spec =
     tie.close
     (tie.spec
     returns
-    parse-matcher-requires
+    (λ c κs. search needs)
     returns-2
-    in-extern-requires
+    (λ c κs. search needs)
     returns-3
     returns-4
-    parse-bare-matcher-requires
+    (λ c κs. search needs)
     returns-5
-    in-bare-requires
+    (λ c κs. search needs)
     returns-6
     returns-7)

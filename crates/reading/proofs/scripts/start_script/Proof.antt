@@ -9,18 +9,6 @@ returns : tie.Need-returns
 unfolding start-script
 returns c = search ways
 
-skip-at-requires : tie.Need-skip-at-requires
-skip-at-requires c κs = search needs
-
-enum-known-o : tie.Need-enum-known-o
-enum-known-o c = search needs
-
-enum-known-p : tie.Need-enum-known-p
-enum-known-p c = search needs
-
-script-at-requires : tie.Need-script-at-requires
-script-at-requires c κs = search needs
-
 returns-2 : tie.Need-returns-2
 unfolding start-script
 returns-2 c = search ways
@@ -34,9 +22,6 @@ start-script-spec =
     tie.close
     (tie.spec
     returns
-    skip-at-requires
-    enum-known-o
-    enum-known-p
-    script-at-requires
+    (λ c κs. search needs) (λ c. search needs) (λ c. search needs) (λ c κs. search needs)
     returns-2
     returns-3)

@@ -55,41 +55,11 @@ ends c =
     append-ends (layout s) (keep (p .before .before .before .edition-of .result) (s .args .token .now))
     (p .put-token .result) _ (p .put-token .ensures) _ _ (c .class .given .1)
 
-frame-of-requires : tie.Need-frame-of-requires
-frame-of-requires c κs = search needs
-
-cast-n : tie.Need-cast-n
-cast-n c = search needs
-
-cast-e : tie.Need-cast-e
-cast-e c = search needs
-
-has-row-requires : tie.Need-has-row-requires
-has-row-requires c κs = search needs
-
-refusal-without-row-requires : tie.Need-refusal-without-row-requires
-refusal-without-row-requires c κs = search needs
-
-same-length : tie.Need-same-length
-same-length c = search needs
-
 returns : tie.Need-returns
 returns c =
     let i = c .before in
     append-rowless (layout (entry (i .before))) _ _ _ _
     _ (c .refusal-without-row .ensures) (sym (i .before .has-row .ensures) ∙ not-true _ (i .if1 .taken))
-
-has-edit-requires : tie.Need-has-edit-requires
-has-edit-requires c κs = search needs
-
-refusal-without-row-requires-2 : tie.Need-refusal-without-row-requires-2
-refusal-without-row-requires-2 c κs = search needs
-
-same-length-2 : tie.Need-same-length-2
-same-length-2 c = search needs
-
-same-length-3 : tie.Need-same-length-3
-same-length-3 c = search needs
 
 returns-2 : tie.Need-returns-2
 returns-2 c =
@@ -97,40 +67,16 @@ returns-2 c =
     append-editless (layout (entry (k .before .before .before .before))) _ _ _ _
     _ (c .refusal-without-row2 .ensures) (sym (k .before .has-edit .ensures) ∙ not-true _ (k .if2 .taken))
 
-edition-of-requires : tie.Need-edition-of-requires
-edition-of-requires c κs = search needs
-
-cast-put-token : tie.Need-cast-put-token
-cast-put-token c = search needs
-
-put-token-requires : tie.Need-put-token-requires
-put-token-requires c κs = pool-asked (layout (edited (c .before .before .before)))
-
-enum-known-no : tie.Need-enum-known-no
-enum-known-no c = search needs
-
-enum-known-class : tie.Need-enum-known-class
-enum-known-class c = search needs
-
-class-number-requires : tie.Need-class-number-requires
-class-number-requires c κs = search needs
-
 code-of-requires : tie.Need-code-of-requires
 code-of-requires c κs =
     let s = edited (roomy (put (c .before .before))) in
     (omega (arith, c .class-number .ensures, class-few (c .before .before .class .given .0 .0)), s .pre .2, s .pre .3)
-
-cast-put-line : tie.Need-cast-put-line
-cast-put-line c = omega (arith, ends (c .before .before .before .before))
 
 put-line-requires : tie.Need-put-line-requires
 put-line-requires c κs =
     let r = roomy (put (c .before .before .before .before)) in
     let a = edited r .args in
     omega (arith, row-within (a .lines .now) (a .c .lines) (row (rowed r)))
-
-mul-put-two : tie.Need-mul-put-two
-mul-put-two c = search needs
 
 put-two-requires : tie.Need-put-two-requires
 put-two-requires c κs =
@@ -156,18 +102,6 @@ add-counts-with-3 c =
     let a = edited r .args in
     omega (arith, edit-refusal (a .journal .now) (a .c .edits) (edit r))
 
-counts-with-requires : tie.Need-counts-with-requires
-counts-with-requires c κs = search needs
-
-same-length-4 : tie.Need-same-length-4
-same-length-4 c = search needs
-
-same-length-5 : tie.Need-same-length-5
-same-length-5 c = search needs
-
-same-length-6 : tie.Need-same-length-6
-same-length-6 c = search needs
-
 returns-3 : tie.Need-returns-3
 returns-3 c =
     let p = c .before .before .before .before .before in
@@ -175,17 +109,11 @@ returns-3 c =
     (p .before .before .before .edition-of .result) (p .before .before .before .edition-of .ensures) (p .put-token .result) _ (p .put-token .ensures) _
     (c .before .no .given .1)
 
-same-length-7 : tie.Need-same-length-7
-same-length-7 c = search needs
-
 same-length-8 : tie.Need-same-length-8
 same-length-8 c =
     let k = c .before .before .before .before .before .before .before .before .before .before .before .before .before .before .before in
     let p = k .before .before .before .pool in
     search needs
-
-same-length-9 : tie.Need-same-length-9
-same-length-9 c = search needs
 
 returns-4 : tie.Need-returns-4
 returns-4 c =
@@ -202,39 +130,26 @@ pub append-spec : {M : Type 1} → statement M
 append-spec =
     tie.close
     (tie.spec
-    frame-of-requires
-    cast-n
-    cast-e
-    has-row-requires
-    refusal-without-row-requires
-    same-length
+    (λ c κs. search needs) (λ c. search needs) (λ c. search needs) (λ c κs. search needs) (λ c κs. search needs)
+    (λ c. search needs)
     returns
-    has-edit-requires
-    refusal-without-row-requires-2
-    same-length-2
-    same-length-3
+    (λ c κs. search needs) (λ c κs. search needs) (λ c. search needs) (λ c. search needs)
     returns-2
-    edition-of-requires
-    cast-put-token
-    put-token-requires
-    enum-known-no
-    enum-known-class
-    class-number-requires
+    (λ c κs. search needs) (λ c. search needs)
+    (λ c κs. pool-asked (layout (edited (c .before .before .before))))
+    (λ c. search needs) (λ c. search needs) (λ c κs. search needs)
     code-of-requires
-    cast-put-line
+    (λ c. omega (arith, ends (c .before .before .before .before)))
     put-line-requires
-    mul-put-two
+    (λ c. search needs)
     put-two-requires
     add-counts-with
     cast-counts-with
     add-counts-with-2
     add-counts-with-3
-    counts-with-requires
-    same-length-4
-    same-length-5
-    same-length-6
+    (λ c κs. search needs) (λ c. search needs) (λ c. search needs) (λ c. search needs)
     returns-3
-    same-length-7
+    (λ c. search needs)
     same-length-8
-    same-length-9
+    (λ c. search needs)
     returns-4)

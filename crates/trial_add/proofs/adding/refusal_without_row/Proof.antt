@@ -4,24 +4,6 @@ use Rattle.trial_add.proofs.Appending.{unplaced-refused, unplaced-store
 use Rattle.trial_add.proofs.adding.refusal_without_row.Statement.{statement}
 use Rattle.trial_add.proofs.adding.refusal_without_row.Tie as tie
 
-edition-of-requires : tie.Need-edition-of-requires
-edition-of-requires c κs = search needs
-
-array-borrow-prefix-nothing : tie.Need-array-borrow-prefix-nothing
-array-borrow-prefix-nothing c = search needs
-
-slice-aggregate-store-token : tie.Need-slice-aggregate-store-token
-slice-aggregate-store-token c = search needs
-
-store-token-requires : tie.Need-store-token-requires
-store-token-requires c κs = search needs
-
-enum-known-no : tie.Need-enum-known-no
-enum-known-no c = search needs
-
-enum-told : tie.Need-enum-told
-enum-told c = search needs
-
 returns : tie.Need-returns
 returns c =
     let s = c .before .before .before .before in
@@ -42,11 +24,7 @@ pub refusal-without-row-spec : {M : Type 1} → statement M
 refusal-without-row-spec =
     tie.close
     (tie.spec
-    edition-of-requires
-    array-borrow-prefix-nothing
-    slice-aggregate-store-token
-    store-token-requires
-    enum-known-no
-    enum-told
+    (λ c κs. search needs) (λ c. search needs) (λ c. search needs) (λ c κs. search needs) (λ c. search needs)
+    (λ c. search needs)
     returns
     returns-2)

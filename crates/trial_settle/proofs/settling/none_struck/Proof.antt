@@ -11,35 +11,8 @@ Inv-loop lines pool n i₀ i = Unstruck n lines pool i
 abbrev μ-loop : tie.MeasureT-loop
 μ-loop lines pool n i₀ i = n - i
 
-loop-holds : tie.Need-loop-holds Inv-loop μ-loop
-loop-holds c = search none-starts
-
-mul-is-struck : tie.Need-mul-is-struck Inv-loop μ-loop
-mul-is-struck c = search needs
-
-add-is-struck : tie.Need-add-is-struck Inv-loop μ-loop
-add-is-struck c = search needs
-
-mul-is-struck-2 : tie.Need-mul-is-struck-2 Inv-loop μ-loop
-mul-is-struck-2 c = search needs
-
-shared-slice-read-is-struck : tie.Need-shared-slice-read-is-struck Inv-loop μ-loop
-shared-slice-read-is-struck c = search needs
-
-is-struck-requires : tie.Need-is-struck-requires Inv-loop μ-loop
-is-struck-requires c κs = search needs
-
 returns : tie.Need-returns Inv-loop μ-loop
 returns c = search none-stops
-
-add-i : tie.Need-add-i Inv-loop μ-loop
-add-i c = search needs
-
-loop-less : tie.Need-loop-less Inv-loop μ-loop
-loop-less c = search needs
-
-loop-again : tie.Need-loop-again Inv-loop μ-loop
-loop-again c = search none-more
 
 returns-2 : tie.Need-returns-2 Inv-loop μ-loop
 returns-2 c = search none-ends
@@ -50,14 +23,9 @@ none-struck-spec =
     (tie.spec
     Inv-loop
     μ-loop
-    loop-holds
-    mul-is-struck
-    add-is-struck
-    mul-is-struck-2
-    shared-slice-read-is-struck
-    is-struck-requires
+    (λ c. search none-starts)
+    (λ c. search needs) (λ c. search needs) (λ c. search needs) (λ c. search needs) (λ c κs. search needs)
     returns
-    add-i
-    loop-less
-    loop-again
+    (λ c. search needs) (λ c. search needs)
+    (λ c. search none-more)
     returns-2)

@@ -12,53 +12,11 @@ entry c = c .before .before .before .before .before .before .before .before .bef
 abbrev lent : tie.Start → Buffers
 lent s = let a = s .args in five (a .nodes .now) (a .names .now) (a .lines .now) (a .pool .now) (a .journal .now)
 
-cast-n : tie.Need-cast-n
-cast-n c = search needs
-
-none-struck-requires : tie.Need-none-struck-requires
-none-struck-requires c κs = search lines-room
-
-same-length : tie.Need-same-length
-same-length c = search needs
-
-same-length-2 : tie.Need-same-length-2
-same-length-2 c = search needs
-
 returns : tie.Need-returns
 returns c =
     let n = c .before in
     let k = entry n in
     settle-none (k .args .c) (lent k) (k .pre) _ (n .none-struck .ensures) (c .if1 .taken)
-
-pack-standing-requires : tie.Need-pack-standing-requires
-pack-standing-requires c κs = search lines-asked
-
-cast-edits : tie.Need-cast-edits
-cast-edits c = search needs
-
-mul-edits : tie.Need-mul-edits
-mul-edits c = search needs
-
-slice-relend-prefix-clear-numbers : tie.Need-slice-relend-prefix-clear-numbers
-slice-relend-prefix-clear-numbers c = search journal-room
-
-slice-aggregate-clear-numbers : tie.Need-slice-aggregate-clear-numbers
-slice-aggregate-clear-numbers c = search journal-part
-
-clear-numbers-requires : tie.Need-clear-numbers-requires
-clear-numbers-requires c κs = search needs
-
-counts-with-requires : tie.Need-counts-with-requires
-counts-with-requires c κs = search needs
-
-same-length-3 : tie.Need-same-length-3
-same-length-3 c = search needs
-
-same-length-4 : tie.Need-same-length-4
-same-length-4 c = search needs
-
-same-length-5 : tie.Need-same-length-5
-same-length-5 c = search needs
 
 returns-2 : tie.Need-returns-2
 returns-2 c =
@@ -72,19 +30,13 @@ pub settle-lines-spec : {M : Type 1} → statement M
 settle-lines-spec =
     tie.close
     (tie.spec
-    cast-n
-    none-struck-requires
-    same-length
-    same-length-2
+    (λ c. search needs)
+    (λ c κs. search lines-room)
+    (λ c. search needs) (λ c. search needs)
     returns
-    pack-standing-requires
-    cast-edits
-    mul-edits
-    slice-relend-prefix-clear-numbers
-    slice-aggregate-clear-numbers
-    clear-numbers-requires
-    counts-with-requires
-    same-length-3
-    same-length-4
-    same-length-5
+    (λ c κs. search lines-asked)
+    (λ c. search needs) (λ c. search needs)
+    (λ c. search journal-room)
+    (λ c. search journal-part)
+    (λ c κs. search needs) (λ c κs. search needs) (λ c. search needs) (λ c. search needs) (λ c. search needs)
     returns-2)

@@ -33,48 +33,18 @@ event v = v .before .before .before .before .before
 abbrev adding : tie.After-n2 Inv-loop μ-loop → tie.After-add-event Inv-loop μ-loop
 adding n = n .before .before .before .before .before .before .before .before
 
-start-at-requires : tie.Need-start-at-requires Inv-loop μ-loop
-start-at-requires c κs = search needs
-
 loop-holds : tie.Need-loop-holds Inv-loop μ-loop
 loop-holds c = going-starts (c .before .before .before .before .before .before .before .pre) (c .start-at .ensures)
-
-next-event-requires : tie.Need-next-event-requires Inv-loop μ-loop
-next-event-requires c κs = search needs
-
-enum-told : tie.Need-enum-told Inv-loop μ-loop
-enum-told c = search needs
-
-same-length : tie.Need-same-length Inv-loop μ-loop
-same-length c = search needs
-
-same-length-2 : tie.Need-same-length-2 Inv-loop μ-loop
-same-length-2 c = search needs
-
-same-length-3 : tie.Need-same-length-3 Inv-loop μ-loop
-same-length-3 c = search needs
 
 returns : tie.Need-returns Inv-loop μ-loop
 returns c =
     let x = c .before .before in
     going-ends (x .before .loop .inv) (x .next-event .ensures) (c .enum-told .given .1)
 
-enum-known-n : tie.Need-enum-known-n Inv-loop μ-loop
-enum-known-n c = search needs
-
 clear-added-requires : tie.Need-clear-added-requires Inv-loop μ-loop
 clear-added-requires c κs =
     let x = c .before .before .before .before .before .before in
     going-back (x .before .loop .inv) (x .next-event .ensures)
-
-same-length-4 : tie.Need-same-length-4 Inv-loop μ-loop
-same-length-4 c = search needs
-
-same-length-5 : tie.Need-same-length-5 Inv-loop μ-loop
-same-length-5 c = search needs
-
-same-length-6 : tie.Need-same-length-6 Inv-loop μ-loop
-same-length-6 c = search needs
 
 returns-2 : tie.Need-returns-2 Inv-loop μ-loop
 returns-2 c =
@@ -83,17 +53,11 @@ returns-2 c =
     let x = n .before .before in
     going-refused (x .before .loop .inv) (x .next-event .ensures) (n .n .given .1) (t .clear-added .ensures)
 
-enum-known-e : tie.Need-enum-known-e Inv-loop μ-loop
-enum-known-e c = search needs
-
 add-event-requires : tie.Need-add-event-requires Inv-loop μ-loop
 add-event-requires c κs =
     let e = c .before .before .before .before in
     let x = e .before .before in
     event-asks (x .before .loop .inv) (x .next-event .ensures) (e .e .given .1)
-
-enum-known-n-2 : tie.Need-enum-known-n-2 Inv-loop μ-loop
-enum-known-n-2 c = search needs
 
 clear-added-requires-2 : tie.Need-clear-added-requires-2 Inv-loop μ-loop
 clear-added-requires-2 c κs =
@@ -139,9 +103,6 @@ returns-3 c =
     let x = e .before .before in
     going-no (x .before .loop .inv) (x .next-event .ensures) (e .e .given .1) (v .add-event .ensures) (n .n2 .given .1) (t .clear-added2 .ensures)
 
-enum-known-d : tie.Need-enum-known-d Inv-loop μ-loop
-enum-known-d c = search needs
-
 loop-less : tie.Need-loop-less Inv-loop μ-loop
 loop-less c =
     let e = c .before .before .before .before .before .before .before .before .before .before .before .before .before .before in
@@ -162,28 +123,22 @@ add-lines-spec =
     (tie.spec
     Inv-loop
     μ-loop
-    start-at-requires
+    (λ c κs. search needs)
     loop-holds
-    next-event-requires
-    enum-told
-    same-length
-    same-length-2
-    same-length-3
+    (λ c κs. search needs) (λ c. search needs) (λ c. search needs) (λ c. search needs) (λ c. search needs)
     returns
-    enum-known-n
+    (λ c. search needs)
     clear-added-requires
-    same-length-4
-    same-length-5
-    same-length-6
+    (λ c. search needs) (λ c. search needs) (λ c. search needs)
     returns-2
-    enum-known-e
+    (λ c. search needs)
     add-event-requires
-    enum-known-n-2
+    (λ c. search needs)
     clear-added-requires-2
     same-length-7
     same-length-8
     same-length-9
     returns-3
-    enum-known-d
+    (λ c. search needs)
     loop-less
     loop-again)

@@ -12,40 +12,10 @@ use Rattle.trial_undo.proofs.taking_back.take_back_latest.Tie as tie
 abbrev entry : tie.After-put-two → tie.Start
 entry c = c .before .before .before .before .before .before .before .before
 
-sub-at : tie.Need-sub-at
-sub-at c = search needs
-
-cast-at : tie.Need-cast-at
-cast-at c = search needs
-
-mul-at : tie.Need-mul-at
-mul-at c = search needs
-
-mul-what : tie.Need-mul-what
-mul-what c = search needs
-
-slice-read-what : tie.Need-slice-read-what
-slice-read-what c = search needs
-
-add-line : tie.Need-add-line
-add-line c = search needs
-
-mul-line : tie.Need-mul-line
-mul-line c = search needs
-
-slice-read-line : tie.Need-slice-read-line
-slice-read-line c = search needs
-
 cast-line : tie.Need-cast-line
 cast-line c =
     let s = c .before .before .before .before .before .before in
     omega (arith, c .slice-known5 .given (edit-width * (s .args .c .edits - 1) + 1))
-
-put-two-requires : tie.Need-put-two-requires
-put-two-requires c κs = search needs
-
-cast-undo-add : tie.Need-cast-undo-add
-cast-undo-add c = search needs
 
 undo-add-requires : tie.Need-undo-add-requires
 undo-add-requires c κs =
@@ -58,21 +28,6 @@ sub-counts-with c =
     let t = c .before .before .before .before .before .before .before .before .before in
     entry (t .before .before .before) .pre .of-add (t .if1 .taken) .3
 
-sub-counts-with-2 : tie.Need-sub-counts-with-2
-sub-counts-with-2 c = search needs
-
-counts-with-requires : tie.Need-counts-with-requires
-counts-with-requires c κs = search needs
-
-same-length : tie.Need-same-length
-same-length c = search needs
-
-same-length-2 : tie.Need-same-length-2
-same-length-2 c = search needs
-
-same-length-3 : tie.Need-same-length-3
-same-length-3 c = search needs
-
 returns : tie.Need-returns
 returns c =
     let u = c .before .before .before .before .before .before .before in
@@ -84,18 +39,6 @@ undo-strike-requires c κs =
     let t = c .before in
     entry (t .before .before .before) .pre .of-strike (t .if1 .left)
 
-sub-counts-with-3 : tie.Need-sub-counts-with-3
-sub-counts-with-3 c = search needs
-
-counts-with-requires-2 : tie.Need-counts-with-requires-2
-counts-with-requires-2 c κs = search needs
-
-same-length-4 : tie.Need-same-length-4
-same-length-4 c = search needs
-
-same-length-5 : tie.Need-same-length-5
-same-length-5 c = search needs
-
 returns-2 : tie.Need-returns-2
 returns-2 c =
     let u = c .before .before .before .before in
@@ -106,28 +49,14 @@ pub take-back-latest-spec : {M : Type 1} → statement M
 take-back-latest-spec =
     tie.close
     (tie.spec
-    sub-at
-    cast-at
-    mul-at
-    mul-what
-    slice-read-what
-    add-line
-    mul-line
-    slice-read-line
+    (λ c. search needs) (λ c. search needs) (λ c. search needs) (λ c. search needs) (λ c. search needs)
+    (λ c. search needs) (λ c. search needs) (λ c. search needs)
     cast-line
-    put-two-requires
-    cast-undo-add
+    (λ c κs. search needs) (λ c. search needs)
     undo-add-requires
     sub-counts-with
-    sub-counts-with-2
-    counts-with-requires
-    same-length
-    same-length-2
-    same-length-3
+    (λ c. search needs) (λ c κs. search needs) (λ c. search needs) (λ c. search needs) (λ c. search needs)
     returns
     undo-strike-requires
-    sub-counts-with-3
-    counts-with-requires-2
-    same-length-4
-    same-length-5
+    (λ c. search needs) (λ c κs. search needs) (λ c. search needs) (λ c. search needs)
     returns-2)
