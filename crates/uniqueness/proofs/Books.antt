@@ -13,7 +13,6 @@ use Rattle.book.proofs.frame_of
 use Rattle.book.proofs.no_counts
 use Rattle.book.proofs.counts_with
 use Rattle.book.proofs.editions.edition_of
-use Rattle.book.proofs.frame_of
 use Rattle.book.proofs.nodes.first_named
 use Rattle.book_check.proofs.nodes.nodes_packed
 use Rattle.book_check.proofs.nodes.nodes_good
@@ -72,9 +71,6 @@ counts-with-unique κs a x y v w p q = (same p q, refl)
 
 pub edition-of-unique : Unique edition_of.ended edition_of.Reads.Post
 edition-of-unique κs a x y v w p q = (same p q, refl)
-
-pub frame-of-unique : Unique frame_of.ended frame_of.Reads.Post
-frame-of-unique κs a x y v w p q = (same p q, refl)
 
 pub first-named-unique : Unique first_named.ended first_named.Reads.Post
 first-named-unique κs a x y v w p q = (same p q, refl)
