@@ -1,4 +1,4 @@
--- The lines that stand (`standing` of crate changes): struck lines decide nothing, so each lookup finds among them the line that it finds among all. Assumes
+-- The lines that stand (`standing` of crate trial): struck lines decide nothing, so each lookup finds among them the line that it finds among all. Assumes
 -- nothing.
 use mathlib.Core.Path.{_≡_, refl, ap, _∙_}
 use mathlib.Core.List.{List, [], _∷_, _++_}

@@ -1,5 +1,5 @@
--- How known points are told: texts that are opened in buffers with room for so much, and names. The tables of known points, of known histories and of sessions
--- at the desk are told so; proofs/Computing.antt has how they are proved. Assumes nothing.
+-- How known points are told: texts, all of ASCII, that are opened in buffers with room for so much, and names. The tables of known points, of known histories
+-- and of sessions at the desk are told so; proofs/Computing.antt has how they are proved. Assumes nothing.
 use Prim.Native.Nat.{ℕ, _*_}
 use Prim.Native.String.{String}
 use Rattle.lists.specs.Texts.{codes}

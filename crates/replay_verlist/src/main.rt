@@ -212,7 +212,11 @@ fn list(text: &[u8], out: &mut [u8]) -> usize {
     listed.length
 }
 
-fn list_case(input: &[u8], out: &mut [u8]) -> usize {
+// The same of a case's two lines. Where the second does not say an output, nothing is listed.
+fn list_case(input: &[u8], output: &[u8], out: &mut [u8]) -> usize {
+    if byte_or_zero(output, 0) != b'>' {
+        return 0;
+    }
     let mut text = [0u8; ROOM];
     let n = expand(input, &mut text);
     list(front(&text, n), out)
@@ -243,8 +247,9 @@ fn replay(text: &[u8], out: &mut [u8]) -> Walk
         if byte_or_zero(input, 0) != b'<' {
             continue;
         }
-        let n = list_case(input, out);
-        let same = same_output(front(out, n), line_at(text, walk.at));
+        let output = line_at(text, walk.at);
+        let n = list_case(input, output, out);
+        let same = same_output(front(out, n), output);
         walk = counted(walk, same);
         show(front(out, n), same);
     }

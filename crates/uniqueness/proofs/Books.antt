@@ -1,5 +1,5 @@
--- What checks a book, opens a text into one and asks it leaves one answer and one end state: book, node_check, line_check, journal_check, book_check, building,
--- opening, ranking, deciding, lookups, version_lookup, locality_lookup, version_script, counting, export_list. Assumes nothing.
+-- What checks a book, opens a text into one and asks it leaves one answer and one end state: book, book_check, book_building, book_opening, version_script,
+-- ranking, lookups, counting, export_list. Assumes nothing.
 use mathlib.Core.Path.{refl}
 use Rattle.uniqueness.specs.Unique.{Unique}
 use Rattle.uniqueness.proofs.Same.{_▹_, same}
@@ -75,21 +75,21 @@ edition-of-unique κs a x y v w p q = (same p q, refl)
 pub first-named-unique : Unique first_named.ended first_named.Reads.Post
 first-named-unique κs a x y v w p q = (same p q, refl)
 
--- ---- node_check
+-- ---- book_check: nodes
 pub nodes-packed-unique : Unique nodes_packed.ended nodes_packed.Reads.Post
 nodes-packed-unique κs a x y v w p q = (same p q, refl)
 
 pub nodes-good-unique : Unique nodes_good.ended nodes_good.Reads.Post
 nodes-good-unique κs a x y v w p q = (same p q, refl)
 
--- ---- line_check
+-- ---- book_check: lines
 pub lines-packed-unique : Unique lines_packed.ended lines_packed.Reads.Post
 lines-packed-unique κs a x y v w p q = (same p q, refl)
 
 pub has-star-unique : Unique has_star.ended has_star.Reads.Post
 has-star-unique κs a x y v w p q = (same p q, refl)
 
--- ---- journal_check
+-- ---- book_check: the journal
 pub edits-packed-unique : Unique edits_packed.ended edits_packed.Reads.Post
 edits-packed-unique κs a x y v w p q = (same p q, refl)
 
@@ -100,7 +100,7 @@ journal-fits-unique κs a x y v w p q = (same p q, refl)
 pub is-book-unique : Unique is_book.ended is_book.Reads.Post
 is-book-unique κs a x y v w p q = (same p q, refl)
 
--- ---- building
+-- ---- book_building
 pub clear-book-unique : Unique clear_book.ended clear_book.Reads.Post
 clear-book-unique κs a x y v w p q =
     (refl, λ i. same (p .nodes) (q .nodes) i ▹ same (p .names) (q .names) i ▹ same (p .lines) (q .lines) i ▹ same (p .pool) (q .pool) i ▹ tt)
@@ -111,7 +111,7 @@ take-extern-unique κs a x y v w p q = (same p q, refl)
 pub take-closed-unique : Unique take_closed.ended take_closed.Reads.Post
 take-closed-unique κs a x y v w p q = (same p q, refl)
 
--- ---- opening
+-- ---- book_opening
 pub opening-open-unique : Unique opening-open.ended opening-open.Reads.Post
 opening-open-unique κs a x y v w p q =
     let b = same (p .1) (q .1) in
@@ -124,7 +124,7 @@ rank-of-unique κs a x y v w p q = (same p q, refl)
 pub name-refusal-unique : Unique name_refusal.ended name_refusal.Reads.Post
 name-refusal-unique κs a x y v w p q = (same p q, refl)
 
--- ---- deciding
+-- ---- ranking: finding
 pub find-match-unique : Unique find_match.ended find_match.Reads.Post
 find-match-unique κs a x y v w p q = (same p q, refl)
 
@@ -135,14 +135,14 @@ from-node-unique κs a x y v w p q = (same p q, refl)
 pub wanted-version-unique : Unique wanted_version.ended wanted_version.Reads.Post
 wanted-version-unique κs a x y v w p q = (same p q, refl)
 
--- ---- version_lookup
+-- ---- lookups: version_lookup
 pub version-in-book-unique : Unique version_in_book.ended version_in_book.Reads.Post
 version-in-book-unique κs a x y v w p q = (same p q, refl)
 
 pub version-for-symbol-unique : Unique version_for_symbol.ended version_for_symbol.Reads.Post
 version-for-symbol-unique κs a x y v w p q = (same p q, refl)
 
--- ---- locality_lookup
+-- ---- lookups: locality_lookup
 pub locality-in-book-unique : Unique locality_in_book.ended locality_in_book.Reads.Post
 locality-in-book-unique κs a x y v w p q = (same p q, refl)
 

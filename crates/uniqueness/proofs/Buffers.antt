@@ -1,4 +1,4 @@
--- What writes into lent buffers leaves one answer and one end state: packing, copying, rooms, printing. Assumes nothing.
+-- What writes into lent buffers leaves one answer and one end state: packing, copying, book_rooms, printing. Assumes nothing.
 use mathlib.Core.Path.{refl}
 use Rattle.uniqueness.specs.Unique.{Unique}
 use Rattle.uniqueness.proofs.Same.{_▹_, same}
@@ -52,7 +52,7 @@ put-two-unique κs a x y v w p q = (refl, λ i. same p q i ▹ tt ▹ tt ▹ tt 
 pub put-three-unique : Unique put_three.ended put_three.Reads.Post
 put-three-unique κs a x y v w p q = (refl, λ i. same p q i ▹ tt ▹ tt ▹ tt ▹ tt ▹ tt)
 
--- ---- rooms
+-- ---- book_rooms
 pub has-row-unique : Unique has_row.ended has_row.Reads.Post
 has-row-unique κs a x y v w p q = (same p q, refl)
 

@@ -1,4 +1,4 @@
--- What answers for a lent book leaves one answer and one end state: lending, lent_openings, lent_questions, lent_additions, lent_edits. Assumes nothing.
+-- What answers for a lent book leaves one answer and one end state: c_lending, c_api. Assumes nothing.
 use mathlib.Core.Path.{refl}
 use Rattle.c_lending.specs.Calls.{Edits, Opens, Replies}
 use Rattle.uniqueness.specs.Unique.{Unique}
@@ -19,7 +19,7 @@ use Rattle.c_api.proofs.lent_edits.strike
 use Rattle.c_api.proofs.lent_edits.undo
 use Rattle.c_api.proofs.lent_edits.settle
 
--- ---- lending
+-- ---- c_lending
 pub counts-of-unique : Unique counts_of.ended counts_of.Reads.Post
 counts-of-unique κs a x y v w p q = (same p q, refl)
 
@@ -32,14 +32,14 @@ answer-unique κs a x y v w p q = (same (p .0) (q .0), λ i. tt ▹ tt ▹ same 
 pub finish-unique : Unique finish.ended finish.Reads.Post
 finish-unique κs a x y v w p q = (same (p .0) (q .0), λ i. tt ▹ same (p .1) (q .1) i ▹ tt)
 
--- ---- lent_openings
+-- ---- c_api: lent_openings
 pub open-lent-unique : Unique open_lent.ended open_lent.Reads.Post
 unfolding Opens
 open-lent-unique κs a x y v w p q =
     let b = same (p .2) (q .2) in
     (same (p .0) (q .0), λ i. tt ▹ tt ▹ same (p .1) (q .1) i ▹ b i .nodes ▹ b i .names ▹ b i .lines ▹ b i .pool ▹ b i .journal ▹ tt)
 
--- ---- lent_questions
+-- ---- c_api: lent_questions
 pub version-count-unique : Unique version_count.ended version_count.Reads.Post
 unfolding Replies
 version-count-unique κs a x y v w p q = (same (p .0) (q .0), λ i. tt ▹ tt ▹ tt ▹ tt ▹ tt ▹ tt ▹ same (p .1) (q .1) i ▹ tt)
@@ -60,7 +60,7 @@ pub contains-unique : Unique contains.ended contains.Reads.Post
 unfolding Replies
 contains-unique κs a x y v w p q = (same (p .0) (q .0), λ i. tt ▹ tt ▹ tt ▹ tt ▹ tt ▹ tt ▹ tt ▹ tt ▹ same (p .1) (q .1) i ▹ tt)
 
--- ---- lent_additions
+-- ---- c_api: lent_additions
 pub add-unique : Unique add.ended add.Reads.Post
 unfolding Edits
 add-unique κs a x y v w p q =
@@ -73,7 +73,7 @@ add-symbol-unique κs a x y v w p q =
     let b = same (p .2) (q .2) in
     (same (p .0) (q .0), λ i. same (p .1) (q .1) i ▹ tt ▹ tt ▹ b i .lines ▹ b i .pool ▹ b i .journal ▹ tt ▹ tt ▹ tt)
 
--- ---- lent_edits
+-- ---- c_api: lent_edits
 pub strike-unique : Unique strike.ended strike.Reads.Post
 unfolding Edits
 strike-unique κs a x y v w p q =

@@ -1,5 +1,5 @@
--- What reads a text leaves one answer and one end state: linker_script, searching, comments, utf8, tokens, cursors, matchers, bodies, reading, reading_rows,
--- input, line_parts, commands. Assumes nothing.
+-- What reads a text leaves one answer and one end state: numbers, linker_script, utf8, reading_tokens, reading_cursors, reading_matchers, reading_bodies,
+-- reading, reading_rows, input, desk_commands. Assumes nothing.
 use Prim.Native.Nat.{ℕ, _≤_}
 use mathlib.Core.Path.{_≡_, refl, sym, ap, _∙_}
 use mathlib.Core.List.{List}
@@ -73,11 +73,11 @@ trimmed-length-unique κs a x y v w p q = (same (trimmed-long (now (a .0)) x p) 
 pub trim-ascii-end-unique : Unique-as trim_ascii_end.ended (λ κs. (ℕ × ℕ) × List ℕ) (λ κs r. (r .ptr, now r)) trim_ascii_end.Reads.Post
 trim-ascii-end-unique κs a x y v w p q = (λ i. (same (p .1) (q .1) i, same (p .0) (q .0) i), refl)
 
--- ---- searching
+-- ---- linker_script: searching
 pub find-unique : Unique find.ended find.Reads.Post
 find-unique κs a x y v w p q = (same p q, refl)
 
--- ---- comments
+-- ---- linker_script: comments
 pub find-pair-unique : Unique find_pair.ended find_pair.Reads.Post
 find-pair-unique κs a x y v w p q = (same p q, refl)
 
@@ -91,7 +91,7 @@ character-at-unique κs a x y v w p q = (same p q, refl)
 pub is-utf8-unique : Unique is_utf8.ended is_utf8.Reads.Post
 is-utf8-unique κs a x y v w p q = (same p q, refl)
 
--- ---- tokens
+-- ---- reading_tokens
 pub try-take-unique : Unique try_take.ended try_take.Reads.Post
 try-take-unique κs a x y v w p q = (same p q, refl)
 
@@ -116,7 +116,7 @@ bare-skip-unique κs a x y v w p q = (same p q, refl)
 pub is-named-unique : Unique is_named.ended is_named.Reads.Post
 is-named-unique κs a x y v w p q = (same p q, refl)
 
--- ---- cursors
+-- ---- reading_cursors
 pub start-at-unique : Unique start_at.ended start_at.Reads.Post
 start-at-unique κs a x y v w p q = (same p q, refl)
 
@@ -132,7 +132,7 @@ with-language-unique κs a x y v w p q = (same p q, refl)
 pub skip-at-unique : Unique skip_at.ended skip_at.Reads.Post
 skip-at-unique κs a x y v w p q = (same p q, refl)
 
--- ---- matchers
+-- ---- reading_matchers
 pub in-extern-unique : Unique in_extern.ended in_extern.Reads.Post
 in-extern-unique κs a x y v w p q = (same p q, refl)
 
@@ -145,7 +145,7 @@ parse-matcher-unique κs a x y v w p q = (same p q, refl)
 pub parse-bare-matcher-unique : Unique parse_bare_matcher.ended parse_bare_matcher.Reads.Post
 parse-bare-matcher-unique κs a x y v w p q = (same p q, refl)
 
--- ---- bodies
+-- ---- reading_bodies
 pub node-at-unique : Unique node_at.ended node_at.Reads.Post
 node-at-unique κs a x y v w p q = (same p q, refl)
 
@@ -179,7 +179,7 @@ find-mark-unique κs a x y v w p q = (same p q, refl)
 pub find-at-unique : Unique find_at.ended find_at.Reads.Post
 find-at-unique κs a x y v w p q = (same p q, refl)
 
--- ---- line_parts
+-- ---- desk_commands: parts
 pub number-at-unique : Unique number_at.ended number_at.Reads.Post
 number-at-unique κs a x y v w p q = (same p q, refl)
 
@@ -190,6 +190,6 @@ tail-unique κs a x y v w p q = (same p q, refl)
 pub line-end-unique : Unique line_end.ended line_end.Reads.Post
 line-end-unique κs a x y v w p q = (same p q, refl)
 
--- ---- commands
+-- ---- desk_commands
 pub command-of-unique : Unique command_of.ended command_of.Reads.Post
 command-of-unique κs a x y v w p q = (same p q, refl)

@@ -1,4 +1,4 @@
--- What is proved by a walk by hand leaves one answer and one end state: reader and `undoing::undo`. No promise is read off their clauses for callers, so each is
+-- What is proved by a walk by hand leaves one answer and one end state: reader and `trial_undo::undo`. No promise is read off their clauses for callers, so each is
 -- written out here and shown to be what the clauses say. Assumes nothing.
 use mathlib.Core.Path.{_≡_, refl}
 use denote.Ref.{now}
@@ -54,7 +54,7 @@ first-says w κs a g x e = refl
 pub first-unique : Unique first.ended First
 first-unique κs a x y v w p q = (same p q, refl)
 
--- ---- undoing
+-- ---- trial_undo
 abbrev Undo : Promise undo.ended
 Undo κs a r e =
     let b = five (now (a .1 .0)) (now (a .1 .1 .0)) (now (a .1 .1 .1 .0)) (now (a .1 .1 .1 .1 .0)) (now (a .1 .1 .1 .1 .1 .0)) in

@@ -16,8 +16,8 @@ abbrev μ-loop : tie.MeasureT-loop
 
 loop-again-2 : tie.Need-loop-again-2 Inv-loop μ-loop
 loop-again-2 c =
-    let at-out = c .before .before .before .before .before .before .before .before .before in
-    (search needs, omega (arith, at-out .out .given, at-out .before .before .before .before .before .before .before .before .before .loop .inv .1))
+    let at-out = c .before .before .before .before .before .before .before .before in
+    (search needs, omega (arith, at-out .out .given, at-out .before .before .before .before .before .before .before .before .before .before .loop .inv .1))
 
 pub replay-spec : {M : Type 1} → statement M
 replay-spec =
