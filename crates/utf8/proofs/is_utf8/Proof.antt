@@ -37,16 +37,53 @@ ascii s at left h a i l = left ∙ utf8-ascii-at s at h (rw i at l)
 end : (s : List ℕ) (at : ℕ) → utf8 s ≡ utf8 (drop at s) → length s ≤ at → true ≡ utf8 s
 end s at left h = sym (left ∙ utf8-end s at h)
 
+loop-holds : tie.Need-loop-holds Inv-loop μ-loop
+loop-holds c = refl
+
+shared-slice-read-wide : tie.Need-shared-slice-read-wide Inv-loop μ-loop
+shared-slice-read-wide c = search needs
+
+wide-requires : tie.Need-wide-requires Inv-loop μ-loop
+wide-requires c κs = search needs
+
+add-at : tie.Need-add-at Inv-loop μ-loop
+add-at c = search needs
+
+loop-less : tie.Need-loop-less Inv-loop μ-loop
+loop-less c = omega arith
+
+loop-again : tie.Need-loop-again Inv-loop μ-loop
+loop-again c = search ascii
+
+longer-requires : tie.Need-longer-requires Inv-loop μ-loop
+longer-requires c κs = search needs
+
+returns : tie.Need-returns Inv-loop μ-loop
+returns c = search bad
+
+loop-less-2 : tie.Need-loop-less-2 Inv-loop μ-loop
+loop-less-2 c = search less
+
+loop-again-2 : tie.Need-loop-again-2 Inv-loop μ-loop
+loop-again-2 c = search good
+
+returns-2 : tie.Need-returns-2 Inv-loop μ-loop
+returns-2 c = search end
+
 pub is-utf8-spec : {M : Type 1} → statement M
 is-utf8-spec =
     tie.close
     (tie.spec
     Inv-loop
     μ-loop
-    (λ c. refl) (λ c. search needs) (λ c κs. search needs) (λ c. search needs) (λ c. omega arith)
-    (λ c. search ascii)
-    (λ c κs. search needs)
-    (λ c. search bad)
-    (λ c. search less)
-    (λ c. search good)
-    (λ c. search end))
+    loop-holds
+    shared-slice-read-wide
+    wide-requires
+    add-at
+    loop-less
+    loop-again
+    longer-requires
+    returns
+    loop-less-2
+    loop-again-2
+    returns-2)
