@@ -3,9 +3,19 @@ use borrow.Author.Needs.{needs}
 use Rattle.c_api.proofs.questions.tuno_contains.Statement.{statement}
 use Rattle.c_api.proofs.questions.tuno_contains.Tie as tie
 
+contains-requires : tie.Need-contains-requires
+contains-requires c κs = search needs
+
+same-length : tie.Need-same-length
+same-length c = search needs
+
+returns : tie.Need-returns
+returns c = c .before .before .contains .ensures
+
 pub tuno-contains-spec : {M : Type 1} → statement M
 tuno-contains-spec =
     tie.close
     (tie.spec
-    (λ c κs. search needs) (λ c. search needs)
-    (λ c. c .before .before .contains .ensures))
+    contains-requires
+    same-length
+    returns)
