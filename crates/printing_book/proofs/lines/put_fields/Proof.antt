@@ -36,8 +36,7 @@ start2 c = start (c .before .before .before .before .before)
 class : (c : tie.After-put-spaced2) → Stands (start2 c) 22 to-class (c .put-spaced2 .last .0) (c .put-spaced2 .result)
 class c =
     let q = c .before .before .before .before .before in
-    let e = parted q .before .before .class-of .ensures in
-    told-behind (node q) [] e _ _ (omega (arith, start2 c .pre .0)) (c .put-spaced2 .ensures)
+    told-behind (node q) [] (line (start2 c) .class) _ _ (omega (arith, start2 c .pre .0)) (c .put-spaced2 .ensures) (parted q .before .before .class-of .ensures)
 
 -- behind the third
 abbrev start3 : tie.After-put-spaced3 → tie.Start
@@ -47,7 +46,7 @@ section : (c : tie.After-put-spaced3) → Stands (start3 c) 33 to-section (c .pu
 section c =
     let q = c .before .before .before .before .before in
     let e = parted (q .before .before .before .before .before) .before .section-of .ensures in
-    told-behind (class q) [] e _ _ (omega (arith, start3 c .pre .0)) (c .put-spaced3 .ensures)
+    told-behind (class q) [] (line (start3 c) .section) _ _ (omega (arith, start3 c .pre .0)) (c .put-spaced3 .ensures) e
 
 -- behind the fourth
 abbrev start4 : tie.After-put-spaced4 → tie.Start
@@ -57,7 +56,7 @@ language : (c : tie.After-put-spaced4) → Stands (start4 c) 44 to-language (c .
 language c =
     let q = c .before .before .before .before .before in
     let e = parted (q .before .before .before .before .before .before .before .before .before .before) .language-of .ensures in
-    told-behind (section q) [] e _ _ (omega (arith, start4 c .pre .0)) (c .put-spaced4 .ensures)
+    told-behind (section q) [] (line (start4 c) .language) _ _ (omega (arith, start4 c .pre .0)) (c .put-spaced4 .ensures) e
 
 -- behind the fifth
 abbrev start5 : tie.After-put-spaced5 → tie.Start
