@@ -17,22 +17,22 @@ use Rattle.packing.proofs.TableLaws.{every-at}
 use Rattle.packing.proofs.Packings.{Packs, packs-is, row-cell, bytes-at, bytes-room}
 use Rattle.book.specs.declared.Frame.{Frame}
 use Rattle.book.specs.Books.{Line, no-line}
-use Rattle.book.specs.Layout.{code-of, line-form, line-of, row-of-line}
+use Rattle.book.specs.Layout.{Line-lies, bytes-of-line, code-of, line-form, line-of, line-width, row-of-line}
 use Rattle.book.specs.Sanity.{in-range, line-ok}
 use Rattle.book.proofs.Forms.{Ranged, ranged, line-laws}
 
 -- ---- a line whose fields are in range
 -- is the line of its code
-pub line-is : (nodes : ℕ) (x : Line) → Ranged nodes x → x ≡ line-of (x .node) (code-of x) (x .bytes)
-line-is nodes x r =
+pub line-is : {nodes : ℕ} {x : Line} → Ranged nodes x → x ≡ line-of (x .node) (code-of x) (x .bytes)
+line-is {nodes} {x} r =
     let a : code-of x % 32 / 4 ≡ x .class = omega arith in
     let b : code-of x % 4 / 2 ≡ x .section = omega arith in
     let c : code-of x % 2 ≡ x .language = omega arith in
     let d : code-of x / 32 ≡ x .struck = omega arith in
     simp (a, b, c, d)
 
-pub code-below : (nodes : ℕ) (x : Line) → Ranged nodes x → code-of x < 64
-code-below nodes x r = omega arith
+pub code-below : {nodes : ℕ} {x : Line} → Ranged nodes x → code-of x < 64
+code-below r = omega arith
 
 -- and has few bytes
 pub short-bytes : (nodes : ℕ) (x : Line) → in-range nodes x ≡ true → length (x .bytes) ≤ token-limit
@@ -58,14 +58,12 @@ lines-in-range frame (x ∷ xs) w =
     rw (line-in-range frame x (h .0)) (lines-in-range frame xs (h .1))
 
 -- ---- what a row tells
--- what row i tells, which starts at `at`: its numbers lie within the rows, its bytes within the pool, and they are those of line i, which is right
-pub record Row (frame : Frame) (n : ℕ) (l m : List ℕ) (i at : ℕ) : Type 0 where
-  pub within : at + 4 ≤ length l
-  pub room : getD l (at + 2) 0 + getD l (at + 3) 0 ≤ length m
-  pub node : getD l at 0 ≡ getD (things line-form n l m) i no-line .node
-  pub code : getD l (at + 1) 0 ≡ code-of (getD (things line-form n l m) i no-line)
-  pub bytes : take (getD l (at + 3) 0) (drop (getD l (at + 2) 0) m) ≡ getD (things line-form n l m) i no-line .bytes
-  pub size : getD l (at + 3) 0 ≡ length (getD (things line-form n l m) i no-line .bytes)
+-- what the row of line i tells: it lies within the rows, and its bytes within the pool; its numbers and bytes are those of line i, which is right
+pub record Row (frame : Frame) (n : ℕ) (l m : List ℕ) (i : ℕ) : Type 0 where
+  pub lies : Line-lies l m i
+  pub node : getD l (line-width * i) 0 ≡ getD (things line-form n l m) i no-line .node
+  pub code : getD l (line-width * i + 1) 0 ≡ code-of (getD (things line-form n l m) i no-line)
+  pub bytes : bytes-of-line l m i ≡ getD (things line-form n l m) i no-line .bytes
   pub right : line-ok frame (getD (things line-form n l m) i no-line) ≡ true
 
 module _ (frame : Frame) (n p : ℕ) (l m : List ℕ) (g : packs line-form (line-ok frame) n p l m ≡ true) where
@@ -75,52 +73,78 @@ module _ (frame : Frame) (n p : ℕ) (l m : List ℕ) (g : packs line-form (line
   pub lines-count : length (things line-form n l m) ≡ n
   lines-count = sym (lines-packed .count)
 
-  pub line-row : (i : ℕ) → i < n → Row frame n l m i (4 * i)
+  pub line-row : (i : ℕ) → i < n → Row frame n l m i
   unfolding line-form
   line-row i h =
       let t = lines-packed in
       let xs : List Line = things line-form n l m in
       let w : i < length xs = omega (arith, t .count) in
       let o : ℕ = length (packed line-form (take i xs)) in
-      let a : getD l (4 * i + 0) 0 ≡ getD xs i no-line .node = row-cell line-form (line-laws frame) n p l m xs t i no-line w 0 (omega arith) in
-      let z : 4 * i + 0 ≡ 4 * i = omega arith in
-      let b : getD l (4 * i + 2) 0 ≡ o = row-cell line-form (line-laws frame) n p l m xs t i no-line w 2 (omega arith) in
-      let c : getD l (4 * i + 3) 0 ≡ length (getD xs i no-line .bytes) = row-cell line-form (line-laws frame) n p l m xs t i no-line w 3 (omega arith) in
+      let a : getD l (line-width * i + 0) 0 ≡ getD xs i no-line .node = row-cell line-form (line-laws frame) n p l m xs t i no-line w 0 (omega arith) in
+      let z : line-width * i + 0 ≡ line-width * i = omega arith in
+      let b : getD l (line-width * i + 2) 0 ≡ o = row-cell line-form (line-laws frame) n p l m xs t i no-line w 2 (omega arith) in
+      let c : getD l (line-width * i + 3) 0 ≡ length (getD xs i no-line .bytes) = row-cell line-form (line-laws frame) n p l m xs t i no-line w 3 (omega arith) in
       record {
-        within = omega (arith, t .rowroom);
-        room = omega (arith, b, c, bytes-room line-form (line-laws frame) n p l m xs t i no-line w);
+        lies = record {
+          within = omega (arith, t .rowroom);
+          room = omega (arith, b, c, bytes-room line-form (line-laws frame) n p l m xs t i no-line w);
+        };
         node = ap (λ (k : ℕ). getD l k 0) (sym z) ∙ a;
         code = row-cell line-form (line-laws frame) n p l m xs t i no-line w 1 (omega arith);
         bytes = ap₂ (λ (u v : ℕ). take u (drop v m)) c b ∙ bytes-at line-form (line-laws frame) n p l m xs t i no-line w;
-        size = c;
         right = every-at (line-ok frame) xs i no-line (t .all) w;
       }
 
-  pub row-at : (i at : ℕ) → at ≡ 4 * i → i < n → Row frame n l m i at
-  row-at i at e h = rw e (line-row i h)
-
-module _ (frame : Frame) (n : ℕ) (l m : List ℕ) (i at : ℕ) (r : Row frame n l m i at) where
+module _ {frame : Frame} {n : ℕ} {l m : List ℕ} {i : ℕ} (r : Row frame n l m i) where
   pub row-ranged : Ranged (frame .nodes) (getD (things line-form n l m) i no-line)
   row-ranged = ranged (frame .nodes) _ (line-in-range frame _ (r .right))
 
-  -- its code, and its bytes, are below their limits
-  pub row-code : getD l (at + 1) 0 < 64
-  row-code = rw (r .code) (code-below (frame .nodes) _ row-ranged)
+  -- its node is one of the frame's, and its code and its bytes are below their limits
+  pub row-node : getD l (line-width * i) 0 < frame .nodes
+  row-node = rw (r .node) (row-ranged .node)
 
-  pub row-short : getD l (at + 3) 0 ≤ token-limit
-  row-short = rw (r .size) (short-bytes (frame .nodes) _ (line-in-range frame _ (r .right)))
+  pub row-code : getD l (line-width * i + 1) 0 < 64
+  row-code = rw (r .code) (code-below row-ranged)
 
-  -- its bytes, as the part of the pool from their start to their end
-  pub row-bytes : take (getD l (at + 2) 0 + getD l (at + 3) 0 - getD l (at + 2) 0) (drop (getD l (at + 2) 0) m) ≡ getD (things line-form n l m) i no-line .bytes
-  row-bytes =
-      let e : getD l (at + 2) 0 + getD l (at + 3) 0 - getD l (at + 2) 0 ≡ getD l (at + 3) 0 = omega arith in
-      ap (λ (k : ℕ). take k (drop (getD l (at + 2) 0) m)) e ∙ r .bytes
+  pub row-short : length (bytes-of-line l m i) ≤ token-limit
+  row-short = rw (r .bytes) (short-bytes (frame .nodes) _ (line-in-range frame _ (r .right)))
 
   -- the line is that of the row's numbers, with these bytes
-  pub row-line : getD (things line-form n l m) i no-line ≡ line-of (getD l at 0) (getD l (at + 1) 0) (getD (things line-form n l m) i no-line .bytes)
-  row-line = line-is (frame .nodes) _ row-ranged ∙ ap₂ (λ (u v : ℕ). line-of u v (getD (things line-form n l m) i no-line .bytes)) (sym (r .node)) (sym (r .code))
+  pub row-line : line-of (getD l (line-width * i) 0) (getD l (line-width * i + 1) 0) (bytes-of-line l m i) ≡ getD (things line-form n l m) i no-line
+  row-line = rw (r .node, r .code, r .bytes) (sym (line-is row-ranged))
+
+-- ---- a walk through the rows
+-- it stands at line i of n, whose rows and bytes are packed
+pub record Walk (frame : Frame) (n p : ℕ) (l m : List ℕ) (i : ℕ) : Type 0 where
+  pub packing : packs line-form (line-ok frame) n p l m ≡ true
+  pub whole : line-width * n ≤ length l
+  pub within : i ≤ n
+
+module _ {frame : Frame} {n p : ℕ} {l m : List ℕ} where
+  pub walk-starts : packs line-form (line-ok frame) n p l m ≡ true → Walk frame n p l m 0
+  unfolding line-form
+  walk-starts g = record { packing = g; whole = omega (arith, lines-packed frame n p l m g .rowroom); within = omega arith }
+
+  module _ {i : ℕ} (z : Walk frame n p l m i) where
+    pub walk-row : i < n → Row frame n l m i
+    walk-row h = line-row frame n p l m (z .packing) i h
+
+    pub walk-on : i < n → Walk frame n p l m (i + 1)
+    walk-on h = record { packing = z .packing; whole = z .whole; within = omega arith }
+
+    pub walk-count : length (things line-form n l m) ≡ n
+    walk-count = lines-count frame n p l m (z .packing)
+
+    pub walk-ranged : every (in-range (frame .nodes)) (things line-form n l m) ≡ true
+    walk-ranged = lines-in-range frame _ (lines-packed frame n p l m (z .packing) .all)
 
 -- ---- a row put store by store
 pub row-stored : (l : List ℕ) (at node code start size : ℕ) → at + 4 ≤ length l
     → set (set (set (set l at node) (at + 1) code) (at + 2) start) (at + 3) size ≡ paste l at (row-of-line node code start size) 4
 row-stored l at node code start size h = rw (add-one, add-two, add-three) (sets-eq (row-of-line node code start size) l at h)
+
+-- ---- the bytes between a start and an end
+pub part-sized : (start size : ℕ) (m : List ℕ) → take (start + size - start) (drop start m) ≡ take size (drop start m)
+part-sized start size m =
+    let e : start + size - start ≡ size = omega arith in
+    rw e

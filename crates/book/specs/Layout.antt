@@ -1,9 +1,9 @@
 -- How a book stands in lent buffers, as 01 has it under 'The book'. Assumes nothing.
-use Prim.Native.Nat.{ℕ, _+_, _*_, _/_, _%_}
+use Prim.Native.Nat.{ℕ, _+_, _*_, _/_, _%_, _≤_}
 use mathlib.Core.List.{List, [], _∷_}
 use mathlib.Core.Bool.{Bool, true}
 use lib.Dec.{eqb, leb}
-use lib.ListN.{length, getD}
+use lib.ListN.{length, drop, getD, take}
 use Rattle.packing.specs.Padding.{pad}
 use Rattle.packing.specs.Tables.{Form, rows, packed}
 use Rattle.book.specs.declared.Counts.{Counts}
@@ -13,6 +13,15 @@ use Rattle.book.specs.Books.{Node, Line, Edit, Book, frame-with}
 -- "nodes (u32, three per node: name start, length, parent number or 0), names (bytes)"
 abbrev pub node-width : ℕ
 node-width = 3
+
+-- the row of node i lies within the nodes, and its name within the names
+pub record Node-lies (l m : List ℕ) (i : ℕ) : Type 0 where
+  pub within : node-width * i + node-width ≤ length l
+  pub room : getD l (node-width * i) 0 + getD l (node-width * i + 1) 0 ≤ length m
+
+-- this name
+abbrev pub name-of-node : List ℕ → List ℕ → ℕ → List ℕ
+name-of-node l m i = take (getD l (node-width * i + 1) 0) (drop (getD l (node-width * i) 0) m)
 
 unfoldable pub node-form : Form Node
 node-form = record {
@@ -65,6 +74,15 @@ line-of node code bs = record {
 -- a line's row
 abbrev pub row-of-line : ℕ → ℕ → ℕ → ℕ → List ℕ
 row-of-line node code start size = node ∷ code ∷ start ∷ size ∷ []
+
+-- the row of line i lies within the lines, and its bytes within the pool
+pub record Line-lies (l m : List ℕ) (i : ℕ) : Type 0 where
+  pub within : line-width * i + line-width ≤ length l
+  pub room : getD l (line-width * i + 2) 0 + getD l (line-width * i + 3) 0 ≤ length m
+
+-- these bytes
+abbrev pub bytes-of-line : List ℕ → List ℕ → ℕ → List ℕ
+bytes-of-line l m i = take (getD l (line-width * i + 3) 0) (drop (getD l (line-width * i + 2) 0) m)
 
 unfoldable pub line-form : Form Line
 line-form = record {

@@ -5,7 +5,7 @@ ghost use Rattle.packing.specs.Tables.{packs, things};
 ghost use Rattle.book.specs.Books.{first-named, found};
 ghost use Rattle.book.specs.Layout.{node-form};
 ghost use Rattle.book.specs.View.{any-node};
-use crate::NODE_WIDTH;
+use crate::rows::node_name;
 use linker_script::Found;
 use packing::same_bytes;
 
@@ -15,14 +15,10 @@ pub fn first_named(nodes: &[u32], names: &[u8], n: usize, p: usize, name: &[u8])
     ensures { λ r. ⌜ r ≡ found (first-named (things node-form n (now (nodes .entry)) (now (names .entry))) 0 (now (name .entry))) ⌝ }
 {
     let mut i = 0;
-    let mut at = 0;
     while i < n {
-        let start = nodes[at] as usize;
-        let end = start + (nodes[at + 1] as usize);
-        if same_bytes(&names[start..end], name) {
+        if same_bytes(node_name(nodes, names, i), name) {
             return Found::Here(i);
         }
-        at += NODE_WIDTH;
         i += 1;
     }
     Found::Nowhere

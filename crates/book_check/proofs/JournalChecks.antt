@@ -220,10 +220,10 @@ pub record Backward (l ps j : List ℕ) (n e : ℕ) (gs : List ℕ) (m t : ℕ) 
   pub edits : t ≤ e
   pub goes : journal-fits (things edit-form e j []) (things line-form n l ps) ≡ all-stand (all-back (take t (things edit-form e j [])) (lines-back l ps gs m))
 
-module _ (l ps j : List ℕ) (n e : ℕ) where
-  pub backward-starts : (gs : List ℕ) → n ≤ length gs → gs ≡ zeros (length gs) → Backward l ps j n e gs n e
+module _ {l ps j : List ℕ} {n e : ℕ} where
+  pub backward-starts : {gs : List ℕ} → n ≤ length gs → gs ≡ zeros (length gs) → Backward l ps j n e gs n e
   unfolding journal-fits
-  backward-starts gs h k =
+  backward-starts {gs} h k =
       let a : things line-form n l ps ≡ lines-back l ps gs n = sym (ap (λ (g : List ℕ). lines-back l ps g n) k ∙ again-none (length gs) (things line-form n l ps)) in
       let b : take e (things edit-form e j []) ≡ things edit-form e j [] = take-all e (things edit-form e j []) (omega (arith, length-things edit-form e j [])) in
       record {
@@ -233,10 +233,10 @@ module _ (l ps j : List ℕ) (n e : ℕ) where
         goes = ap₂ (λ (es : List Edit) (ls : List Line). all-stand (all-back es ls)) (sym b) a;
       }
 
-  module _ (gs : List ℕ) (m t : ℕ) (z : Backward l ps j n e gs m t) where
-    pub backward-ends : (r : Bool) → t ≤ 0 → r ≡ every stands (lines-back l ps gs m) → r ≡ journal-fits (things edit-form e j []) (things line-form n l ps)
+  module _ {gs : List ℕ} {m t : ℕ} (z : Backward l ps j n e gs m t) where
+    pub backward-ends : {r : Bool} → t ≤ 0 → r ≡ every stands (lines-back l ps gs m) → r ≡ journal-fits (things edit-form e j []) (things line-form n l ps)
     unfolding all-back
-    backward-ends r h k =
+    backward-ends h k =
         let q : t ≡ 0 = omega arith in
         k ∙ sym (z .goes ∙ rw q)
 
@@ -293,7 +293,7 @@ module _ (l ps j : List ℕ) (n e : ℕ) where
         unfolding take-back add-back
         add-early w f = refused (rw (eq-eqb what 1 w, count, ne-eqb m (line + 1) f))
 
-        module _ (r : Bool) (k : r ≡ stands-back l gs line) where
+        module _ {r : Bool} (k : r ≡ stands-back l gs line) where
           stood : stands (line-at (lines-back l ps gs m) line) ≡ r
           stood = stands-is l ps gs m long-now line h ∙ sym k
 

@@ -34,11 +34,11 @@ row-number l i at j e = getD-drop (4 * i) l j 0 ∙ ap (λ (k : ℕ). getD l (k 
 row-first : (l : List ℕ) (i at : ℕ) → at ≡ 4 * i → getD (drop (4 * i) l) 0 0 ≡ getD l at 0
 row-first l i at e = let z : at + 0 ≡ at = omega arith in row-number l i at 0 e ∙ ap (λ (k : ℕ). getD l k 0) z
 
-module _ (frame : Frame) (l ps : List ℕ) (n p : ℕ) where
+module _ {frame : Frame} {l ps : List ℕ} {n p : ℕ} where
   pub lines-start : Lined frame l ps n p 0 0 0
   lines-start = record { within = omega arith; place = omega arith; upto = omega arith; goes = left-all line-form (line-ok frame) p n l ps }
 
-  module _ (i at o : ℕ) (z : Lined frame l ps n p i at o) where
+  module _ {i at o : ℕ} (z : Lined frame l ps n p i at o) where
     module _ (room : 4 * n ≤ length l) (more : i < n) where
       sized : size-at line-form i l ≡ getD l (at + 3) 0
       unfolding line-form
@@ -60,7 +60,7 @@ module _ (frame : Frame) (l ps : List ℕ) (n p : ℕ) where
         unfolding line-form
         size-wrong h = sym (z .goes ∙ size-bad line-form (line-ok frame) p n l ps i o more room (started s) (omega (arith, sized)))
 
-        module _ (h : getD l (at + 3) 0 ≤ p - o) (r : Bool)
+        module _ (h : getD l (at + 3) 0 ≤ p - o) {r : Bool}
             (t : r ≡ line-ok frame (line-of (getD l at 0) (getD l (at + 1) 0) (take (o + getD l (at + 3) 0 - o) (drop o ps)))) where
           -- the line that the row and its bytes are
           lined : r ≡ line-ok frame (thing-at line-form i o l ps)
@@ -93,13 +93,14 @@ module _ (frame : Frame) (l ps : List ℕ) (n p : ℕ) where
       pub end-wrong : (o ≡ p → ⊥) → false ≡ fine line-form (line-ok frame) p n 0 l ps
       end-wrong f = sym (z .goes ∙ end-bad line-form (line-ok frame) p n l ps i o (omega (arith, z .within)) f)
 
-      pub lines-end : (r : Bool) → o ≡ p → r ≡ all-zero (drop at l) → r ≡ fine line-form (line-ok frame) p n 0 l ps
+      pub lines-end : {r : Bool} → o ≡ p → r ≡ all-zero (drop at l) → r ≡ fine line-form (line-ok frame) p n 0 l ps
       unfolding line-form
-      lines-end r f e =
+      lines-end f e =
           let k : at ≡ 4 * n = omega (arith, z .within, z .place) in
           e ∙ ap (λ (m : ℕ). all-zero (drop m l)) k ∙ sym (z .goes ∙ end-good line-form (line-ok frame) p n l ps i o (omega (arith, z .within)) f)
 
-  -- ---- the test of the packing, from its parts
+-- ---- the test of the packing, from its parts
+module _ (frame : Frame) (l ps : List ℕ) (n p : ℕ) where
   pub pool-short : length ps < p → false ≡ packs line-form (line-ok frame) n p l ps
   pool-short h = packs-no line-form (line-laws frame) n p l ps (λ t. omega (arith, t .byteroom))
 
@@ -141,12 +142,12 @@ pub record Starring (l ps : List ℕ) (n i at : ℕ) : Type 0 where
   pub place : at ≡ 4 * i
   pub goes : some-star (things line-form n l ps) ≡ some-star (drop i (things line-form n l ps))
 
-module _ (l ps : List ℕ) (n : ℕ) where
+module _ {l ps : List ℕ} {n : ℕ} where
   pub stars-start : Starring l ps n 0 0
   stars-start = record { within = omega arith; place = omega arith; goes = refl }
 
-  module _ (i at : ℕ) (z : Starring l ps n i at) where
-    module _ (more : i < n) (r : Bool) (k : r ≡ bare-star (line-of 0 (getD l (at + 1) 0) [])) where
+  module _ {i at : ℕ} (z : Starring l ps n i at) where
+    module _ (more : i < n) {r : Bool} (k : r ≡ bare-star (line-of 0 (getD l (at + 1) 0) [])) where
       here : bare-star (getD (things line-form n l ps) i no-line) ≡ r
       unfolding bare-star
       here =

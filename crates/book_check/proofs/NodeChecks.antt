@@ -23,12 +23,12 @@ use Rattle.reading_tokens.specs.Tokens.{named}
 use Rattle.linker_script.specs.declared.Found.{Found}
 use Rattle.linker_script.specs.declared.Found.the-variants.{Here, Nowhere}
 use Rattle.book.specs.Books.{Node, first-named, found, no-node}
-use Rattle.book.specs.Layout.{node-form}
+use Rattle.book.specs.Layout.{Node-lies, name-of-node, node-form, node-width}
 use Rattle.book.specs.Sanity.{is-number, name-good, named-good, no-semicolon, nodes-good, parent-good}
 use Rattle.book.specs.View.{any-node}
 use Rattle.book.proofs.Forms.{node-laws}
 use Rattle.book.proofs.FirstNamed.{found-here, found-nowhere}
-use Rattle.book.proofs.NodeRows.{Row, told-name, node-row, row-at, row-name, nodes-count}
+use Rattle.book.proofs.NodeRows.{Row, Walk, node-row, nodes-count, walk-count, walk-on, walk-row, walk-stands}
 
 -- ---- a test of each byte: what is left from i on decides
 module _ (ok : ℕ → Bool) (s : List ℕ) (i : ℕ) (z : every ok s ≡ every ok (drop i s)) where
@@ -182,15 +182,21 @@ module _ (xs : List Node) (i p : ℕ) where
   parent-early h w = passes-on (parent-good xs i p) (ltb p i) _ (parent-parts h) (lt-ltb p i w)
 
 module _ (n b : ℕ) (l m : List ℕ) (g : packs node-form any-node n b l m ≡ true) (i p : ℕ) (h : i ≤ n) (w : p < i) where
-  pub parent-row : Row n b l m g p (3 * p)
+  parent-row : Row n l m p
   parent-row = node-row n b l m g p (omega arith)
 
-  module _ (o : Found) (y : p ≡ 0 → ⊥) (e : o ≡ found (first-named (things node-form n l m) 0 (told-name l m (3 * p)))) where
+  pub parent-lies : Node-lies l m p
+  parent-lies = parent-row .lies
+
+  module _ (t : List ℕ) (a : t ≡ name-of-node l m p) (o : Found) (y : p ≡ 0 → ⊥) (e : o ≡ found (first-named (things node-form n l m) 0 t)) where
+    name-is : t ≡ getD (things node-form n l m) p no-node .name
+    name-is = a ∙ parent-row .name
+
     abbrev first : Option ℕ
     first = first-named (things node-form n l m) 0 (getD (things node-form n l m) p no-node .name)
 
     parent-first : o ≡ found first
-    parent-first = e ∙ ap (λ (s : List ℕ). found (first-named (things node-form n l m) 0 s)) (row-name n b l m g p (3 * p) parent-row)
+    parent-first = e ∙ ap (λ (s : List ℕ). found (first-named (things node-form n l m) 0 s)) name-is
 
     none-told : o ≡ Nowhere → is-number p first ≡ false
     none-told v = rw (found-nowhere o first parent-first v)
@@ -207,15 +213,14 @@ module _ (n b : ℕ) (l m : List ℕ) (g : packs node-form any-node n b l m ≡ 
     parent-again q v f = sym (first-fails _ _ _ (parent-early (things node-form n l m) i p y w) (number-told q v ∙ ne-eqb q p f))
 
     -- it is the first, and its name's bytes decide
-    pub parent-ends : (q : ℕ) (r : Bool) → o ≡ Here q → q ≡ p → r ≡ every no-semicolon (told-name l m (3 * p)) → r ≡ parent-good (things node-form n l m) i p
+    pub parent-ends : (q : ℕ) (r : Bool) → o ≡ Here q → q ≡ p → r ≡ every no-semicolon t → r ≡ parent-good (things node-form n l m) i p
     parent-ends q r v f d =
-        d ∙ ap (every no-semicolon) (row-name n b l m g p (3 * p) parent-row)
+        d ∙ ap (every no-semicolon) name-is
         ∙ sym (passes-on _ _ _ (parent-early (things node-form n l m) i p y w) (number-told q v ∙ eq-eqb q p f))
 
--- ---- the nodes: what is left from node i on, whose row starts at `at`, decides
-pub record Judging (n : ℕ) (l m : List ℕ) (i at : ℕ) : Type 0 where
-  pub within : i ≤ n
-  pub place : at ≡ 3 * i
+-- ---- the nodes: what is left from node i on decides
+pub record Judging (n p : ℕ) (l m : List ℕ) (i : ℕ) : Type 0 where
+  pub walk : Walk n p l m i
   pub goes : nodes-good (things node-form n l m) ≡ named-good (things node-form n l m) i (drop i (things node-form n l m))
 
 -- the first of some nodes, and the nodes behind it
@@ -237,14 +242,21 @@ unfolding nodes-good things
 nodes-none n l m e = rw e
 
 module _ (n p : ℕ) (l m : List ℕ) (g : packs node-form any-node n p l m ≡ true) where
-  pub root-row : (n ≡ 0 → ⊥) → Row n p l m g 0 0
-  root-row y = row-at n p l m g 0 0 (omega arith) (omega arith)
+  root-row : (n ≡ 0 → ⊥) → Row n l m 0
+  root-row y = node-row n p l m g 0 (omega arith)
+
+  -- its numbers lie within the rows
+  pub root-first : (n ≡ 0 → ⊥) → 1 < length l
+  root-first y = omega (arith, root-row y .lies .within)
+
+  pub root-second : (n ≡ 0 → ⊥) → 2 < length l
+  root-second y = omega (arith, root-row y .lies .within)
 
   module _ (y : n ≡ 0 → ⊥) where
     root-long : length (getD (things node-form n l m) 0 no-node .name) ≡ getD l 1 0
     root-long =
         let r = root-row y in
-        sym (ap length (r .name)) ∙ length-take-le (getD l 1 0) (drop (getD l 0 0) m) (omega (arith, r .room, length-drop (getD l 0 0) m))
+        sym (ap length (r .name)) ∙ length-take-le (getD l 1 0) (drop (getD l 0 0) m) (omega (arith, r .lies .room, length-drop (getD l 0 0) m))
 
     root-is : nodes-good (things node-form n l m)
         ≡ (eqb (getD l 1 0) 0 && (eqb (getD l 2 0) 0 && named-good (things node-form n l m) 1 (drop 1 (things node-form n l m))))
@@ -260,39 +272,37 @@ module _ (n p : ℕ) (l m : List ℕ) (g : packs node-form any-node n p l m ≡ 
     root-below e f = sym (first-fails _ _ _ (passes-on _ _ _ root-is (eq-eqb _ _ e)) (ne-eqb _ _ f))
 
     -- it has neither, and the nodes behind it decide
-    pub nodes-start : getD l 1 0 ≡ 0 → getD l 2 0 ≡ 0 → Judging n l m 1 3
+    pub nodes-start : getD l 1 0 ≡ 0 → getD l 2 0 ≡ 0 → Judging n p l m 1
     nodes-start e f = record {
-      within = omega arith;
-      place = omega arith;
+      walk = walk-stands g (omega arith);
       goes = passes-on _ _ _ (passes-on _ _ _ root-is (eq-eqb _ _ e)) (eq-eqb _ _ f);
     }
 
-  module _ (i at : ℕ) (z : Judging n l m i at) where
-    pub judged-row : i < n → Row n p l m g i at
-    judged-row h = row-at n p l m g i at (z .place) h
+module _ {n p : ℕ} {l m : List ℕ} {i : ℕ} (z : Judging n p l m i) where
+  module _ (h : i < n) where
+    pub judged-lies : Node-lies l m i
+    judged-lies = walk-row (z .walk) h .lies
 
-    module _ (r : Bool) (h : i < n) (e : r ≡ name-good (told-name l m at)) where
+    module _ {t : List ℕ} (a : t ≡ name-of-node l m i) {r : Bool} (e : r ≡ name-good t) where
       node-is : nodes-good (things node-form n l m)
-          ≡ (r && (parent-good (things node-form n l m) i (getD l (at + 2) 0) && named-good (things node-form n l m) (i + 1) (drop (i + 1) (things node-form n l m))))
+          ≡ (r && (parent-good (things node-form n l m) i (getD l (node-width * i + 2) 0) && named-good (things node-form n l m) (i + 1) (drop (i + 1) (things node-form n l m))))
       node-is =
-          let w = judged-row h in
-          z .goes ∙ node-parts (things node-form n l m) i (omega (arith, nodes-count n p l m g))
-          ∙ rw (← w .parent, e, row-name n p l m g i at w)
+          z .goes ∙ node-parts (things node-form n l m) i (omega (arith, walk-count (z .walk)))
+          ∙ rw (← walk-row (z .walk) h .parent, e, a, walk-row (z .walk) h .name)
 
       pub node-misnamed : not r ≡ true → false ≡ nodes-good (things node-form n l m)
       node-misnamed f = sym (first-fails _ _ _ node-is (not-true r f))
 
-      module _ (q : Bool) (d : q ≡ parent-good (things node-form n l m) i (getD l (at + 2) 0)) (f : not r ≡ false) where
+      module _ {q : Bool} (d : q ≡ parent-good (things node-form n l m) i (getD l (node-width * i + 2) 0)) (f : not r ≡ false) where
         pub node-misplaced : not q ≡ true → false ≡ nodes-good (things node-form n l m)
         node-misplaced k = sym (first-fails _ _ _ (passes-on _ _ _ node-is (not-false r f)) (sym d ∙ not-true q k))
 
-        pub nodes-more : not q ≡ false → Judging n l m (i + 1) (at + 3)
+        pub nodes-more : not q ≡ false → Judging n p l m (i + 1)
         nodes-more k = record {
-          within = omega arith;
-          place = omega (arith, z .place);
+          walk = walk-on (z .walk) h;
           goes = passes-on _ _ _ (passes-on _ _ _ node-is (not-false r f)) (sym d ∙ not-false q k);
         }
 
-    pub nodes-end : n ≤ i → true ≡ nodes-good (things node-form n l m)
-    unfolding named-good
-    nodes-end h = sym (z .goes ∙ rw (drop-of-length-le (things node-form n l m) {i = i} (omega (arith, nodes-count n p l m g))))
+  pub nodes-end : n ≤ i → true ≡ nodes-good (things node-form n l m)
+  unfolding named-good
+  nodes-end h = sym (z .goes ∙ rw (drop-of-length-le (things node-form n l m) {i = i} (omega (arith, walk-count (z .walk)))))

@@ -13,6 +13,7 @@ ghost use Rattle.book.specs.Sanity.{name-good, no-semicolon, nodes-good, parent
 ghost use Rattle.book.specs.View.{any-node};
 use book::NODE_WIDTH;
 use book::nodes::first_named;
+use book::rows::node_name;
 use linker_script::Found;
 use linker_script::byte_at;
 use packing::zero_bytes;
@@ -128,16 +129,14 @@ fn is_parent(nodes: &[u32], names: &[u8], n: usize, bytes: usize, i: usize, p: u
     if i <= q {
         return false;
     }
-    let at = NODE_WIDTH * q;
-    let start = nodes[at] as usize;
-    let end = start + (nodes[at + 1] as usize);
-    match first_named(nodes, names, n, bytes, &names[start..end]) {
+    let name = node_name(nodes, names, q);
+    match first_named(nodes, names, n, bytes, name) {
         Found::Nowhere => false,
         Found::Here(first) => {
             if first != q {
                 return false;
             }
-            has_no_semicolon(&names[start..end])
+            has_no_semicolon(name)
         }
     }
 }
@@ -157,17 +156,13 @@ pub fn nodes_good(nodes: &[u32], names: &[u8], n: usize, p: usize) -> bool
         return false;
     }
     let mut i = 1;
-    let mut at = NODE_WIDTH;
     while i < n {
-        let start = nodes[at] as usize;
-        let end = start + (nodes[at + 1] as usize);
-        if !is_name(&names[start..end]) {
+        if !is_name(node_name(nodes, names, i)) {
             return false;
         }
-        if !is_parent(nodes, names, n, p, i, nodes[at + 2]) {
+        if !is_parent(nodes, names, n, p, i, nodes[NODE_WIDTH * i + 2]) {
             return false;
         }
-        at += NODE_WIDTH;
         i += 1;
     }
     true

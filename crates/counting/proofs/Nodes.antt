@@ -134,8 +134,18 @@ module _ (c : Counts) (n m l p j : List ℕ) (x : Bool) (e : x ≡ holds c (five
       node-missing i w = rw (held .viewed, ne-eqb _ _ k, held .count, le-ltb _ _ w)
 
       module _ (i : ℕ) (w : i < c .nodes) where
-        pub node-within : 3 * i + 3 ≤ length n
-        node-within = node-row (c .nodes) (c .names) n m (held .nodes) i w .within
+        -- its numbers lie within the rows
+        node-within : 3 * i + 3 ≤ length n
+        node-within = node-row (c .nodes) (c .names) n m (held .nodes) i w .lies .within
+
+        pub start-within : 3 * i < length n
+        start-within = omega (arith, node-within)
+
+        pub length-within : 3 * i + 1 < length n
+        length-within = omega (arith, node-within)
+
+        pub parent-within : 3 * i + 2 < length n
+        parent-within = omega (arith, node-within)
 
         abbrev xs : List Node
         xs = things node-form (c .nodes) n m

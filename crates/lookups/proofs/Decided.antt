@@ -13,9 +13,9 @@ use Rattle.lists.specs.Each.{every}
 use Rattle.packing.specs.Tables.{packs, things}
 use Rattle.book.specs.declared.Frame.{Frame}
 use Rattle.book.specs.Books.{Line, edition-of, no-line}
-use Rattle.book.specs.Layout.{line-form, section-in}
+use Rattle.book.specs.Layout.{Line-lies, line-form, line-width, section-in}
 use Rattle.book.specs.Sanity.{in-range, line-ok}
-use Rattle.book.proofs.LineRows.{Row, lines-count, lines-in-range, lines-packed, line-row, row-ranged}
+use Rattle.book.proofs.LineRows.{Row, lines-count, lines-in-range, lines-packed, line-row, row-node, row-ranged}
 use Rattle.ranking.specs.declared.Deciding.{Deciding}
 use Rattle.ranking.specs.declared.Deciding.the-variants as answer
 use Rattle.ranking.specs.Matching.{line-matches, name-of}
@@ -28,9 +28,9 @@ use Rattle.lookups.specs.declared.answers.Locality.the-variants as local
 use Rattle.lookups.specs.Lookups.{decided-locality, decided-version, node-version}
 
 -- the section that a row's code tells
-pub row-section : (frame : Frame) (n : ℕ) (l m : List ℕ) (i at : ℕ) → Row frame n l m i at
-    → section-in (getD l (at + 1) 0) ≡ getD (things line-form n l m) i no-line .section
-row-section frame n l m i at r = let g = row-ranged frame n l m i at r in omega (arith, r .code)
+pub row-section : {frame : Frame} {n : ℕ} {l m : List ℕ} {i : ℕ} → Row frame n l m i
+    → section-in (getD l (line-width * i + 1) 0) ≡ getD (things line-form n l m) i no-line .section
+row-section r = let g = row-ranged r in omega (arith, r .code)
 
 -- ---- the line that decides
 -- d is what the search answered, which was given the frame `given`
@@ -58,21 +58,24 @@ module _ (frame : Frame) (n p : ℕ) (l m raw demangled : List ℕ) (g : packs l
     one-found : found ≡ some i
     one-found = decided-line found d i w q
 
-    pub decider-row : Row frame n l m i (4 * i)
+    decider-row : Row frame n l m i
     decider-row =
         line-row frame n p l m g i
         (omega (arith, lines-count frame n p l m g, walk-decides (frame .nodes) (line-matches (edition-of frame) (name-of raw demangled)) xs in-order i .0 one-found .there))
 
-    pub decider-node : frame .nodes ≤ node-limit → getD l (4 * i) 0 < node-limit
-    decider-node f = let r = row-ranged frame n l m i (4 * i) decider-row in omega (arith, decider-row .node)
+    pub decider-lies : Line-lies l m i
+    decider-lies = decider-row .lies
 
-    pub decider-version : (v : Version) → v ≡ node-version (getD l (4 * i) 0) → v ≡ decided-version xs found
+    pub decider-node : frame .nodes ≤ node-limit → getD l (line-width * i) 0 < node-limit
+    decider-node f = omega (arith, row-node decider-row)
+
+    pub decider-version : (v : Version) → v ≡ node-version (getD l (line-width * i) 0) → v ≡ decided-version xs found
     decider-version v e = e ∙ rw (one-found, decider-row .node)
 
     -- its section is that of its code
-    module _ (section : ℕ) (k : section ≡ section-in (getD l (4 * i + 1) 0)) where
+    module _ (section : ℕ) (k : section ≡ section-in (getD l (line-width * i + 1) 0)) where
       section-is : section ≡ getD xs i no-line .section
-      section-is = k ∙ row-section frame n l m i (4 * i) decider-row
+      section-is = k ∙ row-section decider-row
 
       pub decider-global : section ≡ global → locality.Global ≡ decided-locality xs found
       decider-global h = rw (one-found, eq-eqb _ _ (sym section-is ∙ h))

@@ -1,5 +1,5 @@
 -- The version that is wanted by name (specs/Lookups.antt): the search for the last node of a name, from the last row backward. Assumes nothing.
-use Prim.Native.Nat.{ℕ, suc, _+_, _-_, _*_, _≤_, _<_}
+use Prim.Native.Nat.{ℕ, suc, _+_, _-_, _≤_, _<_}
 use mathlib.Core.Path.{_≡_, refl, sym, ap, _∙_}
 use mathlib.Core.List.{List, [], _∷_, _++_}
 use mathlib.Core.Bool.{Bool, true, false}
@@ -11,9 +11,9 @@ use Rattle.numbers.specs.Refusals.{unknown-version}
 use Rattle.lists.specs.Same.{same}
 use Rattle.packing.specs.Tables.{packs, things}
 use Rattle.book.specs.Books.{Node, no-node}
-use Rattle.book.specs.Layout.{node-form}
+use Rattle.book.specs.Layout.{Node-lies, name-of-node, node-form}
 use Rattle.book.specs.View.{any-node}
-use Rattle.book.proofs.NodeRows.{Row, nodes-count, row-at, row-name, told-name}
+use Rattle.book.proofs.NodeRows.{Row, Walk, nodes-count, walk-count, walk-row, walk-stands}
 use Rattle.lookups.specs.declared.answers.Version.{Version}
 use Rattle.lookups.specs.declared.answers.Version.the-variants as version
 use Rattle.lookups.specs.declared.index.VersionIndex.{VersionIndex}
@@ -33,57 +33,65 @@ last-before (y ∷ ys) x k t e = rw (last-before ys x (k + 1) t e)
 -- ---- row by row
 -- those from node i on have other names
 pub record Backward (n : ℕ) (l m t : List ℕ) (i : ℕ) : Type 0 where
-  pub within : i ≤ n
+  pub end : ℕ
+  pub walk : Walk n end l m i
   pub goes : last-named (things node-form n l m) 0 t ≡ last-named (take i (things node-form n l m)) 0 t
 
-module _ (n p : ℕ) (l m t : List ℕ) (g : packs node-form any-node n p l m ≡ true) where
-  abbrev xs : List Node
-  xs = things node-form n l m
-
-  pub back-starts : Backward n l m t n
-  back-starts = record {
-    within = omega arith;
-    goes = ap (λ (u : List Node). last-named u 0 t) (sym (take-all n xs (omega (arith, nodes-count n p l m g))));
+module _ {n : ℕ} {l m t : List ℕ} where
+  pub back-starts : (p : ℕ) → packs node-form any-node n p l m ≡ true → Backward n l m t n
+  back-starts p g = record {
+    end = p;
+    walk = walk-stands g (omega arith);
+    goes = ap (λ (u : List Node). last-named u 0 t) (sym (take-all n (things node-form n l m) (omega (arith, nodes-count n p l m g))));
   }
 
-  module _ (i : ℕ) (z : Backward n l m t i) (h : 0 < i) where
-    pub back-row : Row n p l m g (i - 1) (3 * (i - 1))
-    back-row = row-at n p l m g (i - 1) (3 * (i - 1)) refl (omega (arith, z .within))
+  module _ {i : ℕ} (z : Backward n l m t i) where
+    module _ (h : 0 < i) where
+      before : Walk n (z .end) l m (i - 1)
+      before = record { packing = z .walk .packing; whole = z .walk .whole; within = omega (arith, z .walk .within) }
 
-    counted : i - 1 < length xs
-    counted = omega (arith, z .within, nodes-count n p l m g)
+      back-row : Row n l m (i - 1)
+      back-row = walk-row before (omega (arith, z .walk .within))
 
-    cut : take i xs ≡ take (i - 1) xs ++ getD xs (i - 1) no-node ∷ []
-    cut =
-        let e : i ≡ suc (i - 1) = omega arith in
-        ap (λ (k : ℕ). take k xs) e ∙ take-suc xs (i - 1) no-node counted
+      pub back-lies : Node-lies l m (i - 1)
+      back-lies = back-row .lies
 
-    module _ (r : Bool) (e : r ≡ same (told-name l m (3 * (i - 1))) t) where
-      asked : r ≡ same (getD xs (i - 1) no-node .name) t
-      asked = e ∙ ap (λ (u : List ℕ). same u t) (row-name n p l m g (i - 1) (3 * (i - 1)) back-row)
+      counted : i - 1 < length (things node-form n l m)
+      counted = omega (arith, z .walk .within, walk-count before)
 
-      -- the node has the name
-      pub back-found : r ≡ true → (v : VersionIndex) → v ≡ index-of (node-number (i - 1)) → version.Index v ≡ known (last-named xs 0 t)
-      back-found y v q =
-          let k : 0 + length (take (i - 1) xs) ≡ i - 1 = omega (arith, length-take-le (i - 1) xs (omega (arith, counted))) in
-          let f : last-named xs 0 t ≡ some (i - 1)
-          = z .goes ∙ ap (λ (u : List Node). last-named u 0 t) cut ∙ last-here (take (i - 1) xs) (getD xs (i - 1) no-node) 0 t (sym asked ∙ y) ∙ ap some k in
-          rw (f, q)
+      cut : take i (things node-form n l m) ≡ take (i - 1) (things node-form n l m) ++ getD (things node-form n l m) (i - 1) no-node ∷ []
+      cut =
+          let e : i ≡ suc (i - 1) = omega arith in
+          ap (λ (k : ℕ). take k (things node-form n l m)) e ∙ take-suc (things node-form n l m) (i - 1) no-node counted
 
-      -- it has another, and the search goes on
-      pub back-more : r ≡ false → Backward n l m t (i - 1)
-      back-more y = record {
-        within = omega (arith, z .within);
-        goes = z .goes ∙ ap (λ (u : List Node). last-named u 0 t) cut ∙ last-before (take (i - 1) xs) (getD xs (i - 1) no-node) 0 t (sym asked ∙ y);
-      }
+      module _ {s : List ℕ} (b : s ≡ name-of-node l m (i - 1)) {r : Bool} (e : r ≡ same s t) where
+        asked : r ≡ same (getD (things node-form n l m) (i - 1) no-node .name) t
+        asked = e ∙ ap (λ (u : List ℕ). same u t) (b ∙ back-row .name)
 
-  -- none has it
-  pub back-ends : (i : ℕ) → Backward n l m t i → i ≤ 0 → version.Refused unknown-version ≡ known (last-named xs 0 t)
-  unfolding last-named
-  back-ends i z h =
-      let e : i ≡ 0 = omega arith in
-      let f : last-named xs 0 t ≡ none = z .goes ∙ ap (λ (k : ℕ). last-named (take k xs) 0 t) e in
-      rw f
+        -- the node has the name
+        pub back-found : r ≡ true → {v : VersionIndex} → v ≡ index-of (node-number (i - 1)) → version.Index v ≡ known (last-named (things node-form n l m) 0 t)
+        back-found y q =
+            let xs : List Node = things node-form n l m in
+            let k : 0 + length (take (i - 1) xs) ≡ i - 1 = omega (arith, length-take-le (i - 1) xs (omega (arith, counted))) in
+            let f : last-named xs 0 t ≡ some (i - 1)
+            = z .goes ∙ ap (λ (u : List Node). last-named u 0 t) cut ∙ last-here (take (i - 1) xs) (getD xs (i - 1) no-node) 0 t (sym asked ∙ y) ∙ ap some k in
+            rw (f, q)
+
+        -- it has another, and the search goes on
+        pub back-more : r ≡ false → Backward n l m t (i - 1)
+        back-more y = record {
+          end = z .end;
+          walk = before;
+          goes = z .goes ∙ ap (λ (u : List Node). last-named u 0 t) cut ∙ last-before _ _ 0 t (sym asked ∙ y);
+        }
+
+    -- none has it
+    pub back-ends : i ≤ 0 → version.Refused unknown-version ≡ known (last-named (things node-form n l m) 0 t)
+    unfolding last-named
+    back-ends h =
+        let e : i ≡ 0 = omega arith in
+        let f : last-named (things node-form n l m) 0 t ≡ none = z .goes ∙ ap (λ (k : ℕ). last-named (take k (things node-form n l m)) 0 t) e in
+        rw f
 
 -- ---- an empty version, or one to be known
 pub wanted-empty : (xs : List Node) (t : List ℕ) → length t ≡ 0 → version.Index global-index ≡ wanted-version xs t

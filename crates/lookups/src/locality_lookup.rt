@@ -18,6 +18,7 @@ use book::LINE_WIDTH;
 use book::RUST;
 use book::codes::section_of;
 use book::frame_of;
+use book::rows::line_bytes;
 use book_check::is_book;
 use numbers::GLOBAL;
 use numbers::NO_BOOK;
@@ -34,17 +35,13 @@ fn is_listed(c: Counts, lines: &[u32], pool: &[u8], name: &[u8]) -> bool
 {
     let n = c.lines as usize;
     let mut i = 0;
-    let mut at = 0;
     while i < n {
-        let here = at;
-        at += LINE_WIDTH;
+        let number = i;
         i += 1;
-        if section_of(lines[here + 1]) != GLOBAL {
+        if section_of(lines[LINE_WIDTH * number + 1]) != GLOBAL {
             continue;
         }
-        let start = lines[here + 2] as usize;
-        let end = start + (lines[here + 3] as usize);
-        if same_bytes(&pool[start..end], name) {
+        if same_bytes(line_bytes(lines, pool, number), name) {
             return true;
         }
     }

@@ -11,7 +11,7 @@ use crate::answers::Version;
 use crate::index::NodeNumber;
 use crate::index::VersionIndex;
 use book::Counts;
-use book::NODE_WIDTH;
+use book::rows::node_name;
 use numbers::UNKNOWN_VERSION;
 use packing::same_bytes;
 
@@ -23,10 +23,7 @@ fn known_version(c: Counts, nodes: &[u32], names: &[u8], wanted: &[u8]) -> Versi
     let mut i = c.nodes as usize;
     while 0 < i {
         i -= 1;
-        let at = NODE_WIDTH * i;
-        let start = nodes[at] as usize;
-        let end = start + (nodes[at + 1] as usize);
-        if same_bytes(&names[start..end], wanted) {
+        if same_bytes(node_name(nodes, names, i), wanted) {
             return Version::Index(VersionIndex::from_node(NodeNumber(i as u16)));
         }
     }

@@ -54,6 +54,11 @@ module _ {d l : List ℕ} {at m e : ℕ} {xs : List ℕ} (p : Placed d at m xs l
       → Placed d at (m + (length word + 11)) (xs ++ spaced word n) l′ r
   spaced-behind word n l′ r h q = behind p (spaced-placed l e word n l′ r (room-behind (length word) h) q)
 
+  -- the number was put under a name that the code has for it
+  pub told-behind : (word : List ℕ) {k : ℕ} (n : ℕ) (l′ : List ℕ) (r : ℕ) → at + m + length word + 11 ≤ length d → Puts l e (spaced word k) l′ r → k ≡ n
+      → Placed d at (m + (length word + 11)) (xs ++ spaced word n) l′ r
+  told-behind word n l′ r h q z = spaced-behind word n l′ r h (rw z at q)
+
 -- six pieces, however they are taken together
 pub six : (a b c d e f : List ℕ) → ((((a ++ b) ++ c) ++ d) ++ e) ++ f ≡ a ++ (b ++ (c ++ (d ++ (e ++ f))))
 six a b c d e f = simp append-assoc

@@ -1,22 +1,21 @@
 -- The lines of a book, one at a turn of `show_lines`: how much room they take, and how a line is put behind those before it. Assumes nothing.
-use Prim.Native.Nat.{ℕ, _+_, _-_, _*_, _<_, _≤_}
+use Prim.Native.Nat.{ℕ, _+_, _*_, _<_, _≤_}
 use mathlib.Core.Path.{_≡_, refl, sym, ap, subst, _∙_}
 use mathlib.Core.Bool.{true}
 use mathlib.Core.List.{List, [], _∷_, _++_, append-assoc, append-nil}
 use native.Mathlib.Numerals.{add-one}
 use native.Mathlib.Omega.{arith}
-use lib.ListN.{length, take, drop, getD, length-append}
+use lib.ListN.{length, take, getD, length-append}
 use lib.Seq.{length-take-le, take-all, take-suc}
-use Rattle.packing.specs.Tables.{packed, packs, things}
+use Rattle.packing.specs.Tables.{packed, things}
 use Rattle.packing.proofs.Packings.{bytes-within}
 use Rattle.book.specs.declared.Counts.{Counts}
 use Rattle.book.specs.Books.{Line, no-line}
-use Rattle.book.specs.Layout.{Buffers, frame-of, line-form, line-of}
-use Rattle.book.specs.Sanity.{line-ok}
+use Rattle.book.specs.Layout.{Line-lies, bytes-of-line, five, frame-of, line-form, line-of, line-width}
 use Rattle.book.specs.View.{book-of, holds}
 use Rattle.book.proofs.Asking.{held-book}
 use Rattle.book.proofs.Forms.{line-laws}
-use Rattle.book.proofs.LineRows.{Row, line-row, lines-count, lines-packed, row-bytes, row-line, row-short}
+use Rattle.book.proofs.LineRows.{Row, Walk, lines-packed, row-line, row-short, walk-count, walk-on, walk-row, walk-starts}
 use Rattle.printing.specs.Printing.{Begins, Puts}
 use Rattle.printing.proofs.Pieces.{begins, puts-both, puts-long, puts-nothing}
 use Rattle.printing_book.specs.Shown.{line-shown, lines-shown, shown-room}
@@ -47,76 +46,67 @@ next-line xs i h =
     ∙ ap (λ (m : List ℕ). lines-shown 0 (take i xs) ++ m) (append-nil (line-shown i x)))
 
 -- ---- the loop of `show_lines`: the lines before i stand
-pub record Listed (xs : List Line) (d out : List ℕ) (end i : ℕ) : Type 0 where
-  pub within : i ≤ length xs
+pub record Listed (c : Counts) (l m d out : List ℕ) (end i : ℕ) : Type 0 where
+  pub walk : Walk (frame-of c) (c .lines) (c .pool) l m i
+  pub room : shown-room c ≤ length d
   pub long : length out ≡ length d
-  pub put : Puts d 0 (lines-shown 0 (take i xs)) out end
+  pub put : Puts d 0 (lines-shown 0 (take i (things line-form (c .lines) l m))) out end
 
-pub lines-start : (xs : List Line) (d : List ℕ) → Listed xs d d 0 0
+pub lines-start : (c : Counts) (n m l p j d : List ℕ) → shown-room c ≤ length d → holds c (five n m l p j) ≡ true → Listed c l p d d 0 0
 unfolding lines-shown
-lines-start xs d = record { within = omega arith; long = refl; put = puts-nothing d 0 }
+lines-start c n m l p j d room held = record {
+  walk = walk-starts (held-book c (five n m l p j) held .lines);
+  room = room;
+  long = refl;
+  put = puts-nothing d 0;
+}
 
-module _ (c : Counts) (b : Buffers) (held : holds c b ≡ true) where
-  abbrev ls : List Line
-  ls = things line-form (c .lines) (b .lines) (b .pool)
+pub lines-end : (c : Counts) (n m l p j : List ℕ) {d out : List ℕ} {end i : ℕ} → Listed c l p d out end i → c .lines ≤ i
+    → Begins d (lines-shown 0 (book-of c (five n m l p j) .lines)) out end
+unfolding book-of
+lines-end c n m l p j {d} {out} {end} {i} z h =
+    begins d _ out end (subst (λ (m : List Line). Puts d 0 (lines-shown 0 m) out end) (take-all i _ (omega (arith, walk-count (z .walk)))) (z .put))
 
-  rows : packs line-form (line-ok (frame-of c)) (c .lines) (c .pool) (b .lines) (b .pool) ≡ true
-  rows = held-book c b held .lines
+module _ {c : Counts} {l m d out : List ℕ} {end i : ℕ} (z : Listed c l m d out end i) (h : i < c .lines) where
+  abbrev line : Line
+  line = getD (things line-form (c .lines) l m) i no-line
 
-  count : length ls ≡ c .lines
-  count = lines-count (frame-of c) (c .lines) (c .pool) (b .lines) (b .pool) rows
+  there : i < length (things line-form (c .lines) l m)
+  there = omega (arith, walk-count (z .walk))
 
-  pub row : (i : ℕ) → i < c .lines → Row (frame-of c) (c .lines) (b .lines) (b .pool) i (4 * i)
-  row i h = line-row (frame-of c) (c .lines) (c .pool) (b .lines) (b .pool) rows i h
+  row : Row (frame-of c) (c .lines) l m i
+  row = walk-row (z .walk) h
 
-  module _ (d : List ℕ) (room : shown-room c ≤ length d) where
-    module _ (out : List ℕ) (end i : ℕ) (inv : Listed ls d out end i) where
-      pub lines-end : c .lines ≤ i → Begins d (lines-shown 0 (book-of c b .lines)) out end
-      unfolding book-of
-      lines-end h =
-          begins d (lines-shown 0 ls) out end
-          (subst (λ (m : List Line). Puts d 0 (lines-shown 0 m) out end) (take-all i ls (omega (arith, count))) (inv .put))
+  pub line-lies : Line-lies l m i
+  line-lies = row .lies
 
-      module _ (h : i < c .lines) where
-        there : i < length ls
-        there = omega (arith, count)
+  line-room : end + 78 + length (line .bytes) ≤ length out
+  unfolding shown-room line-form
+  line-room =
+      let k = z .room in
+      let xs : List Line = things line-form (c .lines) l m in
+      let f = few-lines 0 (take i xs) in
+      let g = length-take-le i xs (omega (arith, there)) in
+      let w = bytes-within line-form (line-laws (frame-of c)) (c .lines) (c .pool) l m xs
+      (lines-packed (frame-of c) (c .lines) (c .pool) l m (z .walk .packing)) i no-line there in
+      omega (arith, z .put .0, z .long)
 
-        line-room : end + 78 + length (getD ls i no-line .bytes) ≤ length out
-        unfolding shown-room line-form
-        line-room =
-            let k = room in
-            let f = few-lines 0 (take i ls) in
-            let g = length-take-le i ls (inv .within) in
-            let w = bytes-within line-form (line-laws (frame-of c)) (c .lines) (c .pool) (b .lines) (b .pool) ls
-            (lines-packed (frame-of c) (c .lines) (c .pool) (b .lines) (b .pool) rows) i no-line there in
-            omega (arith, inv .put .0, inv .long)
+  -- its bytes, as they are lent
+  module _ {bs : List ℕ} (b : bs ≡ bytes-of-line l m i) where
+    pub line-fits : (end + 78 + length bs ≤ length out) × (length bs < 4294967296)
+    line-fits = rw b (omega (arith, line-room, ap length (row .bytes)), omega (arith, row-short row))
 
-        -- its bytes, as they are lent
-        abbrev bytes : List ℕ
-        bytes = take (getD (b .lines) (4 * i + 2) 0 + getD (b .lines) (4 * i + 3) 0 - getD (b .lines) (4 * i + 2) 0) (drop (getD (b .lines) (4 * i + 2) 0) (b .pool))
-
-        same-bytes : bytes ≡ getD ls i no-line .bytes
-        same-bytes = row-bytes (frame-of c) (c .lines) (b .lines) (b .pool) i (4 * i) (row i h)
-
-        pub line-fits : (end + 78 + length bytes ≤ length out) × (length bytes < 4294967296)
-        line-fits =
-            let e = ap length same-bytes in
-            let s = row-short (frame-of c) (c .lines) (b .lines) (b .pool) i (4 * i) (row i h) in
-            (omega (arith, line-room), omega (arith, row i h .size))
-
-        pub line-listed : (out′ : List ℕ) (r : ℕ)
-            → Puts out end (line-shown i (line-of (getD (b .lines) (4 * i) 0) (getD (b .lines) (4 * i + 1) 0) bytes)) out′ r → Listed ls d out′ r (i + 1)
-        line-listed out′ r p =
-            let x : Line = getD ls i no-line in
-            let e : line-of (getD (b .lines) (4 * i) 0) (getD (b .lines) (4 * i + 1) 0) bytes ≡ x =
-            ap (λ (m : List ℕ). line-of (getD (b .lines) (4 * i) 0) (getD (b .lines) (4 * i + 1) 0) m) same-bytes
-            ∙ sym (row-line (frame-of c) (c .lines) (b .lines) (b .pool) i (4 * i) (row i h)) in
-            let q : Puts out end (line-shown i x) out′ r = subst (λ (y : Line). Puts out end (line-shown i y) out′ r) e p in
-            let f = few-line i x in
-            let g = line-room in
-            record {
-              within = omega (arith, there);
-              long = puts-long out end (line-shown i x) out′ r (omega arith) q ∙ inv .long;
-              put = subst (λ (m : List ℕ). Puts d 0 m out′ r) (sym (next-line ls i there))
-                  (puts-both d 0 (lines-shown 0 (take i ls)) (line-shown i x) out out′ end r (omega (arith, inv .put .0, inv .long)) (inv .put) q);
-            }
+    pub line-listed : {out′ : List ℕ} {r : ℕ}
+        → Puts out end (line-shown i (line-of (getD l (line-width * i) 0) (getD l (line-width * i + 1) 0) bs)) out′ r → Listed c l m d out′ r (i + 1)
+    line-listed {out′} {r} p =
+        let xs : List Line = things line-form (c .lines) l m in
+        let q : Puts out end (line-shown i line) out′ r = rw (b, row-line row) at p in
+        let f = few-line i line in
+        let g = line-room in
+        record {
+          walk = walk-on (z .walk) h;
+          room = z .room;
+          long = puts-long out end (line-shown i line) out′ r (omega arith) q ∙ z .long;
+          put = subst (λ (t : List ℕ). Puts d 0 t out′ r) (sym (next-line xs i there))
+              (puts-both d 0 (lines-shown 0 (take i xs)) (line-shown i line) out out′ end r (omega (arith, z .put .0, z .long)) (z .put) q);
+        }

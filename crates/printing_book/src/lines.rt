@@ -14,6 +14,7 @@ use book::STRUCK;
 use book::codes::class_of;
 use book::codes::language_of;
 use book::codes::section_of;
+use book::rows::line_bytes;
 use printing::put_number;
 use printing::put_spaced;
 use printing::put_text;
@@ -64,10 +65,10 @@ pub fn show_lines(
     let mut end = 0;
     let mut i: u32 = 0;
     while i < c.lines {
-        let row = LINE_WIDTH * (i as usize);
-        let from = lines[row + 2] as usize;
-        let to = from + (lines[row + 3] as usize);
-        end = put_line(out, end, i, lines[row], lines[row + 1], &pool[from..to]);
+        let number = i as usize;
+        let row = LINE_WIDTH * number;
+        let bytes = line_bytes(lines, pool, number);
+        end = put_line(out, end, i, lines[row], lines[row + 1], bytes);
         i += 1;
     }
     end

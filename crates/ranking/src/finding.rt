@@ -18,6 +18,7 @@ use book::codes::class_of;
 use book::codes::is_struck;
 use book::codes::language_of;
 use book::editions::edition_of;
+use book::rows::line_bytes;
 use matching::match_name;
 use numbers::ALL_CLASS;
 use numbers::CXX;
@@ -74,20 +75,17 @@ pub fn find_match(
     let mut best = 10 * frame.nodes;
     let mut line = n;
     let mut i = 0;
-    let mut at = 0;
     while i < n {
-        let here = at;
         let number = i;
-        at += LINE_WIDTH;
+        let row = LINE_WIDTH * i;
         i += 1;
-        let code = lines[here + 1];
-        let rank = rank_of(frame.nodes, lines[here], code);
+        let code = lines[row + 1];
+        let rank = rank_of(frame.nodes, lines[row], code);
         if best <= rank {
             continue;
         }
-        let start = lines[here + 2] as usize;
-        let end = start + (lines[here + 3] as usize);
-        if line_matches(edition, code, &pool[start..end], raw, demangled) {
+        let bytes = line_bytes(lines, pool, number);
+        if line_matches(edition, code, bytes, raw, demangled) {
             best = rank;
             line = number;
         }

@@ -10,14 +10,14 @@ returns c = answer-refused _ _ _ (c .if1 .taken)
 returns-2 : tie.Need-returns-2
 returns-2 c = answer-roomless _ _ _ (c .before .if1 .left) (c .if2 .taken)
 
-slice-write-out : tie.Need-slice-write-out
-slice-write-out c = search needs
-
-same-length : tie.Need-same-length
-same-length c = search needs
-
 returns-3 : tie.Need-returns-3
 returns-3 c = answer-given _ _ _ (c .before .if1 .left) (c .if2 .left)
 
 pub answer-spec : {M : Type 1} → statement M
-answer-spec = tie.close (tie.spec returns returns-2 slice-write-out same-length returns-3)
+answer-spec =
+    tie.close
+    (tie.spec
+    returns
+    returns-2
+    (λ c. search needs) (λ c. search needs)
+    returns-3)

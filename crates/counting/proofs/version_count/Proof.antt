@@ -4,9 +4,6 @@ use Rattle.counting.proofs.Nodes.{count-no-book, count-export, one-node
 use Rattle.counting.proofs.version_count.Statement.{statement}
 use Rattle.counting.proofs.version_count.Tie as tie
 
-is-book-requires : tie.Need-is-book-requires
-is-book-requires c κs = search needs
-
 returns : tie.Need-returns
 returns c = search count-no-book
 
@@ -20,4 +17,11 @@ returns-4 : tie.Need-returns-4
 returns-4 c = search more-nodes
 
 pub version-count-spec : {M : Type 1} → statement M
-version-count-spec = tie.close (tie.spec is-book-requires returns returns-2 returns-3 returns-4)
+version-count-spec =
+    tie.close
+    (tie.spec
+    (λ c κs. search needs)
+    returns
+    returns-2
+    returns-3
+    returns-4)

@@ -89,13 +89,10 @@ run-line-spec =
     run-question-requires
     (λ c. search needs)
     run-unknown-requires
-    (λ c. c .before .before .before .before .before .before .before .lines .given)
-    (λ c. c .before .before .before .before .before .pool .given)
-    (λ c. c .before .before .before .journal .given)
-    (λ c. c .before .out .given)
+    (λ c. search needs) (λ c. search needs) (λ c. search needs) (λ c. search needs)
     returns-2
     (λ c. refl) (λ c. refl) (λ c. refl)
-    (λ c. c .before .out2 .given)
+    (λ c. search needs)
     returns-3
-    (λ c. c .before .out3 .given)
+    (λ c. search needs)
     returns-4)

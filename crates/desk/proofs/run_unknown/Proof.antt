@@ -16,6 +16,5 @@ pub run-unknown-spec : {M : Type 1} → statement M
 run-unknown-spec =
     tie.close
     (tie.spec
-    (λ c. search needs) (λ c κs. search needs)
-    (λ c. c .before .out .given)
+    (λ c. search needs) (λ c κs. search needs) (λ c. search needs)
     returns)

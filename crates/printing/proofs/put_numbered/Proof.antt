@@ -17,9 +17,6 @@ put-text-requires c κs =
     let a = at-put-spaced .before .before .before .before .args in
     omega (arith, few-spaced (a .word .now) (a .n))
 
-same-length : tie.Need-same-length
-same-length c = search needs
-
 returns : tie.Need-returns
 returns c =
     let at-put-text = c .before .before in
@@ -33,4 +30,9 @@ returns c =
 pub put-numbered-spec : {M : Type 1} → statement M
 put-numbered-spec =
     tie.close
-    (tie.spec put-spaced-requires slice-aggregate-put-text put-text-requires same-length returns)
+    (tie.spec
+    put-spaced-requires
+    slice-aggregate-put-text
+    put-text-requires
+    (λ c. search needs)
+    returns)

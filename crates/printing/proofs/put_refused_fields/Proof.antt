@@ -11,12 +11,15 @@ slice-aggregate-put-spaced c = search needs
 put-spaced-requires : tie.Need-put-spaced-requires
 put-spaced-requires c κs = search needs
 
-same-length : tie.Need-same-length
-same-length c = search needs
-
 returns : tie.Need-returns
 unfolding refused-fields codes
 returns c = c .before .before .put-spaced .ensures
 
 pub put-refused-fields-spec : {M : Type 1} → statement M
-put-refused-fields-spec = tie.close (tie.spec slice-aggregate-put-spaced put-spaced-requires same-length returns)
+put-refused-fields-spec =
+    tie.close
+    (tie.spec
+    slice-aggregate-put-spaced
+    put-spaced-requires
+    (λ c. search needs)
+    returns)

@@ -11,9 +11,6 @@ put-bytes-requires c κs = search needs
 add-result : tie.Need-add-result
 add-result c = search needs
 
-same-length : tie.Need-same-length
-same-length c = search needs
-
 returns : tie.Need-returns
 returns c =
     let at-put-bytes = c .before .before in
@@ -21,4 +18,10 @@ returns c =
     (refl, at-put-bytes .put-bytes .ensures ∙ pasted (a .out .now) (a .at) (a .text .now))
 
 pub put-text-spec : {M : Type 1} → statement M
-put-text-spec = tie.close (tie.spec put-bytes-requires add-result same-length returns)
+put-text-spec =
+    tie.close
+    (tie.spec
+    put-bytes-requires
+    add-result
+    (λ c. search needs)
+    returns)

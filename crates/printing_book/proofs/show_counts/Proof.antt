@@ -71,9 +71,6 @@ edits c =
     spaced-behind p (space ∷ edits-word) (start6 c .args .c .edits) _ _ (omega (arith, ample (start6 c))) (c .put-spaced6 .ensures)
 
 -- ---- the needs
-slice-aggregate-put-spaced : tie.Need-slice-aggregate-put-spaced
-slice-aggregate-put-spaced c = search needs
-
 put-spaced-requires : tie.Need-put-spaced-requires
 unfolding shown-room
 put-spaced-requires c κs = omega arith
@@ -124,7 +121,7 @@ pub show-counts-spec : {M : Type 1} → statement M
 show-counts-spec =
     tie.close
     (tie.spec
-    slice-aggregate-put-spaced
+    (λ c. search needs)
     put-spaced-requires
     (λ c. search needs)
     put-spaced-requires-2

@@ -23,9 +23,6 @@ render-too-long-requires c κs =
     let a = at-args .args in
     line-room (five (a .nodes .now) (a .names .now) (a .lines .now) (a .pool .now) (a .journal .now)) (a .text .now) (a .out .now) _ (at-has-room .has-room .ensures) (at-if1 .if1 .left)
 
-same-length : tie.Need-same-length
-same-length c = c .before .before .before .before .before .before .before .before .before .before .before .nodes .given
-
 returns-2 : tie.Need-returns-2
 returns-2 c =
     let at-too-long = c .before .before .before .before .before .before .before .before .before .before .before .before in
@@ -77,9 +74,6 @@ render-script-requires c κs =
           _ (at-script-end .script-end .ensures) _ (at-symbols-start .symbols-start .ensures),
     )
 
-same-length-7 : tie.Need-same-length-7
-same-length-7 c = c .before .before .before .before .before .before .before .before .before .before .before .nodes2 .given
-
 returns-3 : tie.Need-returns-3
 returns-3 c =
     let at-render-script = c .before .before .before .before .before .before .before .before .before .before .before .before in
@@ -103,12 +97,7 @@ render-listing-spec =
     (λ c κs. search needs) (λ c κs. search needs)
     returns
     render-too-long-requires
-    same-length
-    (λ c. c .before .before .before .before .before .before .before .before .before .names .given)
-    (λ c. c .before .before .before .before .before .before .before .lines .given)
-    (λ c. c .before .before .before .before .before .pool .given)
-    (λ c. c .before .before .before .journal .given)
-    (λ c. c .before .out .given)
+    (λ c. search needs) (λ c. search needs) (λ c. search needs) (λ c. search needs) (λ c. search needs) (λ c. search needs)
     returns-2
     (λ c κs. search needs)
     symbols-start-requires
@@ -117,10 +106,5 @@ render-listing-spec =
     part-render-script-start
     (λ c. search needs)
     render-script-requires
-    same-length-7
-    (λ c. c .before .before .before .before .before .before .before .before .before .names2 .given)
-    (λ c. c .before .before .before .before .before .before .before .lines2 .given)
-    (λ c. c .before .before .before .before .before .pool2 .given)
-    (λ c. c .before .before .before .journal2 .given)
-    (λ c. c .before .out2 .given)
+    (λ c. search needs) (λ c. search needs) (λ c. search needs) (λ c. search needs) (λ c. search needs) (λ c. search needs)
     returns-3)

@@ -4,15 +4,6 @@ use Rattle.printing_listing.proofs.Inputs.{all-script, script-before}
 use Rattle.printing_listing.proofs.script_end.Statement.{statement}
 use Rattle.printing_listing.proofs.script_end.Tie as tie
 
-find-mark-requires : tie.Need-find-mark-requires
-find-mark-requires c κs = search needs
-
-enum-told : tie.Need-enum-told
-enum-told c = search needs
-
-enum-known-p : tie.Need-enum-known-p
-enum-known-p c = search needs
-
 returns : tie.Need-returns
 returns c =
     let at-find-mark = c .before .before in
@@ -25,4 +16,9 @@ returns-2 c =
     script-before (at-find-mark .before .before .args .text .now) _ (at-find-mark .find-mark .ensures) _ (at-p .p .given .1)
 
 pub script-end-spec : {M : Type 1} → statement M
-script-end-spec = tie.close (tie.spec find-mark-requires enum-told enum-known-p returns returns-2)
+script-end-spec =
+    tie.close
+    (tie.spec
+    (λ c κs. search needs) (λ c. search needs) (λ c. search needs)
+    returns
+    returns-2)

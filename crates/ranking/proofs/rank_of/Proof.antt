@@ -10,21 +10,6 @@ use Rattle.ranking.proofs.Stages.{rank-exact, rank-glob, span-fits}
 use Rattle.ranking.proofs.rank_of.Statement.{statement}
 use Rattle.ranking.proofs.rank_of.Tie as tie
 
-class-of-requires : tie.Need-class-of-requires
-class-of-requires c κs = search needs
-
-section-of-requires : tie.Need-section-of-requires
-section-of-requires c κs = search needs
-
-mul-result : tie.Need-mul-result
-mul-result c = search needs
-
-language-of-requires : tie.Need-language-of-requires
-language-of-requires c κs = search needs
-
-mul-result-2 : tie.Need-mul-result-2
-mul-result-2 c = search needs
-
 returns : tie.Need-returns
 returns c = let a = c .before .before .before .before .args in omega (arith, rank-exact (a .n) (line-of (a .node) (a .code) []) (omega arith))
 
@@ -49,9 +34,7 @@ pub rank-of-spec : {M : Type 1} → statement M
 rank-of-spec =
     tie.close
     (tie.spec
-    class-of-requires section-of-requires mul-result
-    language-of-requires mul-result-2
-    (λ c. search needs) (λ c. search needs)
+    (λ c κs. search needs) (λ c κs. search needs) (λ c. search needs) (λ c κs. search needs) (λ c. search needs) (λ c. search needs) (λ c. search needs)
     returns
     (λ c. search needs) (λ c. search needs) (λ c. search needs)
     mul-result-5

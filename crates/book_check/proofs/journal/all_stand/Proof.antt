@@ -11,9 +11,6 @@ Inv-loop lines pool back n i₀ i = Standing lines pool back n i
 abbrev μ-loop : tie.MeasureT-loop
 μ-loop lines pool back n i₀ i = n - i
 
-loop-again : tie.Need-loop-again Inv-loop μ-loop
-loop-again c = search stand-more
-
 pub all-stand-spec : {M : Type 1} → statement M
 all-stand-spec =
     tie.close
@@ -24,5 +21,5 @@ all-stand-spec =
     (λ c κs. search needs)
     (λ c. search stand-stops)
     (λ c. search needs) (λ c. search needs)
-    loop-again
+    (λ c. search stand-more)
     (λ c. search stand-ends))

@@ -12,9 +12,6 @@ Inv-loop journal n i₀ at₀ i at = Listed journal n i at
 abbrev μ-loop : tie.MeasureT-loop
 μ-loop journal n i₀ at₀ i at = n - i
 
-loop-again : tie.Need-loop-again Inv-loop μ-loop
-loop-again c = ⊎-elim (λ w. search edit-strike) (λ w. search edit-add) (c .if1 .came)
-
 pub edit-rows-spec : {M : Type 1} → statement M
 edit-rows-spec =
     tie.close
@@ -25,6 +22,6 @@ edit-rows-spec =
     (λ c. search needs) (λ c. search needs)
     (λ c. search edit-wrong)
     (λ c. search needs) (λ c. search needs) (λ c. search needs)
-    loop-again
+    (λ c. ⊎-elim (λ w. search edit-strike) (λ w. search edit-add) (c .if1 .came))
     (λ c κs. search needs)
     (λ c. search edits-end))

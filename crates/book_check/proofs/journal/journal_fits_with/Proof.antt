@@ -21,7 +21,7 @@ loop-again : tie.Need-loop-again Inv-loop μ-loop
 loop-again c =
     let w = c .before .before .before .before .before .before .before .before in (
       w .before .loop .inv .0,
-      add-taken _ _ _ _ _ _ _ _ (w .before .loop .inv .1) (w .loop-test .taken) (c .before .before .before .before .before .if1 .left) _ (c .before .before .before .stands-now .ensures)
+      add-taken (w .before .loop .inv .1) (w .loop-test .taken) (c .before .before .before .before .before .if1 .left) (c .before .before .before .stands-now .ensures)
           (c .before .before .if2 .taken) (c .before .if3 .left) (c .if4 .left),
     )
 
@@ -29,7 +29,7 @@ loop-again-2 : tie.Need-loop-again-2 Inv-loop μ-loop
 loop-again-2 c =
     let w = c .before .before .before .before .before .before .before in (
       simp length-set (w .before .loop .inv .0),
-      strike-taken _ _ _ _ _ _ _ _ (w .before .loop .inv .1) (w .loop-test .taken) (c .before .before .before .before .if1 .left) _ (c .before .before .stands-now .ensures)
+      strike-taken (w .before .loop .inv .1) (w .loop-test .taken) (c .before .before .before .before .if1 .left) (c .before .before .stands-now .ensures)
           (c .before .if2 .left) (c .if5 .left),
     )
 

@@ -4,17 +4,11 @@ use Rattle.book_check.proofs.JournalChecks.{stands-marked, stands-code}
 use Rattle.book_check.proofs.journal.stands_now.Statement.{statement}
 use Rattle.book_check.proofs.journal.stands_now.Tie as tie
 
-is-struck-requires : tie.Need-is-struck-requires
-is-struck-requires c κs = search needs
-
-returns-2 : tie.Need-returns-2
-returns-2 c = search stands-code
-
 pub stands-now-spec : {M : Type 1} → statement M
 stands-now-spec =
     tie.close
     (tie.spec
     (λ c. search needs)
     (λ c. search stands-marked)
-    (λ c. search needs) (λ c. search needs) (λ c. search needs) (λ c. search needs)
-    is-struck-requires returns-2)
+    (λ c. search needs) (λ c. search needs) (λ c. search needs) (λ c. search needs) (λ c κs. search needs)
+    (λ c. search stands-code))

@@ -18,8 +18,8 @@ cast-size c = omega (arith, c .shared-slice-known4 .given (c .before .before .be
 loop-again : tie.Need-loop-again Inv-loop μ-loop
 loop-again c =
     let w = c .before .before .before .before .before .before .before .before .before in
-    line-right _ _ _ _ _ _ _ _ (w .before .loop .inv) (w .before .before .before .before .pre .0) (w .loop-test .taken) (c .before .before .before .before .before .before .before .if1 .left)
-    (c .before .before .before .before .before .if2 .left) _ (c .before .line-good .ensures) (c .if3 .left)
+    line-right (w .before .loop .inv) (w .before .before .before .before .pre .0) (w .loop-test .taken) (c .before .before .before .before .before .before .before .if1 .left)
+    (c .before .before .before .before .before .if2 .left) (c .before .line-good .ensures) (c .if3 .left)
 
 returns-5 : tie.Need-returns-5 Inv-loop μ-loop
 returns-5 c = search lines-end

@@ -11,9 +11,6 @@ Inv-loop nodes names n p i₀ at₀ o₀ i at o = Rowing n p nodes names i at o
 abbrev μ-loop : tie.MeasureT-loop
 μ-loop nodes names n p i₀ at₀ o₀ i at o = n - i
 
-loop-again : tie.Need-loop-again Inv-loop μ-loop
-loop-again c = search rows-more
-
 pub node-rows-spec : {M : Type 1} → statement M
 node-rows-spec =
     tie.close
@@ -26,7 +23,7 @@ node-rows-spec =
     (λ c. search needs) (λ c. search needs) (λ c. search needs) (λ c. search needs)
     (λ c. search name-past)
     (λ c. search needs) (λ c. search needs) (λ c. search needs) (λ c. search needs)
-    loop-again
+    (λ c. search rows-more)
     (λ c. search names-short)
     (λ c κs. search needs)
     (λ c. search rows-end))

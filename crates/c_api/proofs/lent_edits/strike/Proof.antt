@@ -4,24 +4,6 @@ use Rattle.c_lending.proofs.EditExits.{strike-told}
 use Rattle.c_api.proofs.lent_edits.strike.Statement.{statement}
 use Rattle.c_api.proofs.lent_edits.strike.Tie as tie
 
-counts-of-requires : tie.Need-counts-of-requires
-counts-of-requires c κs = search needs
-
-strike-requires : tie.Need-strike-requires
-strike-requires c κs = search needs
-
-finish-requires : tie.Need-finish-requires
-finish-requires c κs = search needs
-
-same-length : tie.Need-same-length
-same-length c = search needs
-
-same-length-2 : tie.Need-same-length-2
-same-length-2 c = search needs
-
-same-length-3 : tie.Need-same-length-3
-same-length-3 c = search needs
-
 returns : tie.Need-returns
 returns c =
     let x = c .before .before in
@@ -32,10 +14,5 @@ pub strike-spec : {M : Type 1} → statement M
 strike-spec =
     tie.close
     (tie.spec
-    counts-of-requires
-    strike-requires
-    finish-requires
-    same-length
-    same-length-2
-    same-length-3
+    (λ c κs. search needs) (λ c κs. search needs) (λ c κs. search needs) (λ c. search needs) (λ c. search needs) (λ c. search needs)
     returns)

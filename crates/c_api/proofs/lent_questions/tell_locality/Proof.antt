@@ -1,83 +1,31 @@
 -- `tell_locality` meets its contract. Assumes nothing.
 use borrow.Author.Needs.{needs}
-use Rattle.lookups.specs.Lookups.{locality-refusal, locality-value}
 use Rattle.c_lending.proofs.Lending.{tells}
 use Rattle.c_api.proofs.lent_questions.tell_locality.Statement.{statement}
 use Rattle.c_api.proofs.lent_questions.tell_locality.Tie as tie
 
-enum-known-r : tie.Need-enum-known-r
-enum-known-r c = search needs
-
-answer-requires : tie.Need-answer-requires
-answer-requires c κs = search needs
-
-enum-told : tie.Need-enum-told
-enum-told c = search needs
-
-answer-requires-2 : tie.Need-answer-requires-2
-answer-requires-2 c κs = search needs
-
-enum-told-2 : tie.Need-enum-told-2
-enum-told-2 c = search needs
-
-answer-requires-3 : tie.Need-answer-requires-3
-answer-requires-3 c κs = search needs
-
-enum-told-3 : tie.Need-enum-told-3
-enum-told-3 c = search needs
-
-answer-requires-4 : tie.Need-answer-requires-4
-answer-requires-4 c κs = search needs
-
-same-length : tie.Need-same-length
-same-length c = search needs
-
 returns : tie.Need-returns
-returns c =
-    let x = c .before .before in
-    tells locality-refusal locality-value _ _ _ _ _ (x .before .before .before .r .given .1) (x .answer .ensures)
-
-same-length-2 : tie.Need-same-length-2
-same-length-2 c = search needs
+returns c = search tells
 
 returns-2 : tie.Need-returns-2
-returns-2 c =
-    let x = c .before .before in
-    tells locality-refusal locality-value _ _ _ _ _ (x .before .before .enum-told .given .1) (x .answer2 .ensures)
-
-same-length-3 : tie.Need-same-length-3
-same-length-3 c = search needs
+returns-2 c = search tells
 
 returns-3 : tie.Need-returns-3
-returns-3 c =
-    let x = c .before .before in
-    tells locality-refusal locality-value _ _ _ _ _ (x .before .before .enum-told2 .given .1) (x .answer3 .ensures)
-
-same-length-4 : tie.Need-same-length-4
-same-length-4 c = search needs
+returns-3 c = search tells
 
 returns-4 : tie.Need-returns-4
-returns-4 c =
-    let x = c .before .before in
-    tells locality-refusal locality-value _ _ _ _ _ (x .before .before .enum-told3 .given .1) (x .answer4 .ensures)
+returns-4 c = search tells
 
 pub tell-locality-spec : {M : Type 1} → statement M
 tell-locality-spec =
     tie.close
     (tie.spec
-    enum-known-r
-    answer-requires
-    enum-told
-    answer-requires-2
-    enum-told-2
-    answer-requires-3
-    enum-told-3
-    answer-requires-4
-    same-length
+    (λ c. search needs) (λ c κs. search needs) (λ c. search needs) (λ c κs. search needs) (λ c. search needs) (λ c κs. search needs) (λ c. search needs)
+    (λ c κs. search needs) (λ c. search needs)
     returns
-    same-length-2
+    (λ c. search needs)
     returns-2
-    same-length-3
+    (λ c. search needs)
     returns-3
-    same-length-4
+    (λ c. search needs)
     returns-4)

@@ -3,27 +3,6 @@ use borrow.Author.Needs.{needs}
 use Rattle.c_api.proofs.openings.tuno_open_version_script.Statement.{statement}
 use Rattle.c_api.proofs.openings.tuno_open_version_script.Tie as tie
 
-open-lent-requires : tie.Need-open-lent-requires
-open-lent-requires c κs = search needs
-
-same-length : tie.Need-same-length
-same-length c = search needs
-
-same-length-2 : tie.Need-same-length-2
-same-length-2 c = search needs
-
-same-length-3 : tie.Need-same-length-3
-same-length-3 c = search needs
-
-same-length-4 : tie.Need-same-length-4
-same-length-4 c = search needs
-
-same-length-5 : tie.Need-same-length-5
-same-length-5 c = search needs
-
-same-length-6 : tie.Need-same-length-6
-same-length-6 c = search needs
-
 returns : tie.Need-returns
 returns c = c .before .before .before .before .before .before .before .before .before .before .before .before .open-lent .ensures
 
@@ -31,11 +10,5 @@ pub tuno-open-version-script-spec : {M : Type 1} → statement M
 tuno-open-version-script-spec =
     tie.close
     (tie.spec
-    open-lent-requires
-    same-length
-    same-length-2
-    same-length-3
-    same-length-4
-    same-length-5
-    same-length-6
+    (λ c κs. search needs) (λ c. search needs) (λ c. search needs) (λ c. search needs) (λ c. search needs) (λ c. search needs) (λ c. search needs)
     returns)

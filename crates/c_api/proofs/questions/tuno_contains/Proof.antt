@@ -3,12 +3,6 @@ use borrow.Author.Needs.{needs}
 use Rattle.c_api.proofs.questions.tuno_contains.Statement.{statement}
 use Rattle.c_api.proofs.questions.tuno_contains.Tie as tie
 
-contains-requires : tie.Need-contains-requires
-contains-requires c κs = search needs
-
-same-length : tie.Need-same-length
-same-length c = search needs
-
 returns : tie.Need-returns
 returns c = c .before .before .contains .ensures
 
@@ -16,6 +10,5 @@ pub tuno-contains-spec : {M : Type 1} → statement M
 tuno-contains-spec =
     tie.close
     (tie.spec
-    contains-requires
-    same-length
+    (λ c κs. search needs) (λ c. search needs)
     returns)

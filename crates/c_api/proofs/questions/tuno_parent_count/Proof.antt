@@ -3,12 +3,6 @@ use borrow.Author.Needs.{needs}
 use Rattle.c_api.proofs.questions.tuno_parent_count.Statement.{statement}
 use Rattle.c_api.proofs.questions.tuno_parent_count.Tie as tie
 
-parent-count-requires : tie.Need-parent-count-requires
-parent-count-requires c κs = search needs
-
-same-length : tie.Need-same-length
-same-length c = search needs
-
 returns : tie.Need-returns
 returns c = c .before .before .parent-count .ensures
 
@@ -16,6 +10,5 @@ pub tuno-parent-count-spec : {M : Type 1} → statement M
 tuno-parent-count-spec =
     tie.close
     (tie.spec
-    parent-count-requires
-    same-length
+    (λ c κs. search needs) (λ c. search needs)
     returns)

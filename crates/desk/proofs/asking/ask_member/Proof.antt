@@ -6,21 +6,12 @@ use Rattle.desk.proofs.AskExits.{member-asked, part-room}
 use Rattle.desk.proofs.asking.ask_member.Statement.{statement}
 use Rattle.desk.proofs.asking.ask_member.Tie as tie
 
-name-part-requires : tie.Need-name-part-requires
-name-part-requires c κs = search needs
-
-contains-requires : tie.Need-contains-requires
-contains-requires c κs = search needs
-
 put-member-requires : tie.Need-put-member-requires
 put-member-requires c κs =
     let at-name-part = c .before .before in
     let at-args = at-name-part .before .before .before .before .before .before .before .before in
     let a = at-args .args in
     part-room (a .t .now) _ (a .out .now) (at-name-part .name-part .ensures) (at-args .pre)
-
-same-length : tie.Need-same-length
-same-length c = search needs
 
 returns : tie.Need-returns
 returns c =
@@ -37,4 +28,8 @@ returns c =
 pub ask-member-spec : {M : Type 1} → statement M
 ask-member-spec =
     tie.close
-    (tie.spec name-part-requires contains-requires put-member-requires same-length returns)
+    (tie.spec
+    (λ c κs. search needs) (λ c κs. search needs)
+    put-member-requires
+    (λ c. search needs)
+    returns)

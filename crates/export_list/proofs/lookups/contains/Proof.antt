@@ -11,13 +11,16 @@ returns-2 : tie.Need-returns-2
 returns-2 c = search list-other-kind
 
 find-match-requires : tie.Need-find-match-requires
-find-match-requires c κs = let d = c .before .before .before in asks-match _ _ _ _ _ _ _ _ _ (d .before .before .before .before .before .is-book .ensures) (d .before .before .before .before .if1 .left) (d .before .before .if2 .left) _ (d .before .name-refusal .ensures) (d .if3 .left) _ (c .before .before .frame-of .ensures)
+find-match-requires c κs =
+    let d = c .before .before .before in
+    asks-match _ _ _ _ _ _ _ _ _ (d .before .before .before .before .before .is-book .ensures) (d .before .before .before .before .if1 .left)
+    (d .before .before .if2 .left) _ (d .before .name-refusal .ensures) (d .if3 .left) _ (c .before .before .frame-of .ensures)
 
 returns-4 : tie.Need-returns-4
-returns-4 c = let d = c .before .before .before .before .before .before in list-without _ _ _ _ _ _ _ _ _ (d .before .before .before .before .before .is-book .ensures) (d .before .before .before .before .if1 .left) (d .before .before .if2 .left) _ (d .before .name-refusal .ensures) (d .if3 .left) _ (c .before .before .before .before .before .frame-of .ensures) _ (c .before .before .find-match .ensures) (c .enum-told .given .1)
+returns-4 c = search list-without
 
 returns-5 : tie.Need-returns-5
-returns-5 c = let d = c .before .before .before .before .before .before in list-within _ _ _ _ _ _ _ _ _ (d .before .before .before .before .before .is-book .ensures) (d .before .before .before .before .if1 .left) (d .before .before .if2 .left) _ (d .before .name-refusal .ensures) (d .if3 .left) _ (c .before .before .before .before .before .frame-of .ensures) _ (c .before .before .find-match .ensures) _ (c .enum-told2 .given .1)
+returns-5 c = search list-within
 
 pub contains-spec : {M : Type 1} → statement M
 contains-spec =

@@ -5,9 +5,6 @@ use Rattle.lookups.proofs.AskedLocality.{locality-no-book}
 use Rattle.lookups.proofs.locality_lookup.locality.Statement.{statement}
 use Rattle.lookups.proofs.locality_lookup.locality.Tie as tie
 
-is-book-requires : tie.Need-is-book-requires
-is-book-requires c κs = search needs
-
 returns : tie.Need-returns
 returns c = search locality-no-book
 
@@ -18,4 +15,10 @@ returns-2 : tie.Need-returns-2
 returns-2 c = search needs
 
 pub locality-spec : {M : Type 1} → statement M
-locality-spec = tie.close (tie.spec is-book-requires returns locality-in-book-requires returns-2)
+locality-spec =
+    tie.close
+    (tie.spec
+    (λ c κs. search needs)
+    returns
+    locality-in-book-requires
+    returns-2)

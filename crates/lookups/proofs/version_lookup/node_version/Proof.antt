@@ -5,12 +5,6 @@ use Rattle.lookups.specs.Lookups.{node-version}
 use Rattle.lookups.proofs.version_lookup.node_version.Statement.{statement}
 use Rattle.lookups.proofs.version_lookup.node_version.Tie as tie
 
-cast-t4 : tie.Need-cast-t4
-cast-t4 c = search needs
-
-from-node-requires : tie.Need-from-node-requires
-from-node-requires c κs = search needs
-
 returns : tie.Need-returns
 unfolding node-version
 returns c = rw (ne-eqb _ _ (c .before .if1 .taken), c .from-node .ensures)
@@ -20,4 +14,9 @@ unfolding node-version
 returns-2 c = rw (eq-eqb _ _ (c .if1 .left))
 
 pub node-version-spec : {M : Type 1} → statement M
-node-version-spec = tie.close (tie.spec cast-t4 from-node-requires returns returns-2)
+node-version-spec =
+    tie.close
+    (tie.spec
+    (λ c. search needs) (λ c κs. search needs)
+    returns
+    returns-2)

@@ -5,9 +5,6 @@ use Rattle.lookups.proofs.AskedVersion.{version-no-book}
 use Rattle.lookups.proofs.version_lookup.version_for_symbol.Statement.{statement}
 use Rattle.lookups.proofs.version_lookup.version_for_symbol.Tie as tie
 
-is-book-requires : tie.Need-is-book-requires
-is-book-requires c κs = search needs
-
 returns : tie.Need-returns
 returns c = search version-no-book
 
@@ -18,4 +15,10 @@ returns-2 : tie.Need-returns-2
 returns-2 c = search needs
 
 pub version-for-symbol-spec : {M : Type 1} → statement M
-version-for-symbol-spec = tie.close (tie.spec is-book-requires returns version-in-book-requires returns-2)
+version-for-symbol-spec =
+    tie.close
+    (tie.spec
+    (λ c κs. search needs)
+    returns
+    version-in-book-requires
+    returns-2)

@@ -18,9 +18,6 @@ put-byte-buffer-requires c κs =
     let f = few-buffer (a .word .now) (a .n) (a .l .now) in
     (s .pre .1, omega (arith, s .pre .2))
 
-same-length : tie.Need-same-length
-same-length c = search needs
-
 returns : tie.Need-returns
 returns c =
     let q = c .before .before in
@@ -31,4 +28,10 @@ returns c =
     (p .before .before .shared-slice-known4 .given) (p .put-buffer .ensures) (q .put-byte-buffer .ensures)
 
 pub put-pair-spec : {M : Type 1} → statement M
-put-pair-spec = tie.close (tie.spec put-buffer-requires put-byte-buffer-requires same-length returns)
+put-pair-spec =
+    tie.close
+    (tie.spec
+    put-buffer-requires
+    put-byte-buffer-requires
+    (λ c. search needs)
+    returns)

@@ -20,9 +20,6 @@ ready c =
     (pool .shared-slice-known4 .given)
 
 -- ---- the needs
-slice-aggregate-put-pair : tie.Need-slice-aggregate-put-pair
-slice-aggregate-put-pair c = search needs
-
 put-pair-requires : tie.Need-put-pair-requires
 put-pair-requires c κs =
     let k = ready c in
@@ -59,8 +56,7 @@ pub show-dump-spec : {M : Type 1} → statement M
 show-dump-spec =
     tie.close
     (tie.spec
-    slice-aggregate-put-pair
-    (λ c. search needs) (λ c. search needs) (λ c. search needs) (λ c. search needs)
+    (λ c. search needs) (λ c. search needs) (λ c. search needs) (λ c. search needs) (λ c. search needs)
     put-pair-requires
     (λ c. search needs) (λ c. search needs) (λ c. search needs) (λ c. search needs) (λ c. search needs)
     put-pair-requires-2

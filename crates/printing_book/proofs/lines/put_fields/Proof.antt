@@ -6,7 +6,7 @@ use native.Mathlib.Omega.{arith}
 use lib.ListN.{length}
 use Rattle.book.specs.Books.{Line}
 use Rattle.book.specs.Layout.{line-of}
-use Rattle.printing_book.proofs.Pieces.{Placed, room-behind, spaced-behind, spaced-placed}
+use Rattle.printing_book.proofs.Pieces.{Placed, room-behind, spaced-behind, spaced-placed, told-behind}
 use Rattle.printing_book.proofs.Fields.{fields-put, to-class, to-language, to-length, to-node, to-section, to-struck}
 use Rattle.printing_book.proofs.lines.put_fields.Statement.{statement}
 use Rattle.printing_book.proofs.lines.put_fields.Tie as tie
@@ -36,8 +36,7 @@ start2 c = start (c .before .before .before .before .before)
 class : (c : tie.After-put-spaced2) → Stands (start2 c) 22 to-class (c .put-spaced2 .last .0) (c .put-spaced2 .result)
 class c =
     let q = c .before .before .before .before .before in
-    let e = parted q .before .before .class-of .ensures in
-    spaced-behind (node q) [] (line (start2 c) .class) _ _ (omega (arith, start2 c .pre .0)) (rw e at (c .put-spaced2 .ensures))
+    told-behind (node q) [] (line (start2 c) .class) _ _ (omega (arith, start2 c .pre .0)) (c .put-spaced2 .ensures) (parted q .before .before .class-of .ensures)
 
 -- behind the third
 abbrev start3 : tie.After-put-spaced3 → tie.Start
@@ -47,7 +46,7 @@ section : (c : tie.After-put-spaced3) → Stands (start3 c) 33 to-section (c .pu
 section c =
     let q = c .before .before .before .before .before in
     let e = parted (q .before .before .before .before .before) .before .section-of .ensures in
-    spaced-behind (class q) [] (line (start3 c) .section) _ _ (omega (arith, start3 c .pre .0)) (rw e at (c .put-spaced3 .ensures))
+    told-behind (class q) [] (line (start3 c) .section) _ _ (omega (arith, start3 c .pre .0)) (c .put-spaced3 .ensures) e
 
 -- behind the fourth
 abbrev start4 : tie.After-put-spaced4 → tie.Start
@@ -57,7 +56,7 @@ language : (c : tie.After-put-spaced4) → Stands (start4 c) 44 to-language (c .
 language c =
     let q = c .before .before .before .before .before in
     let e = parted (q .before .before .before .before .before .before .before .before .before .before) .language-of .ensures in
-    spaced-behind (section q) [] (line (start4 c) .language) _ _ (omega (arith, start4 c .pre .0)) (rw e at (c .put-spaced4 .ensures))
+    told-behind (section q) [] (line (start4 c) .language) _ _ (omega (arith, start4 c .pre .0)) (c .put-spaced4 .ensures) e
 
 -- behind the fifth
 abbrev start5 : tie.After-put-spaced5 → tie.Start
@@ -69,9 +68,6 @@ struck c =
     spaced-behind p [] (line (start5 c) .struck) _ _ (omega (arith, start5 c .pre .0)) (c .put-spaced5 .ensures)
 
 -- ---- the needs
-class-of-requires : tie.Need-class-of-requires
-class-of-requires c κs = search needs
-
 put-spaced-requires-2 : tie.Need-put-spaced-requires-2
 put-spaced-requires-2 c κs =
     let p = c .before .before .before .before in
@@ -108,8 +104,7 @@ pub put-fields-spec : {M : Type 1} → statement M
 put-fields-spec =
     tie.close
     (tie.spec
-    class-of-requires
-    (λ c κs. search needs) (λ c κs. search needs) (λ c. search needs) (λ c κs. search needs) (λ c. search needs)
+    (λ c κs. search needs) (λ c κs. search needs) (λ c κs. search needs) (λ c. search needs) (λ c κs. search needs) (λ c. search needs)
     put-spaced-requires-2
     (λ c. search needs)
     put-spaced-requires-3

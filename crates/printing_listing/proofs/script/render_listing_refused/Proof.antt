@@ -4,12 +4,6 @@ use Rattle.printing_listing.proofs.Scripts.{refused-listed}
 use Rattle.printing_listing.proofs.script.render_listing_refused.Statement.{statement}
 use Rattle.printing_listing.proofs.script.render_listing_refused.Tie as tie
 
-render-refused-requires : tie.Need-render-refused-requires
-render-refused-requires c κs = search needs
-
-same-length : tie.Need-same-length
-same-length c = c .before .out .given
-
 returns : tie.Need-returns
 returns c =
     let at-render-refused = c .before .before in
@@ -19,4 +13,8 @@ returns c =
     refused-listed (a .no) (a .place) (a .out .now) (p .last .1 .0) (p .result) (at-args .pre) (p .ensures)
 
 pub render-listing-refused-spec : {M : Type 1} → statement M
-render-listing-refused-spec = tie.close (tie.spec render-refused-requires same-length returns)
+render-listing-refused-spec =
+    tie.close
+    (tie.spec
+    (λ c κs. search needs) (λ c. search needs)
+    returns)

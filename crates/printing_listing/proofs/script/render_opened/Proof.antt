@@ -44,8 +44,7 @@ pub render-opened-spec : {M : Type 1} → statement M
 render-opened-spec =
     tie.close
     (tie.spec
-    (λ c κs. search needs)
-    (λ c. c .before .out .given)
+    (λ c κs. search needs) (λ c. search needs)
     returns
     (λ c κs. search needs)
     render-symbols-requires

@@ -17,21 +17,6 @@ render-opened-requires c κs =
           (five (w .last .1 .0) (w .last .1 .1 .0) (w .last .1 .1 .1 .0) (w .last .1 .1 .1 .1 .0) (w .last .1 .1 .1 .1 .1 .0)) (w .ensures .1),
     )
 
-same-length : tie.Need-same-length
-same-length c = c .before .before .before .before .before .before .before .before .before .before .before .before .before .before .before .before .before .before .nodes .given
-
-same-length-2 : tie.Need-same-length-2
-same-length-2 c = c .before .before .before .before .before .before .before .before .before .before .before .before .before .before .before .before .names .given
-
-same-length-3 : tie.Need-same-length-3
-same-length-3 c = c .before .before .before .before .before .before .before .before .before .before .before .before .before .before .lines .given
-
-same-length-4 : tie.Need-same-length-4
-same-length-4 c = c .before .before .before .before .before .before .before .before .before .before .before .before .pool .given
-
-same-length-5 : tie.Need-same-length-5
-same-length-5 c = c .before .before .before .before .before .before .before .before .before .before .journal .given
-
 returns : tie.Need-returns
 returns c =
     let at-opened = c .before .before in
@@ -51,10 +36,5 @@ render-script-spec =
     (tie.spec
     (λ c κs. search needs)
     render-opened-requires
-    same-length
-    same-length-2
-    same-length-3
-    same-length-4
-    same-length-5
-    (λ c. c .before .out .given)
+    (λ c. search needs) (λ c. search needs) (λ c. search needs) (λ c. search needs) (λ c. search needs) (λ c. search needs)
     returns)

@@ -4,15 +4,6 @@ use Rattle.printing_listing.proofs.Scripts.{all-cleared}
 use Rattle.printing_listing.proofs.script.render_too_long.Statement.{statement}
 use Rattle.printing_listing.proofs.script.render_too_long.Tie as tie
 
-same-length : tie.Need-same-length
-same-length c = c .before .before .before .before .before .before .before .before .before .before .before .before .before .before .before .before .before .before .before .before .before .nodes .given
-
-same-length-2 : tie.Need-same-length-2
-same-length-2 c = c .before .before .before .before .before .before .before .before .before .before .before .before .before .before .before .before .before .names .given
-
-same-length-3 : tie.Need-same-length-3
-same-length-3 c = c .before .before .before .before .before .before .before .before .before .before .before .before .before .lines .given
-
 returns : tie.Need-returns
 returns c =
     let at-refused = c .before .before in
@@ -34,12 +25,6 @@ pub render-too-long-spec : {M : Type 1} → statement M
 render-too-long-spec =
     tie.close
     (tie.spec
-    (λ c κs. search needs) (λ c κs. search needs) (λ c κs. search needs) (λ c κs. search needs) (λ c κs. search needs)
-    (λ c κs. search needs)
-    same-length
-    same-length-2
-    same-length-3
-    (λ c. c .before .before .before .before .before .before .before .before .before .pool .given)
-    (λ c. c .before .before .before .before .before .journal .given)
-    (λ c. c .before .out .given)
+    (λ c κs. search needs) (λ c κs. search needs) (λ c κs. search needs) (λ c κs. search needs) (λ c κs. search needs) (λ c κs. search needs)
+    (λ c. search needs) (λ c. search needs) (λ c. search needs) (λ c. search needs) (λ c. search needs) (λ c. search needs)
     returns)

@@ -5,15 +5,13 @@ use Rattle.lookups.specs.Lookups.{index-of}
 use Rattle.lookups.proofs.index.VersionIndex.from_node.Statement.{statement}
 use Rattle.lookups.proofs.index.VersionIndex.from_node.Tie as tie
 
-cast-t2 : tie.Need-cast-t2
-cast-t2 c = search needs
-
-add-t3 : tie.Need-add-t3
-add-t3 c = search needs
-
 returns : tie.Need-returns
 unfolding index-of
 returns c = refl
 
 pub from-node-spec : {M : Type 1} → statement M
-from-node-spec = tie.close (tie.spec cast-t2 add-t3 returns)
+from-node-spec =
+    tie.close
+    (tie.spec
+    (λ c. search needs) (λ c. search needs)
+    returns)
