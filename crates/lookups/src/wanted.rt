@@ -27,7 +27,7 @@ fn known_version(c: Counts, nodes: &[u32], names: &[u8], wanted: &[u8]) -> Versi
         let start = nodes[at] as usize;
         let end = start + (nodes[at + 1] as usize);
         if same_bytes(&names[start..end], wanted) {
-            return Version::Index(VersionIndex::from_node(NodeNumber(i as u16)));
+            return Version::Index(VersionIndex::from_node(NodeNumber::of_row(i as u16)));
         }
     }
     Version::Refused(UNKNOWN_VERSION)

@@ -20,6 +20,9 @@ answer-requires-2 c κs = search needs
 enum-known-r-2 : tie.Need-enum-known-r-2
 enum-known-r-2 c = search needs
 
+number-requires : tie.Need-number-requires
+number-requires c κs = search needs
+
 answer-requires-3 : tie.Need-answer-requires-3
 answer-requires-3 c κs = search needs
 
@@ -45,7 +48,8 @@ same-length-3 c = search needs
 returns-3 : tie.Need-returns-3
 returns-3 c =
     let x = c .before .before in
-    tells version-refusal version-value _ _ _ _ _ (x .before .before .before .r2 .given .1) (x .answer3 .ensures)
+    let i = x .before .before .number in
+    tells version-refusal version-value _ _ _ _ _ (x .before .before .before .before .r2 .given .1) (rw (i .ensures) at (x .answer3 .ensures))
 
 pub tell-version-spec : {M : Type 1} → statement M
 tell-version-spec =
@@ -56,6 +60,7 @@ tell-version-spec =
     enum-told
     answer-requires-2
     enum-known-r-2
+    number-requires
     answer-requires-3
     same-length
     returns

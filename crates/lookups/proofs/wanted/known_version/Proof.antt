@@ -1,6 +1,8 @@
 -- `known_version` meets its contract. The loop's invariant: the nodes from i on have other names. Assumes nothing.
 use borrow.Author.Needs.{needs}
 use native.Mathlib.Omega.{arith}
+use mathlib.Core.Path.{_∙_, ap}
+use Rattle.lookups.specs.Lookups.{index-of}
 use Rattle.lookups.proofs.LastNamed.{Backward, back-starts, back-row, back-found, back-more, back-ends}
 use Rattle.lookups.proofs.wanted.known_version.Statement.{statement}
 use Rattle.lookups.proofs.wanted.known_version.Tie as tie
@@ -39,7 +41,12 @@ part-same-bytes-end : tie.Need-part-same-bytes-end Inv-loop μ-loop
 part-same-bytes-end c = let d = c .before .before in let r = back-row _ _ _ _ _ (d .before .before .before .before .before .before .pre .0) _ (d .before .loop .inv) (d .loop-test .taken) in omega arith
 
 returns : tie.Need-returns Inv-loop μ-loop
-returns c = let d = c .before .before .before .before .before .before in back-found _ _ _ _ _ (d .before .before .before .before .before .before .pre .0) _ (d .before .loop .inv) (d .loop-test .taken) _ (c .before .before .same-bytes .ensures) (c .before .if1 .taken) _ (c .from-node .ensures)
+returns c =
+    let at-of-row = c .before in
+    let at-same-bytes = at-of-row .before .before in
+    let d = at-same-bytes .before .before .before .before in
+    back-found _ _ _ _ _ (d .before .before .before .before .before .before .pre .0) _ (d .before .loop .inv) (d .loop-test .taken) _
+    (at-same-bytes .same-bytes .ensures) (at-of-row .before .if1 .taken) _ (c .from-node .ensures ∙ ap index-of (at-of-row .of-row .ensures))
 
 loop-again : tie.Need-loop-again Inv-loop μ-loop
 loop-again c = let d = c .before .before .before .before .before in back-more _ _ _ _ _ (d .before .before .before .before .before .before .pre .0) _ (d .before .loop .inv) (d .loop-test .taken) _ (c .before .same-bytes .ensures) (c .if1 .left)
@@ -66,7 +73,7 @@ known-version-spec =
     add-end-2
     (λ c. search needs) (λ c. search needs)
     part-same-bytes-end
-    (λ c κs. search needs) (λ c. search needs) (λ c κs. search needs)
+    (λ c κs. search needs) (λ c. search needs) (λ c κs. search needs) (λ c κs. search needs)
     returns
     (λ c. search needs)
     loop-again

@@ -4,19 +4,19 @@ use Rattle.printing_listing.proofs.Scripts.{refused-listed}
 use Rattle.printing_listing.proofs.script.render_listing_refused.Statement.{statement}
 use Rattle.printing_listing.proofs.script.render_listing_refused.Tie as tie
 
-render-refused-requires : tie.Need-render-refused-requires
-render-refused-requires c κs = search needs
+put-refused-line-requires : tie.Need-put-refused-line-requires
+put-refused-line-requires c κs = search needs
 
 same-length : tie.Need-same-length
 same-length c = c .before .out .given
 
 returns : tie.Need-returns
 returns c =
-    let at-render-refused = c .before .before in
-    let at-args = at-render-refused .before .before .before in
+    let at-put-refused-line = c .before .before in
+    let at-args = at-put-refused-line .before .before .before in
     let a = at-args .args in
-    let p = at-render-refused .render-refused in
-    refused-listed (a .no) (a .place) (a .out .now) (p .last .1 .0) (p .result) (at-args .pre) (p .ensures)
+    let p = at-put-refused-line .put-refused-line in
+    refused-listed (a .no) (a .place) (a .out .now) (p .last .0) (p .result) (p .ensures)
 
 pub render-listing-refused-spec : {M : Type 1} → statement M
-render-listing-refused-spec = tie.close (tie.spec render-refused-requires same-length returns)
+render-listing-refused-spec = tie.close (tie.spec put-refused-line-requires same-length returns)
