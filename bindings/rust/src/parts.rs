@@ -82,12 +82,19 @@ impl VersionIndex {
     ///
     /// For the number `u32::MAX`, which no node has.
     pub fn from_node(node: NodeNumber) -> VersionIndex {
+        // The one place where one is added; `node_of` alone takes it off.
         VersionIndex(node.0.checked_add(1).expect("the number of a node"))
     }
 
-    /// An index that the library told.
+    /// The way back from [`from_node`](VersionIndex::from_node), by an index's number. No node
+    /// has the index 0.
+    fn node_of(index: u32) -> Option<NodeNumber> {
+        index.checked_sub(1).map(NodeNumber)
+    }
+
+    /// An index that the library told: that of its node, and none for 0.
     pub(crate) fn told(index: u32) -> Option<VersionIndex> {
-        (index != 0).then_some(VersionIndex(index))
+        VersionIndex::node_of(index).map(VersionIndex::from_node)
     }
 
     /// The index as a number, 1 or more.
@@ -97,7 +104,7 @@ impl VersionIndex {
 
     /// The named node that it is the version of: none of [`GLOBAL`](VersionIndex::GLOBAL).
     pub fn node(self) -> Option<NodeNumber> {
-        (self != VersionIndex::GLOBAL).then_some(NodeNumber(self.0 - 1))
+        VersionIndex::node_of(self.0).filter(|node| *node != NodeNumber::BASE)
     }
 }
 
@@ -170,5 +177,28 @@ impl<'b> Line<'b> {
             struck: code / 32 != 0,
             bytes: &pool[row[2] as usize..][..row[3] as usize],
         }
+    }
+}
+
+#[cfg(test)]
+mod tests {
+    use super::*;
+
+    /// What adds one and what takes it off are each other's way back, and the library's 0 is none.
+    #[test]
+    fn nodes_and_indices() {
+        for number in [0, 1, 2, 1023, 65535, u32::MAX - 1] {
+            let node = NodeNumber(number);
+            let index = VersionIndex::from_node(node);
+            assert_eq!(index.number(), number + 1);
+            assert_eq!(VersionIndex::node_of(index.number()), Some(node));
+            assert_eq!(VersionIndex::told(index.number()), Some(index));
+            assert_eq!(index.node(), (node != NodeNumber::BASE).then_some(node));
+        }
+        assert_eq!(
+            VersionIndex::from_node(NodeNumber::BASE),
+            VersionIndex::GLOBAL
+        );
+        assert_eq!(VersionIndex::told(0), None);
     }
 }

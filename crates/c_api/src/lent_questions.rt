@@ -29,7 +29,7 @@ fn tell_version(r: Version, out: &mut [u32]) -> u32
     match r {
         Version::Refused(no) => answer(no, 0, out),
         Version::Unversioned => answer(0, 0, out),
-        Version::Index(i) => answer(0, i.0, out),
+        Version::Index(i) => answer(0, i.number(), out),
     }
 }
 

@@ -26,7 +26,6 @@ use Rattle.input.specs.Splitting.{at-sign, part-before, name-part}
 use Rattle.printing.specs.Printing.{refused-fields}
 use Rattle.printing.proofs.Pieces.{Begins, Puts, begins, few-refused, line-end, puts-both, puts-long}
 use Rattle.printing_symbols.specs.Lines.{symbol-answered}
-use Rattle.printing_symbols.proofs.Rendered.{Rendered, rendered-some}
 use Rattle.desk.specs.declared.answering.Ran.{Ran}
 use Rattle.desk.specs.Answers.{Tells, ran-with}
 use Rattle.desk.specs.Asked.{asked, member-answered, member-fields, member-line}
@@ -102,9 +101,6 @@ module _ (c : Counts) (b : Buffers) (t d l : List ℕ) (k : ℕ) (r : Ran) (q : 
   unfolding asked
   list-asked e p = rw (eq-eqb (c .kind) export e) (q ∙ ap (λ (n : ℕ). ran-with c n true) (p .0), p .1)
 
-  pub script-asked : (c .kind ≡ export → ⊥) → length t + 48 ≤ length d → Rendered (length t) (symbol-answered (view c b) t) d l k
-      → Tells c b (λ b w. asked (c .kind) w t) d r l
+  pub script-asked : (c .kind ≡ export → ⊥) → Begins d (symbol-answered (view c b) t) l k → Tells c b (λ b w. asked (c .kind) w t) d r l
   unfolding asked
-  script-asked h room p =
-      let y = rendered-some (length t) (symbol-answered (view c b) t) d l k room p in
-      rw (ne-eqb (c .kind) export h) (q ∙ ap (λ (n : ℕ). ran-with c n true) (y .0), y .1)
+  script-asked h p = rw (ne-eqb (c .kind) export h) (q ∙ ap (λ (n : ℕ). ran-with c n true) (p .0), p .1)

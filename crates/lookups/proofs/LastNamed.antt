@@ -16,6 +16,7 @@ use Rattle.book.specs.View.{any-node}
 use Rattle.book.proofs.NodeRows.{Row, Walk, nodes-count, walk-count, walk-row, walk-stands}
 use Rattle.lookups.specs.declared.answers.Version.{Version}
 use Rattle.lookups.specs.declared.answers.Version.the-variants as version
+use Rattle.lookups.specs.declared.index.NodeNumber.{NodeNumber}
 use Rattle.lookups.specs.declared.index.VersionIndex.{VersionIndex}
 use Rattle.lookups.specs.Lookups.{global-index, index-of, known, last-named, node-number, wanted-version}
 
@@ -69,13 +70,14 @@ module _ {n : ℕ} {l m t : List ℕ} where
         asked = e ∙ ap (λ (u : List ℕ). same u t) (b ∙ back-row .name)
 
         -- the node has the name
-        pub back-found : r ≡ true → {v : VersionIndex} → v ≡ index-of (node-number (i - 1)) → version.Index v ≡ known (last-named (things node-form n l m) 0 t)
-        back-found y q =
+        pub back-found : r ≡ true → {k : NodeNumber} → k ≡ node-number (i - 1) → {v : VersionIndex} → v ≡ index-of k
+            → version.Index v ≡ known (last-named (things node-form n l m) 0 t)
+        back-found y w q =
             let xs : List Node = things node-form n l m in
             let k : 0 + length (take (i - 1) xs) ≡ i - 1 = omega (arith, length-take-le (i - 1) xs (omega (arith, counted))) in
             let f : last-named xs 0 t ≡ some (i - 1)
             = z .goes ∙ ap (λ (u : List Node). last-named u 0 t) cut ∙ last-here (take (i - 1) xs) (getD xs (i - 1) no-node) 0 t (sym asked ∙ y) ∙ ap some k in
-            rw (f, q)
+            rw (f, q, w)
 
         -- it has another, and the search goes on
         pub back-more : r ≡ false → Backward n l m t (i - 1)

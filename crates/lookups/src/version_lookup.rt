@@ -34,7 +34,7 @@ fn node_version(node: u32) -> Version
     ensures { λ r. ⌜ r ≡ node-version node ⌝ }
 {
     if node != 0 {
-        return Version::Index(VersionIndex::from_node(NodeNumber(node as u16)));
+        return Version::Index(VersionIndex::from_node(NodeNumber::of_row(node as u16)));
     }
     Version::Unversioned
 }

@@ -24,7 +24,7 @@ fn known_version(c: Counts, nodes: &[u32], names: &[u8], wanted: &[u8]) -> Versi
     while 0 < i {
         i -= 1;
         if same_bytes(node_name(nodes, names, i), wanted) {
-            return Version::Index(VersionIndex::from_node(NodeNumber(i as u16)));
+            return Version::Index(VersionIndex::from_node(NodeNumber::of_row(i as u16)));
         }
     }
     Version::Refused(UNKNOWN_VERSION)

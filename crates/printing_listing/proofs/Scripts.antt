@@ -30,7 +30,6 @@ use Rattle.printing.specs.Printing.{Begins, Puts, refused-line}
 use Rattle.printing.proofs.Digits.{few-digits}
 use Rattle.printing.proofs.Pieces.{begins, few-numbered, put-first, puts-both}
 use Rattle.printing_symbols.specs.Lines.{counts-answered, counts-line}
-use Rattle.printing_symbols.proofs.Rendered.{Rendered, rendered-some}
 use Rattle.printing_listing.specs.SymbolLines.{answers}
 use Rattle.printing_listing.proofs.Answers.{answer-few}
 use Rattle.printing_listing.specs.declared.script.Listed.{Listed}
@@ -39,12 +38,10 @@ use Rattle.printing_listing.specs.Script.{Prints, opened-printed, printe
 abbrev told-as : ℕ → ℕ → ℕ → Listed
 told-as n refusal place = record { length = n; refusal = refusal; place = place }
 
-pub refused-listed : (n place : ℕ) (d l : List ℕ) (r : ℕ) → 48 ≤ length d → Rendered 0 (refused-line n) d l r
+pub refused-listed : (n place : ℕ) (d l : List ℕ) (r : ℕ) → Begins d (refused-line n) l r
     → (told-as r n place ≡ with-refusal (length (refused-line n)) (declined n place)) × (l ≡ front (refused-line n) d)
 unfolding told
-refused-listed n place d l r h p =
-    let z = rendered-some 0 (refused-line n) d l r h p in
-    (ap (λ (k : ℕ). told-as k n place) (z .0), z .1)
+refused-listed n place d l r p = (ap (λ (k : ℕ). told-as k n place) (p .0), p .1)
 
 -- five buffers that are zeros, each of its length
 pub all-cleared : (n m l p j n′ m′ l′ p′ j′ : List ℕ) → n′ ≡ zeros (length n) → m′ ≡ zeros (length m) → l′ ≡ zeros (length l) → p′ ≡ zeros (length p)
@@ -81,14 +78,11 @@ answers-few w t (b ∷ s) = go (eqb b line-feed) (answers-few w [] s) (answers-f
 
 -- ---- the exits of `render_opened`: w is the book, d was lent, d₁ is left of it behind the counts, and d₂ at the end
 module _ (w : Option Book) (symbols d : List ℕ) (room : 48 ≤ length d) where
-  pub opened-refused : (n : ℕ) → (n ≡ 0 → ⊥) → (l : List ℕ) (r : ℕ) → Rendered 0 (refused-line n) d l r → Begins d (opened-printed n w symbols) l r
+  pub opened-refused : (n : ℕ) → (n ≡ 0 → ⊥) → (l : List ℕ) (r : ℕ) → Begins d (refused-line n) l r → Begins d (opened-printed n w symbols) l r
   unfolding opened-printed
-  opened-refused n h l r p = rw (ne-eqb n 0 h) (rendered-some 0 (refused-line n) d l r room p)
+  opened-refused n h l r p = rw (ne-eqb n 0 h) p
 
-  module _ (more : 0 < length symbols → 84 + 15 * length symbols ≤ length d) (d₁ : List ℕ) (n₁ : ℕ) (p : Rendered 0 (counts-answered w) d d₁ n₁) where
-    counted-put : Begins d (counts-answered w) d₁ n₁
-    counted-put = rendered-some 0 (counts-answered w) d d₁ n₁ room p
-
+  module _ (more : 0 < length symbols → 84 + 15 * length symbols ≤ length d) (d₁ : List ℕ) (n₁ : ℕ) (counted-put : Begins d (counts-answered w) d₁ n₁) where
     pub symbols-room : 0 < length symbols → n₁ + 48 + 15 * length symbols ≤ length d₁
     symbols-room k =
         let f = counts-few w in

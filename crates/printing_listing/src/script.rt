@@ -17,8 +17,8 @@ use book::Counts;
 use numbers::TOO_LONG;
 use packing::clear_bytes;
 use packing::clear_numbers;
+use printing::put_refused_line;
 use printing_symbols::render_counts;
-use printing_symbols::render_refused;
 use version_script::open;
 
 // How many bytes are printed, and the refusal with its place, or 0: the script's, that of an input over the limit, or that of an `out` without room.
@@ -33,7 +33,7 @@ fn render_listing_refused(no: u32, place: usize, out: &mut [u8]) -> Listed
     requires { ⌜ tail-room ≤ length (now out) ⌝ }
     ensures { λ r. ⌜ (r ≡ with-refusal (length (refused-line no)) (declined no place)) × (now (out .exit) ≡ front (refused-line no) (now (out .entry))) ⌝ }
 {
-    let length = render_refused(no, out);
+    let length = put_refused_line(out, no);
     Listed {
         length,
         refusal: no,
@@ -83,7 +83,7 @@ fn render_opened(
         (now (symbols .entry))) (now (out .exit)) r ⌝ }
 {
     if refusal != 0 {
-        return render_refused(refusal, out);
+        return put_refused_line(out, refusal);
     }
     let from = render_counts(c, nodes, names, lines, pool, journal, out);
     render_symbols(c, nodes, names, lines, pool, journal, symbols, from, out)

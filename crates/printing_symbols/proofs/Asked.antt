@@ -1,5 +1,5 @@
--- A symbol's line, asked of a book: at its first `@`, and where the room is asked for first. Assumes nothing.
-use Prim.Native.Nat.{ℕ, _+_, _-_, _<_, _≤_}
+-- A symbol's line, asked of a book, at its first `@`. Assumes nothing.
+use Prim.Native.Nat.{ℕ, _+_, _-_, _≤_}
 use mathlib.Core.Path.{_≡_, sym, _∙_}
 use mathlib.Core.List.{List}
 use mathlib.Core.Option.{Option, some, none}
@@ -19,8 +19,7 @@ use Rattle.lookups.specs.declared.answers.Locality.{Locality}
 use Rattle.lookups.specs.Lookups.{locality-asked, version-asked}
 use Rattle.input.specs.Splitting.{at-sign, name-part, wanted-part}
 use Rattle.printing.specs.Printing.{Begins}
-use Rattle.printing_symbols.specs.Lines.{Rendered, asked-line, symbol-answered, symbol-line}
-use Rattle.printing_symbols.proofs.Rendered.{has-room, no-room}
+use Rattle.printing_symbols.specs.Lines.{asked-line, symbol-answered, symbol-line}
 
 -- ---- a symbol's line
 pub asked-put : (d name : List ℕ) (w : Option Book) (wanted : Option (List ℕ)) (v : Version) (s : Locality) (l : List ℕ) (r : ℕ)
@@ -55,22 +54,3 @@ module _ (line d : List ℕ) (x : Found) (e : x ≡ first-from (is at-sign) line
         → Begins d (asked-line w (take p line) (some (take (length line - (p + 1)) (drop (p + 1) line)))) l r → Begins d (symbol-answered w line) l r
     unfolding symbol-answered name-part wanted-part
     split-put w l r q = rw (← e, f) (rw (take-all (length line - (p + 1)) (drop (p + 1) line) (omega (arith, length-drop (p + 1) line))) at q)
-
--- where the room is asked for first
-module _ (line d : List ℕ) (room : 48 ≤ length d) where
-  pub short-line : (w : Option Book) → length d - 48 < length line → Rendered (length line) (symbol-answered w line) d d 0
-  short-line w h = no-room (length line) (symbol-answered w line) d (omega arith)
-
-  module _ (fits : length line ≤ length d - 48) (x : Found) (e : x ≡ first-from (is at-sign) line 0) where
-    pub plain-line : (w : Option Book) (l : List ℕ) (r : ℕ) → x ≡ Nowhere → Begins d (asked-line w line none) l r
-        → Rendered (length line) (symbol-answered w line) d l r
-    plain-line w l r f p = has-room (length line) (symbol-answered w line) d l r (omega arith) (plain-put line d x e w l r f p)
-
-    module _ (p : ℕ) (f : x ≡ Here p) where
-      pub name-room : length (take p line) + 48 ≤ length d
-      name-room = part-room line d x e p f (omega arith)
-
-      pub split-line : (w : Option Book) (l : List ℕ) (r : ℕ)
-          → Begins d (asked-line w (take p line) (some (take (length line - (p + 1)) (drop (p + 1) line)))) l r
-          → Rendered (length line) (symbol-answered w line) d l r
-      split-line w l r q = has-room (length line) (symbol-answered w line) d l r (omega arith) (split-put line d x e p f w l r q)

@@ -1,4 +1,4 @@
 pub mod Pieces
-pub mod Rendered
+pub mod Counted
 pub mod Fields
 pub mod Asked

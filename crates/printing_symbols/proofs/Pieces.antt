@@ -19,7 +19,7 @@ abbrev parents-word : List ℕ
 parents-word = 32 ∷ 112 ∷ 97 ∷ 114 ∷ 101 ∷ 110 ∷ 116 ∷ 115 ∷ 32 ∷ []
 
 module _ (d : List ℕ) where
-  pub counts-line-put : (n m : ℕ) (d₁ d₂ d₃ d₄ d₅ : List ℕ) (a b c e r : ℕ) → 48 ≤ length d
+  pub counts-line-put : (n m : ℕ) (d₁ d₂ d₃ d₄ d₅ : List ℕ) (a b c e r : ℕ) → 36 ≤ length d
       → Puts d 0 nodes-word d₁ a → Puts d₁ a (decimal n) d₂ b → Puts d₂ b parents-word d₃ c → Puts d₃ c (decimal m) d₄ e → Puts d₄ e line-end d₅ r
       → Begins d (counts-line (count.Counted n) (count.Counted m)) d₅ r
   unfolding counts-line codes

@@ -1,14 +1,8 @@
--- The lines that verlist prints, as 01 has them, and how they stand in a lent buffer. A number in decimal, `! N` and `refused N` are printing's. Assumes
--- nothing.
-use Prim.Native.Nat.{ℕ, _+_}
-use mathlib.Core.Path.{_≡_}
+-- The lines that verlist prints, as 01 has them, and the room that they take. A number in decimal, `! N` and `refused N` are printing's. Assumes nothing.
+use Prim.Native.Nat.{ℕ}
 use mathlib.Core.List.{List, [], _∷_, _++_}
-use mathlib.Core.Bool.{cond}
 use mathlib.Core.Option.{Option}
-use lib.Dec.{leb}
-use lib.ListN.{length}
 use Rattle.numbers.specs.Signs.{dash, line-feed, space}
-use Rattle.lists.specs.Front.{front}
 use Rattle.lists.specs.Texts.{codes}
 use Rattle.book.specs.Books.{Book}
 use Rattle.ranking.specs.Matching.{plain}
@@ -63,8 +57,7 @@ asked-line w name wanted = symbol-line name (version-asked w (plain name) wanted
 unfoldable pub symbol-answered : Option Book → List ℕ → List ℕ
 symbol-answered w t = asked-line w (name-part t) (wanted-part t)
 
--- ---- in a lent buffer: where a line might not fit, nothing is written, and 0 is answered. What is printed behind a name, or without one, is at most 48
--- bytes, and the line of the counts at most 36
+-- ---- the room of a lent buffer: what is printed behind a name, or without one, is at most 48 bytes, and the line of the counts at most 36
 abbrev pub tail-room : ℕ
 tail-room = 48
 
@@ -74,13 +67,3 @@ counts-room = 36
 -- a whole listing has room in 48 bytes and 15 for each byte of the input: an answer has at most 14 bytes besides its name, and its line has one at least
 abbrev pub byte-room : ℕ
 byte-room = 15
-
-unfoldable pub line-told : ℕ → List ℕ → ℕ → ℕ
-line-told name line room = cond (leb (name + tail-room) room) (length line) 0
-
-unfoldable pub line-left : ℕ → List ℕ → List ℕ → List ℕ
-line-left name line out = cond (leb (name + tail-room) (length out)) (front line out) out
-
--- both: the line behind a name of that length was asked for in the buffer d, which is l then, and r is answered
-abbrev pub Rendered : ℕ → List ℕ → List ℕ → List ℕ → ℕ → Type 0
-Rendered name line d l r = (r ≡ line-told name line (length d)) × (l ≡ line-left name line d)

@@ -1,11 +1,11 @@
-// Lines that verlist prints, each into a lent buffer: a refusal's, and the counts'. Definitions: specs/Lines.antt, from document 01, 'Known points' (the
-// program `verlist`), which has the symbols' lines too.
+// A line that verlist prints, at the start of a lent buffer: the counts'. Definitions: specs/Lines.antt, from document 01, 'Known points' (the program
+// `verlist`), which has the symbols' lines too. A line asks for room: whoever prints for a user sees first that there is, and answers 8 where there is not.
 ghost use Prim.Native.Nat.{_≤_};
 ghost use lib.ListN.{length};
 ghost use Rattle.book.specs.Layout.{five};
 ghost use Rattle.book.specs.View.{view};
-ghost use Rattle.printing.specs.Printing.{Begins, refused-line};
-ghost use Rattle.printing_symbols.specs.Lines.{Rendered, counts-answered, counts-line, tail-room};
+ghost use Rattle.printing.specs.Printing.{Begins};
+ghost use Rattle.printing_symbols.specs.Lines.{counts-answered, counts-line, counts-room};
 use book::Counts;
 use counting::Count;
 use counting::parent_count;
@@ -19,18 +19,8 @@ pub mod symbols;
 // The room that is asked for besides a name's bytes.
 pub const TAIL_ROOM: usize = 48;
 
-// `refused` and the number.
-pub fn render_refused(no: u32, out: &mut [u8]) -> usize
-    ensures { λ r. ⌜ Rendered 0 (refused-line no) (now (out .entry)) (now (out .exit)) r ⌝ }
-{
-    if out.len() < TAIL_ROOM {
-        return 0;
-    }
-    put_refused_line(out, no)
-}
-
 fn put_counts_line(out: &mut [u8], n: u32, p: u32) -> usize
-    requires { ⌜ tail-room ≤ length (now out) ⌝ }
+    requires { ⌜ counts-room ≤ length (now out) ⌝ }
     ensures { λ r. ⌜ Begins (now (out .entry)) (counts-line (Count.Counted n) (Count.Counted p)) (now (out .exit)) r ⌝ }
 {
     let a = put_text(out, 0, b"nodes ");
@@ -50,13 +40,11 @@ pub fn render_counts(
     journal: &[u32],
     out: &mut [u8],
 ) -> usize
-    ensures { λ r. ⌜ Rendered 0
+    requires { ⌜ counts-room ≤ length (now out) ⌝ }
+    ensures { λ r. ⌜ Begins (now (out .entry))
         (counts-answered (view c (five (now (nodes .entry)) (now (names .entry)) (now (lines .entry)) (now (pool .entry)) (now (journal .entry)))))
-        (now (out .entry)) (now (out .exit)) r ⌝ }
+        (now (out .exit)) r ⌝ }
 {
-    if out.len() < TAIL_ROOM {
-        return 0;
-    }
     match version_count(c, nodes, names, lines, pool, journal) {
         Count::Refused(no) => put_refused_line(out, no),
         Count::Counted(n) => match parent_count(c, nodes, names, lines, pool, journal) {

@@ -1,5 +1,5 @@
-// The lines that verlist prints for symbols, each into a lent buffer. Definitions: specs/Lines.antt, from document 01, 'Known points' (the program
-// `verlist`).
+// The lines that verlist prints for symbols, each at the start of a lent buffer that has room. Definitions: specs/Lines.antt, from document 01, 'Known points'
+// (the program `verlist`).
 ghost use Prim.Native.Nat.{_+_, _≤_};
 ghost use mathlib.Core.List.{_++_};
 ghost use lib.ListN.{length};
@@ -7,13 +7,13 @@ ghost use Rattle.book.specs.Layout.{five};
 ghost use Rattle.book.specs.View.{view};
 ghost use Rattle.lookups.specs.Lookups.{wanted-of};
 ghost use Rattle.printing.specs.Printing.{Begins, Puts, decimal};
-ghost use Rattle.printing_symbols.specs.Lines.{Rendered, asked-line, fields, symbol-answered, symbol-line, tail-room};
-use crate::TAIL_ROOM;
+ghost use Rattle.printing_symbols.specs.Lines.{asked-line, fields, symbol-answered, symbol-line, tail-room};
 use book::Counts;
 use input::splitting::find_at;
 use linker_script::Found;
 use lookups::answers::Locality;
 use lookups::answers::Version;
+use lookups::index::VersionIndex;
 use lookups::locality_lookup::locality;
 use lookups::version_lookup::version_for_symbol;
 use printing::put_number;
@@ -21,11 +21,11 @@ use printing::put_refused_fields;
 use printing::put_text;
 
 // An index, and what stands behind it.
-fn put_index(out: &mut [u8], at: usize, index: u32, behind: &[u8]) -> usize
+fn put_index(out: &mut [u8], at: usize, index: VersionIndex, behind: &[u8]) -> usize
     requires { ⌜ (at + 12 ≤ length (now out)) × (length (now behind) ≤ 2) ⌝ }
-    ensures { λ r. ⌜ Puts (now (out .entry)) at (decimal index ++ now (behind .entry)) (now (out .exit)) r ⌝ }
+    ensures { λ r. ⌜ Puts (now (out .entry)) at (decimal (index .0) ++ now (behind .entry)) (now (out .exit)) r ⌝ }
 {
-    let end = put_number(out, at, index);
+    let end = put_number(out, at, index.number());
     put_text(out, end, behind)
 }
 
@@ -43,9 +43,9 @@ fn put_fields(out: &mut [u8], at: usize, v: Version, l: Locality) -> usize
             Locality::Refused(no) => put_refused_fields(out, at, no),
         },
         Version::Index(i) => match l {
-            Locality::Global => put_index(out, at, i.0, b" G"),
-            Locality::Local => put_index(out, at, i.0, b" L"),
-            Locality::Nothing => put_index(out, at, i.0, b" -"),
+            Locality::Global => put_index(out, at, i, b" G"),
+            Locality::Local => put_index(out, at, i, b" L"),
+            Locality::Nothing => put_index(out, at, i, b" -"),
             Locality::Refused(no) => put_refused_fields(out, at, no),
         },
     }
@@ -96,7 +96,7 @@ fn render_asked(
     put_symbol_line(out, name, v, l)
 }
 
-// A symbol's line of the input, asked of a book. The room that is asked for goes by the whole line.
+// A symbol's line of the input, asked of a book. The room goes by the whole line.
 pub fn render_symbol(
     c: Counts,
     nodes: &[u32],
@@ -107,16 +107,11 @@ pub fn render_symbol(
     line: &[u8],
     out: &mut [u8],
 ) -> usize
-    ensures { λ r. ⌜ Rendered (length (now (line .entry)))
+    requires { ⌜ length (now line) + tail-room ≤ length (now out) ⌝ }
+    ensures { λ r. ⌜ Begins (now (out .entry))
         (symbol-answered (view c (five (now (nodes .entry)) (now (names .entry)) (now (lines .entry)) (now (pool .entry)) (now (journal .entry))))
-        (now (line .entry))) (now (out .entry)) (now (out .exit)) r ⌝ }
+        (now (line .entry))) (now (out .exit)) r ⌝ }
 {
-    if out.len() < TAIL_ROOM {
-        return 0;
-    }
-    if out.len() - TAIL_ROOM < line.len() {
-        return 0;
-    }
     match find_at(line) {
         Found::Nowhere => render_asked(
             c,

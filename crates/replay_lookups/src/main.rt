@@ -53,7 +53,7 @@ fn count_answer(count: Count) -> u8 {
 
 fn version_answer(version: Version) -> u8 {
     match version {
-        Version::Index(i) => digit_of(i.0),
+        Version::Index(i) => digit_of(i.number()),
         Version::Unversioned => b'0',
         Version::Refused(no) => {
             if no == UNKNOWN_VERSION {

@@ -28,14 +28,14 @@ use meanings::say_meaning;
 use meanings::say_refused;
 use numbers::TOO_LONG;
 use packing::same_bytes;
-use printing_symbols::render_refused;
+use printing::put_refused_line;
 
 // The longest input.
 const INPUT_LIMIT: usize = 65536;
 
 // A text that is refused: the number, and for a person where and why.
 fn refuse(text: &[u8], no: u32, place: usize, out: &mut [u8; 1048576]) {
-    let length = render_refused(no, out);
+    let length = put_refused_line(out, no);
     io::write_all(STDOUT_FILENO, front(out, length));
     say_refused(b"trial_desk: ", text, place, no);
 }

@@ -1,2 +1,4 @@
 mod TakenBack
 mod Backs
+mod Machine
+mod Told

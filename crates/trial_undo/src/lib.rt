@@ -1,6 +1,6 @@
-// "undo takes back the latest edit not yet undone": a core that takes the counts by value, and `undo`, to which they are lent. A refusal changes nothing.
-// Definitions: trial/specs/Trial.antt, from document 01, 'The book'. Both ask first whether the buffers hold a book (14); what they do then stands in
-// `taking_back`.
+// "undo takes back the latest edit not yet undone": `undo`, to which the counts are lent, over a core that takes them by value. Whoever holds the counts as a
+// value goes through it by `undo_latest`. A refusal changes nothing. Definitions: trial/specs/Trial.antt, from document 01, 'The book'. It is asked first
+// whether the buffers hold a book (14); what is done then stands in `taking_back`.
 ghost use Rattle.book.specs.Layout.{five};
 ghost use Rattle.trial.specs.Changes.{Answers, Updates};
 ghost use Rattle.trial.specs.Trial.{undo-asked};
@@ -13,35 +13,13 @@ use trial::Edited;
 
 pub mod taking_back;
 
-// The latest edit taken back, of a book whose counts are passed by value.
-pub fn undo_latest(
-    c: Counts,
-    nodes: &[u32],
-    names: &[u8],
-    lines: &mut [u32],
-    pool: &mut [u8],
-    journal: &mut [u32],
-) -> Edited
-    ensures { λ r. ⌜ Answers c (five (now (nodes .entry)) (now (names .entry)) (now (lines .entry)) (now (pool .entry)) (now (journal .entry)))
-        (λ b w. undo-asked w)
-        r (five (now (nodes .entry)) (now (names .entry)) (now (lines .exit)) (now (pool .exit)) (now (journal .exit))) ⌝ }
-{
-    if !is_book(c, nodes, names, lines, pool, journal) {
-        return Edited::Refused(NO_BOOK);
-    }
-    if c.edits == 0 {
-        return Edited::Refused(NOTHING_TO_UNDO);
-    }
-    Edited::Done(take_back_latest(c, lines, pool, journal))
-}
-
 // What undo makes of the counts, and the number that it answers.
 struct Undone {
     counts: Counts,
     number: u32,
 }
 
-// The same, with what `undo` answers and leaves in the counts beside each other.
+// The latest edit taken back, of a book whose counts are passed by value.
 fn undo_by_value(
     c: Counts,
     nodes: &[u32],
@@ -54,16 +32,20 @@ fn undo_by_value(
         (λ b w. undo-asked w)
         (r .number) (r .counts) (five (now (nodes .entry)) (now (names .entry)) (now (lines .exit)) (now (pool .exit)) (now (journal .exit))) ⌝ }
 {
-    match undo_latest(c, nodes, names, lines, pool, journal) {
-        Edited::Refused(no) => Undone {
+    if !is_book(c, nodes, names, lines, pool, journal) {
+        return Undone {
             counts: c,
-            number: no,
-        },
-        Edited::Done(d) => Undone {
-            counts: d,
-            number: 0,
-        },
+            number: NO_BOOK,
+        };
     }
+    if c.edits == 0 {
+        return Undone {
+            counts: c,
+            number: NOTHING_TO_UNDO,
+        };
+    }
+    let counts = take_back_latest(c, lines, pool, journal);
+    Undone { counts, number: 0 }
 }
 
 // "The book's counts are lent to undo, which updates them": 0, or the number that says no.
@@ -84,4 +66,43 @@ pub fn undo(
     let u = undo_by_value(c, nodes, names, lines, pool, journal);
     *counts = u.counts;
     u.number
+}
+
+// Counts that are a value are lent to `undo`, for the one call.
+fn undo_lent(
+    c: Counts,
+    nodes: &[u32],
+    names: &[u8],
+    lines: &mut [u32],
+    pool: &mut [u8],
+    journal: &mut [u32],
+) -> Undone
+    ensures { λ r. ⌜ Updates c (five (now (nodes .entry)) (now (names .entry)) (now (lines .entry)) (now (pool .entry)) (now (journal .entry)))
+        (λ b w. undo-asked w)
+        (r .number) (r .counts) (five (now (nodes .entry)) (now (names .entry)) (now (lines .exit)) (now (pool .exit)) (now (journal .exit))) ⌝ }
+{
+    let mut counts = c;
+    let number = undo(&mut counts, nodes, names, lines, pool, journal);
+    Undone { counts, number }
+}
+
+// The latest edit taken back, for callers whose counts are a value: the counts behind it, or the number that says no.
+pub fn undo_latest(
+    c: Counts,
+    nodes: &[u32],
+    names: &[u8],
+    lines: &mut [u32],
+    pool: &mut [u8],
+    journal: &mut [u32],
+) -> Edited
+    ensures { λ r. ⌜ Answers c (five (now (nodes .entry)) (now (names .entry)) (now (lines .entry)) (now (pool .entry)) (now (journal .entry)))
+        (λ b w. undo-asked w)
+        r (five (now (nodes .entry)) (now (names .entry)) (now (lines .exit)) (now (pool .exit)) (now (journal .exit))) ⌝ }
+{
+    let u = undo_lent(c, nodes, names, lines, pool, journal);
+    if u.number != 0 {
+        return Edited::Refused(u.number);
+    }
+    let counts = u.counts;
+    Edited::Done(counts)
 }

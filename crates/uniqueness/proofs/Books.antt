@@ -33,6 +33,7 @@ use Rattle.lookups.proofs.version_lookup.version_for_symbol
 use Rattle.lookups.proofs.locality_lookup.locality_in_book
 use Rattle.lookups.proofs.locality_lookup.locality
 use Rattle.lookups.proofs.index.VersionIndex.from_node
+use Rattle.lookups.proofs.index.VersionIndex.number
 use Rattle.lookups.proofs.wanted.wanted_version
 use Rattle.version_script.proofs.open as version-script-open
 use Rattle.counting.proofs.version_count
@@ -131,6 +132,9 @@ find-match-unique κs a x y v w p q = (same p q, refl)
 -- ---- lookups
 pub from-node-unique : Unique from_node.ended from_node.Reads.Post
 from-node-unique κs a x y v w p q = (same p q, refl)
+
+pub number-unique : Unique number.ended number.Reads.Post
+number-unique κs a x y v w p q = (same p q, refl)
 
 pub wanted-version-unique : Unique wanted_version.ended wanted_version.Reads.Post
 wanted-version-unique κs a x y v w p q = (same p q, refl)

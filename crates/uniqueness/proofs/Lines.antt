@@ -2,7 +2,6 @@
 use mathlib.Core.Path.{refl}
 use Rattle.uniqueness.specs.Unique.{Unique}
 use Rattle.uniqueness.proofs.Same.{_▹_, same}
-use Rattle.printing_symbols.proofs.render_refused
 use Rattle.printing_symbols.proofs.render_counts
 use Rattle.printing_symbols.proofs.symbols.put_symbol_line
 use Rattle.printing_symbols.proofs.symbols.render_symbol
@@ -21,9 +20,6 @@ use Rattle.desk.proofs.questions.run_question
 use Rattle.desk.proofs.run_line
 
 -- ---- printing_symbols
-pub render-refused-unique : Unique render_refused.ended render_refused.Reads.Post
-render-refused-unique κs a x y v w p q = (same (p .0) (q .0), λ i. tt ▹ same (p .1) (q .1) i ▹ tt)
-
 pub render-counts-unique : Unique render_counts.ended render_counts.Reads.Post
 render-counts-unique κs a x y v w p q = (same (p .0) (q .0), λ i. tt ▹ tt ▹ tt ▹ tt ▹ tt ▹ tt ▹ same (p .1) (q .1) i ▹ tt)
 

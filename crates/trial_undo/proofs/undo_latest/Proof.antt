@@ -1,39 +1,14 @@
--- `undo_latest` meets its contract, by the laws of TakenBack. Assumes nothing.
+-- `undo_latest` meets its contract, by the laws of Told. Assumes nothing.
 use borrow.Author.Needs.{needs}
-use Rattle.book.specs.Layout.{Buffers, five}
-use Rattle.trial.proofs.Answers.{Shown, shown}
-use Rattle.trial_undo.proofs.TakenBack.{undo-able, undo-done, undo-no-book, undo-nothing}
+use Rattle.trial_undo.proofs.Told.{told-done, told-refused}
 use Rattle.trial_undo.proofs.undo_latest.Statement.{statement}
 use Rattle.trial_undo.proofs.undo_latest.Tie as tie
 
--- the book that is held
-abbrev entry : tie.Else1 → tie.Start
-entry c = c .before .before .before .before .before .before .before .before .before .before
-
-abbrev lent : tie.Start → Buffers
-lent s = let a = s .args in five (a .nodes .now) (a .names .now) (a .lines .now) (a .pool .now) (a .journal .now)
-
-here : (c : tie.Else1) → let s = entry c in Shown (s .args .c) (lent s)
-here c = shown _ _ _ (c .before .is-book .ensures) (c .if1 .left)
-
 returns : tie.Need-returns
-returns c = undo-no-book _ _ _ (c .before .is-book .ensures) (c .if1 .taken)
+returns c = search told-refused
 
 returns-2 : tie.Need-returns-2
-returns-2 c =
-    let d = c .before .before in
-    undo-nothing _ _ _ (d .before .is-book .ensures) (d .if1 .left) (c .if2 .taken)
-
-take-back-latest-requires : tie.Need-take-back-latest-requires
-take-back-latest-requires c κs =
-    let d = c .before .before .before in
-    undo-able (here (d .before .before)) (d .if2 .left)
-
-returns-3 : tie.Need-returns-3
-returns-3 c =
-    let t = c .before .before .before .before .before .before in
-    let d = t .before .before .before .before in
-    undo-done (here (d .before .before)) (d .if2 .left) _ _ _ _ (t .take-back-latest .ensures)
+returns-2 c = search told-done
 
 pub undo-latest-spec : {M : Type 1} → statement M
 undo-latest-spec =
@@ -42,7 +17,4 @@ undo-latest-spec =
     (λ c κs. search needs) (λ c. search needs) (λ c. search needs) (λ c. search needs)
     returns
     (λ c. search needs) (λ c. search needs) (λ c. search needs)
-    returns-2
-    take-back-latest-requires
-    (λ c. search needs) (λ c. search needs) (λ c. search needs)
-    returns-3)
+    returns-2)

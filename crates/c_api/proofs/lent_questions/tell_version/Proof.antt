@@ -11,13 +11,17 @@ returns-2 : tie.Need-returns-2
 returns-2 c = search tells
 
 returns-3 : tie.Need-returns-3
-returns-3 c = search tells
+returns-3 c =
+    let x = c .before .before in
+    let i = x .before .before .number in
+    tells version-refusal version-value _ _ _ _ _ (x .before .before .before .before .r2 .given .1) (rw (i .ensures) at (x .answer3 .ensures))
 
 pub tell-version-spec : {M : Type 1} → statement M
 tell-version-spec =
     tie.close
     (tie.spec
-    (λ c. search needs) (λ c κs. search needs) (λ c. search needs) (λ c κs. search needs) (λ c. search needs) (λ c κs. search needs) (λ c. search needs)
+    (λ c. search needs) (λ c κs. search needs) (λ c. search needs) (λ c κs. search needs) (λ c. search needs) (λ c κs. search needs)
+    (λ c κs. search needs) (λ c. search needs)
     returns
     (λ c. search needs)
     returns-2

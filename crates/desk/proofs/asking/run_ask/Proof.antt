@@ -23,7 +23,7 @@ returns-2 c =
     let a = at-args .args in
     let b = five (a .nodes .now) (a .names .now) (a .lines .now) (a .pool .now) (a .journal .now) in
     script-asked (a .c) b (a .t .now) (a .out .now) _ (at-render-symbol .render-symbol .result) _
-    (c .printed2 .ensures) (at-if1 .if1 .left) (at-args .pre) (at-render-symbol .render-symbol .ensures)
+    (c .printed2 .ensures) (at-if1 .if1 .left) (at-render-symbol .render-symbol .ensures)
 
 pub run-ask-spec : {M : Type 1} → statement M
 run-ask-spec =

@@ -7,16 +7,11 @@ use Rattle.lookups.proofs.version_lookup.node_version.Tie as tie
 
 returns : tie.Need-returns
 unfolding node-version
-returns c = rw (ne-eqb _ _ (c .before .if1 .taken), c .from-node .ensures)
+returns c = rw (ne-eqb _ _ (c .before .before .if1 .taken), c .from-node .ensures, c .before .of-row .ensures)
 
 returns-2 : tie.Need-returns-2
 unfolding node-version
 returns-2 c = rw (eq-eqb _ _ (c .if1 .left))
 
 pub node-version-spec : {M : Type 1} → statement M
-node-version-spec =
-    tie.close
-    (tie.spec
-    (λ c. search needs) (λ c κs. search needs)
-    returns
-    returns-2)
+node-version-spec = tie.close (tie.spec (λ c. search needs) (λ c κs. search needs) (λ c κs. search needs) returns returns-2)

@@ -23,7 +23,7 @@ known-version-spec =
     (λ c. search back-starts)
     (λ c. search needs)
     (λ c κs. search back-lies)
-    (λ c κs. search needs) (λ c. search needs) (λ c κs. search needs)
+    (λ c κs. search needs) (λ c. search needs) (λ c κs. search needs) (λ c κs. search needs)
     (λ c. search back-found)
     (λ c. search needs)
     (λ c. search back-more)

@@ -6,15 +6,11 @@ use Rattle.printing_listing.proofs.script.render_listing_refused.Tie as
 
 returns : tie.Need-returns
 returns c =
-    let at-render-refused = c .before .before in
-    let at-args = at-render-refused .before .before .before in
+    let at-put-refused-line = c .before .before in
+    let at-args = at-put-refused-line .before .before .before in
     let a = at-args .args in
-    let p = at-render-refused .render-refused in
-    refused-listed (a .no) (a .place) (a .out .now) (p .last .1 .0) (p .result) (at-args .pre) (p .ensures)
+    let p = at-put-refused-line .put-refused-line in
+    refused-listed (a .no) (a .place) (a .out .now) (p .last .0) (p .result) (p .ensures)
 
 pub render-listing-refused-spec : {M : Type 1} → statement M
-render-listing-refused-spec =
-    tie.close
-    (tie.spec
-    (λ c κs. search needs) (λ c. search needs)
-    returns)
+render-listing-refused-spec = tie.close (tie.spec (λ c κs. search needs) (λ c. search needs) returns)

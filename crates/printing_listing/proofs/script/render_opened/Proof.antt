@@ -12,9 +12,9 @@ returns c =
     let at-if1 = at-refused .before .before in
     let at-args = at-if1 .before .before .before .before .before .before .before .before in
     let a = at-args .args in
-    let p = at-refused .render-refused in
+    let p = at-refused .put-refused-line in
     opened-refused (view (a .c) (five (a .nodes .now) (a .names .now) (a .lines .now) (a .pool .now) (a .journal .now))) (a .symbols .now)
-    (a .out .now) (at-args .pre .0) (a .refusal) (at-if1 .if1 .taken) (p .last .1 .0) (p .result) (p .ensures)
+    (a .out .now) (at-args .pre .0) (a .refusal) (at-if1 .if1 .taken) (p .last .0) (p .result) (p .ensures)
 
 render-symbols-requires : tie.Need-render-symbols-requires
 render-symbols-requires c κs =

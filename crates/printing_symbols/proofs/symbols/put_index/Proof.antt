@@ -12,8 +12,7 @@ put-number-requires c κs = search needs
 put-text-requires : tie.Need-put-text-requires
 put-text-requires c κs =
     let at-put-number = c .before .before .before in
-    let at-args = at-put-number .before .before .before .before in
-    omega (arith, few-digits (at-args .args .index), at-put-number .put-number .ensures .0)
+    omega (arith, few-digits (at-put-number .before .number .result), at-put-number .put-number .ensures .0)
 
 same-length : tie.Need-same-length
 same-length c = search needs
@@ -22,12 +21,15 @@ returns : tie.Need-returns
 returns c =
     let at-put-text = c .before .before in
     let at-put-number = at-put-text .before .before .before .before in
-    let at-args = at-put-number .before .before .before .before in
+    let at-number = at-put-number .before in
+    let at-args = at-number .before .before .before .before in
     let a = at-args .args in
+    let i = at-number .number in
     let p = at-put-number .put-number in
     let q = at-put-text .put-text in
-    index-put (a .out .now) (a .at) (a .index) (p .last .0) (q .last .0) (p .result) (q .result) (a .behind .now)
-    (at-args .pre .0) (at-args .pre .1) (p .ensures) (q .ensures)
+    rw (← i .ensures)
+    (index-put (a .out .now) (a .at) (i .result) (p .last .0) (q .last .0) (p .result) (q .result) (a .behind .now)
+    (at-args .pre .0) (at-args .pre .1) (p .ensures) (q .ensures))
 
 pub put-index-spec : {M : Type 1} → statement M
-put-index-spec = tie.close (tie.spec put-number-requires put-text-requires same-length returns)
+put-index-spec = tie.close (tie.spec (λ c κs. search needs) put-number-requires put-text-requires same-length returns)
