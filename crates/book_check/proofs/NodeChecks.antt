@@ -12,6 +12,7 @@ use borrow.Author.Tests.{eq-eqb, ne-eqb, lt-ltb, le-ltb, not-true, not-false}
 use lib.Dec.{eqb, ltb}
 use lib.ListN.{length, drop, getD, length-drop, drop-of-length-le}
 use lib.Seq.{drop-cons, getD-drop, length-take-le}
+use Rattle.numbers.specs.Limits.{over, script-limit}
 use Rattle.numbers.specs.Signs.{asterisk, carriage-return, hash, line-feed, slash, space, tab}
 use Rattle.lists.proofs.Tests.{both, first-fails, passes-on}
 use Rattle.packing.specs.Padding.{all-zero}
@@ -24,10 +25,11 @@ use Rattle.linker_script.specs.declared.Found.{Found}
 use Rattle.linker_script.specs.declared.Found.the-variants.{Here, Nowhere}
 use Rattle.book.specs.Books.{Node, first-named, found, no-node}
 use Rattle.book.specs.Layout.{node-form}
-use Rattle.book.specs.Sanity.{is-number, name-good, named-good, no-semicolon, nodes-good, parent-good}
+use Rattle.book.specs.Sanity.{is-number, name-at, name-good, name-script, named-good, no-semicolon, nodes-good, parent-good, parent-script}
 use Rattle.book.specs.View.{any-node}
 use Rattle.book.proofs.Forms.{node-laws}
 use Rattle.book.proofs.FirstNamed.{found-here, found-nowhere}
+use Rattle.book.proofs.Spelling.{name-length, parent-length}
 use Rattle.book.proofs.NodeRows.{Row, told-name, node-row, row-at, row-name, nodes-count}
 
 -- ---- a test of each byte: what is left from i on decides
@@ -149,19 +151,34 @@ module _ (t : List ℕ) where
   unfolding name-good
   name-none h = simp (le-ltb 0 (length t) (omega arith))
 
-  name-parts : (length t ≡ 0 → ⊥) → name-good t ≡ (every named t && not (skips t 0))
-  unfolding name-good
-  name-parts h = simp (lt-ltb 0 (length t) (omega arith))
+  module _ (h : length t ≡ 0 → ⊥) where
+    name-some : name-good t ≡ (not (over script-limit (name-script t)) && (every named t && not (skips t 0)))
+    unfolding name-good
+    name-some = simp (lt-ltb 0 (length t) (omega arith))
 
-  pub name-bad : (r : Bool) → (length t ≡ 0 → ⊥) → r ≡ every named t → not r ≡ true → false ≡ name-good t
-  name-bad r h e f = sym (first-fails (name-good t) (every named t) _ (name-parts h) (sym e ∙ not-true r f))
+    -- no script has room for it
+    pub name-long : script-limit - 3 < length t → false ≡ name-good t
+    name-long k = sym (first-fails (name-good t) _ _ name-some (ap not (lt-ltb script-limit (length (name-script t)) (omega (arith, name-length t)))))
+
+    module _ (k : length t ≤ script-limit - 3) where
+      name-parts : name-good t ≡ (every named t && not (skips t 0))
+      name-parts = passes-on (name-good t) _ _ name-some (ap not (le-ltb script-limit (length (name-script t)) (omega (arith, name-length t))))
+
+      pub name-bad : (r : Bool) → r ≡ every named t → not r ≡ true → false ≡ name-good t
+      name-bad r e f = sym (first-fails (name-good t) (every named t) _ name-parts (sym e ∙ not-true r f))
+
+      pub name-ends : (r q : Bool) → r ≡ every named t → not r ≡ false → q ≡ skips t 0 → not q ≡ name-good t
+      name-ends r q e f g = ap not g ∙ sym (passes-on (name-good t) (every named t) _ name-parts (sym e ∙ not-false r f))
 
   -- what `is_skipped_first` asks
   pub names-asked : (r : Bool) → r ≡ every named t → not r ≡ false → every named t ≡ true
   names-asked r e f = sym e ∙ not-false r f
 
-  pub name-ends : (r q : Bool) → (length t ≡ 0 → ⊥) → r ≡ every named t → not r ≡ false → q ≡ skips t 0 → not q ≡ name-good t
-  name-ends r q h e f g = ap not g ∙ sym (passes-on (name-good t) (every named t) _ (name-parts h) (sym e ∙ not-false r f))
+-- ---- a row tells how long its node's name is
+row-long : (n b : ℕ) (l m : List ℕ) (g : packs node-form any-node n b l m ≡ true) (i at : ℕ) → Row n b l m g i at
+    → getD l (at + 1) 0 ≡ length (getD (things node-form n l m) i no-node .name)
+row-long n b l m g i at r =
+    sym (length-take-le (getD l (at + 1) 0) (drop (getD l at 0) m) (omega (arith, r .room, length-drop (getD l at 0) m))) ∙ ap length (r .name)
 
 -- ---- a parent: p can be that of node i
 module _ (xs : List Node) (i p : ℕ) where
@@ -169,48 +186,72 @@ module _ (xs : List Node) (i p : ℕ) where
   unfolding parent-good
   parent-none e = simp (eq-eqb p 0 e)
 
-  parent-parts : (p ≡ 0 → ⊥)
-      → parent-good xs i p ≡ (ltb p i && (is-number p (first-named xs 0 (getD xs p no-node .name)) && every no-semicolon (getD xs p no-node .name)))
-  unfolding parent-good
-  parent-parts h = simp (ne-eqb p 0 h)
+  module _ (h : p ≡ 0 → ⊥) where
+    parent-parts : parent-good xs i p
+        ≡ (ltb p i
+        && (not (over script-limit (parent-script (name-at xs i) (name-at xs p)))
+        && (is-number p (first-named xs 0 (name-at xs p)) && every no-semicolon (name-at xs p))))
+    unfolding parent-good
+    parent-parts = simp (ne-eqb p 0 h)
 
-  pub parent-late : (p ≡ 0 → ⊥) → i ≤ p → false ≡ parent-good xs i p
-  parent-late h w = sym (first-fails (parent-good xs i p) (ltb p i) _ (parent-parts h) (le-ltb p i w))
+    pub parent-late : i ≤ p → false ≡ parent-good xs i p
+    parent-late w = sym (first-fails (parent-good xs i p) (ltb p i) _ parent-parts (le-ltb p i w))
 
-  parent-early : (p ≡ 0 → ⊥) → p < i
-      → parent-good xs i p ≡ (is-number p (first-named xs 0 (getD xs p no-node .name)) && every no-semicolon (getD xs p no-node .name))
-  parent-early h w = passes-on (parent-good xs i p) (ltb p i) _ (parent-parts h) (lt-ltb p i w)
+    module _ (w : p < i) (o : Bool) (e : o ≡ ltb script-limit (2 * length (name-at xs p) + length (name-at xs i) + 6)) where
+      parent-early : parent-good xs i p ≡ (not o && (is-number p (first-named xs 0 (name-at xs p)) && every no-semicolon (name-at xs p)))
+      parent-early =
+          passes-on (parent-good xs i p) (ltb p i) _ parent-parts (lt-ltb p i w)
+          ∙ rw (e, ← parent-length (name-at xs i) (name-at xs p))
 
-module _ (n b : ℕ) (l m : List ℕ) (g : packs node-form any-node n b l m ≡ true) (i p : ℕ) (h : i ≤ n) (w : p < i) where
+module _ (n b : ℕ) (l m : List ℕ) (g : packs node-form any-node n b l m ≡ true) (i p : ℕ) (h : i < n) (w : p < i) where
   pub parent-row : Row n b l m g p (3 * p)
   parent-row = node-row n b l m g p (omega arith)
 
-  module _ (o : Found) (y : p ≡ 0 → ⊥) (e : o ≡ found (first-named (things node-form n l m) 0 (told-name l m (3 * p)))) where
-    abbrev first : Option ℕ
-    first = first-named (things node-form n l m) 0 (getD (things node-form n l m) p no-node .name)
+  pub own-row : Row n b l m g i (3 * i)
+  own-row = node-row n b l m g i h
 
-    parent-first : o ≡ found first
-    parent-first = e ∙ ap (λ (s : List ℕ). found (first-named (things node-form n l m) 0 s)) (row-name n b l m g p (3 * p) parent-row)
+  abbrev nodes : List Node
+  nodes = things node-form n l m
 
-    none-told : o ≡ Nowhere → is-number p first ≡ false
-    none-told v = rw (found-nowhere o first parent-first v)
+  module _ (y : p ≡ 0 → ⊥) (o : Bool) (k : o ≡ ltb script-limit (2 * getD l (3 * p + 1) 0 + getD l (3 * i + 1) 0 + 6)) where
+    rest-decides : parent-good nodes i p ≡ (not o && (is-number p (first-named nodes 0 (name-at nodes p)) && every no-semicolon (name-at nodes p)))
+    rest-decides =
+        parent-early nodes i p y w o
+        (k ∙ rw (row-long n b l m g p (3 * p) parent-row, row-long n b l m g i (3 * i) own-row))
 
-    number-told : (q : ℕ) → o ≡ Here q → is-number p first ≡ eqb q p
-    number-told q v = rw (found-here o first q parent-first v)
+    -- no script has room for both
+    pub parent-long : o ≡ true → false ≡ parent-good nodes i p
+    parent-long f = sym (first-fails _ _ _ rest-decides (ap not f))
 
-    -- no node has its name
-    pub parent-nowhere : o ≡ Nowhere → false ≡ parent-good (things node-form n l m) i p
-    parent-nowhere f = sym (first-fails _ _ _ (parent-early (things node-form n l m) i p y w) (none-told f))
+    module _ (f : o ≡ false) (a : Found) (e : a ≡ found (first-named nodes 0 (told-name l m (3 * p)))) where
+      abbrev first : Option ℕ
+      first = first-named nodes 0 (name-at nodes p)
 
-    -- an earlier node has its name
-    pub parent-again : (q : ℕ) → o ≡ Here q → (q ≡ p → ⊥) → false ≡ parent-good (things node-form n l m) i p
-    parent-again q v f = sym (first-fails _ _ _ (parent-early (things node-form n l m) i p y w) (number-told q v ∙ ne-eqb q p f))
+      number-decides : parent-good nodes i p ≡ (is-number p first && every no-semicolon (name-at nodes p))
+      number-decides = passes-on _ _ _ rest-decides (ap not f)
 
-    -- it is the first, and its name's bytes decide
-    pub parent-ends : (q : ℕ) (r : Bool) → o ≡ Here q → q ≡ p → r ≡ every no-semicolon (told-name l m (3 * p)) → r ≡ parent-good (things node-form n l m) i p
-    parent-ends q r v f d =
-        d ∙ ap (every no-semicolon) (row-name n b l m g p (3 * p) parent-row)
-        ∙ sym (passes-on _ _ _ (parent-early (things node-form n l m) i p y w) (number-told q v ∙ eq-eqb q p f))
+      parent-first : a ≡ found first
+      parent-first = e ∙ ap (λ (s : List ℕ). found (first-named nodes 0 s)) (row-name n b l m g p (3 * p) parent-row)
+
+      none-told : a ≡ Nowhere → is-number p first ≡ false
+      none-told v = rw (found-nowhere a first parent-first v)
+
+      number-told : (q : ℕ) → a ≡ Here q → is-number p first ≡ eqb q p
+      number-told q v = rw (found-here a first q parent-first v)
+
+      -- no node has its name
+      pub parent-nowhere : a ≡ Nowhere → false ≡ parent-good nodes i p
+      parent-nowhere v = sym (first-fails _ _ _ number-decides (none-told v))
+
+      -- an earlier node has its name
+      pub parent-again : (q : ℕ) → a ≡ Here q → (q ≡ p → ⊥) → false ≡ parent-good nodes i p
+      parent-again q v x = sym (first-fails _ _ _ number-decides (number-told q v ∙ ne-eqb q p x))
+
+      -- it is the first, and its name's bytes decide
+      pub parent-ends : (q : ℕ) (r : Bool) → a ≡ Here q → q ≡ p → r ≡ every no-semicolon (told-name l m (3 * p)) → r ≡ parent-good nodes i p
+      parent-ends q r v x d =
+          d ∙ ap (every no-semicolon) (row-name n b l m g p (3 * p) parent-row)
+          ∙ sym (passes-on _ _ _ number-decides (number-told q v ∙ eq-eqb q p x))
 
 -- ---- the nodes: what is left from node i on, whose row starts at `at`, decides
 pub record Judging (n : ℕ) (l m : List ℕ) (i at : ℕ) : Type 0 where
@@ -242,9 +283,7 @@ module _ (n p : ℕ) (l m : List ℕ) (g : packs node-form any-node n p l m ≡ 
 
   module _ (y : n ≡ 0 → ⊥) where
     root-long : length (getD (things node-form n l m) 0 no-node .name) ≡ getD l 1 0
-    root-long =
-        let r = root-row y in
-        sym (ap length (r .name)) ∙ length-take-le (getD l 1 0) (drop (getD l 0 0) m) (omega (arith, r .room, length-drop (getD l 0 0) m))
+    root-long = sym (row-long n p l m g 0 0 (root-row y))
 
     root-is : nodes-good (things node-form n l m)
         ≡ (eqb (getD l 1 0) 0 && (eqb (getD l 2 0) 0 && named-good (things node-form n l m) 1 (drop 1 (things node-form n l m))))

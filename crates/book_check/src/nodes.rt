@@ -2,8 +2,10 @@
 // for a caller who knows that the rows are packed.
 ghost use mathlib.Core.Path.{_≡_};
 ghost use mathlib.Core.Bool.{true};
-ghost use Prim.Native.Nat.{_*_, _≤_};
+ghost use Prim.Native.Nat.{_+_, _*_, _<_, _≤_};
+ghost use lib.Dec.{ltb};
 ghost use lib.ListN.{length};
+ghost use Rattle.numbers.specs.Limits.{script-limit};
 ghost use Rattle.lists.specs.Each.{every};
 ghost use Rattle.packing.specs.Tables.{fine, packs, things};
 ghost use Rattle.linker_script.specs.Skip.{skips};
@@ -15,6 +17,7 @@ use book::NODE_WIDTH;
 use book::nodes::first_named;
 use linker_script::Found;
 use linker_script::byte_at;
+use numbers::SCRIPT_LIMIT;
 use packing::zero_bytes;
 use packing::zero_numbers;
 use reading_tokens::names::is_named;
@@ -97,6 +100,10 @@ fn is_name(name: &[u8]) -> bool
     if name.len() == 0 {
         return false;
     }
+    // The three bytes behind it in the shortest script that gives it, `{};`.
+    if SCRIPT_LIMIT - 3 < name.len() {
+        return false;
+    }
     if !all_named(name) {
         return false;
     }
@@ -116,9 +123,16 @@ fn has_no_semicolon(name: &[u8]) -> bool
     true
 }
 
-// Whether p can be the parent of node i: none, or an earlier node, the first of its name, whose name can stand before a `;`.
+// Whether the shortest script that gives a node a parent, `u{};t{}u;`, passes the limit, by the lengths of their names u and t.
+fn is_over_limit(parent: u32, name: u32) -> bool
+    ensures { λ r. ⌜ r ≡ ltb script-limit (2 * parent + name + 6) ⌝ }
+{
+    SCRIPT_LIMIT < 2 * (parent as usize) + (name as usize) + 6
+}
+
+// Whether p can be the parent of node i: none, or an earlier node, the first of its name, whose name can stand before a `;`, and some script has room for both.
 fn is_parent(nodes: &[u32], names: &[u8], n: usize, bytes: usize, i: usize, p: u32) -> bool
-    requires { ⌜ (packs node-form any-node n bytes (now nodes) (now names) ≡ true) × (i ≤ n) ⌝ }
+    requires { ⌜ (packs node-form any-node n bytes (now nodes) (now names) ≡ true) × (i < n) ⌝ }
     ensures { λ r. ⌜ r ≡ parent-good (things node-form n (now (nodes .entry)) (now (names .entry))) i p ⌝ }
 {
     if p == 0 {
@@ -129,6 +143,9 @@ fn is_parent(nodes: &[u32], names: &[u8], n: usize, bytes: usize, i: usize, p: u
         return false;
     }
     let at = NODE_WIDTH * q;
+    if is_over_limit(nodes[at + 1], nodes[NODE_WIDTH * i + 1]) {
+        return false;
+    }
     let start = nodes[at] as usize;
     let end = start + (nodes[at + 1] as usize);
     match first_named(nodes, names, n, bytes, &names[start..end]) {
