@@ -76,6 +76,16 @@ static void lend(struct rooms rooms) {
     b.rooms = rooms;
 }
 
+static void lend_zeros(struct rooms rooms) {
+    lend(rooms);
+    memset(b.counts + 1, 0, 4 * rooms.counts);
+    memset(b.nodes + 1, 0, 4 * rooms.nodes);
+    memset(b.names + 1, 0, rooms.names);
+    memset(b.lines + 1, 0, 4 * rooms.lines);
+    memset(b.pool + 1, 0, rooms.pool);
+    memset(b.journal + 1, 0, 4 * rooms.journal);
+}
+
 static int untouched_beside(void) {
     return b.counts[0] == NUMBER_NOISE && b.counts[b.rooms.counts + 1] == NUMBER_NOISE &&
         b.nodes[0] == NUMBER_NOISE && b.nodes[b.rooms.nodes + 1] == NUMBER_NOISE &&
@@ -622,6 +632,55 @@ static void test_no_book(void) {
     }
 }
 
+/* Names that no script has room for: a script `A{};`, or `A{};N{}A;` where there is a second name, of names with so many bytes; and the same book by hand. */
+
+static size_t long_script(size_t first, size_t second) {
+    size_t n = first + 3;
+    memset(text, 'A', first);
+    memcpy(text + first, "{};", 3);
+    if (second == 0) return n;
+    memset(text + n, 'N', second);
+    memcpy(text + n + second, "{}", 2);
+    n += second + 2;
+    memset(text + n, 'A', first);
+    text[n + first] = ';';
+    return n + first + 1;
+}
+
+static void lay_names(size_t first, size_t second) {
+    uint32_t *named = b.nodes + 1 + TUNO_NODE_WIDTH;
+    lend_zeros(all_rooms);
+    b.counts[1 + TUNO_COUNT_NODES] = second == 0 ? 2 : 3;
+    b.counts[1 + TUNO_COUNT_NAME_BYTES] = (uint32_t)(first + second);
+    memset(b.names + 1, 'A', first);
+    memset(b.names + 1 + first, 'N', second);
+    named[TUNO_NODE_LENGTH] = (uint32_t)first;
+    if (second == 0) return;
+    named[TUNO_NODE_WIDTH + TUNO_NODE_START] = (uint32_t)first;
+    named[TUNO_NODE_WIDTH + TUNO_NODE_LENGTH] = (uint32_t)second;
+    named[TUNO_NODE_WIDTH + TUNO_NODE_PARENT] = 1;
+}
+
+static void test_long_names(void) {
+    static const size_t names[][2] = {{1048573, 0}, {1048574, 0}, {524284, 1}, {524285, 1}, {524284, 2}, {524284, 3}};
+    size_t i, length;
+    for (i = 0; i < sizeof names / sizeof names[0]; i++) {
+        length = long_script(names[i][0], names[i][1]);
+        lend(all_rooms);
+        if (length <= TUNO_SCRIPT_LIMIT) {
+            CHECK(open_bytes(SCRIPT, text, length) == 0);
+            keep();
+            lay_names(names[i][0], names[i][1]);
+            CHECK(as_before());
+            CHECK(parents(1) == 0 && value == (names[i][1] == 0 ? 0u : 1u));
+        } else {
+            CHECK(TUNO_REFUSAL(open_bytes(SCRIPT, text, length)) == TUNO_TOO_LONG);
+            lay_names(names[i][0], names[i][1]);
+            CHECK(no_book());
+        }
+    }
+}
+
 /* ---- edits that are refused */
 
 static int refused_edit(uint32_t number, uint32_t expected) { return number == expected && as_before() && untouched_beside(); }
@@ -812,13 +871,7 @@ static void test_larger_rooms(void) {
     CHECK(opened(SCRIPT, haze) == 0);
     CHECK(strike(0) == TUNO_NO_ROOM);
     keep();
-    lend(all_rooms);
-    memset(b.counts + 1, 0, 4 * b.rooms.counts);
-    memset(b.nodes + 1, 0, 4 * b.rooms.nodes);
-    memset(b.names + 1, 0, b.rooms.names);
-    memset(b.lines + 1, 0, 4 * b.rooms.lines);
-    memset(b.pool + 1, 0, b.rooms.pool);
-    memset(b.journal + 1, 0, 4 * b.rooms.journal);
+    lend_zeros(all_rooms);
     memcpy(b.counts + 1, before.counts + 1, 4 * before.rooms.counts);
     memcpy(b.nodes + 1, before.nodes + 1, 4 * before.rooms.nodes);
     memcpy(b.names + 1, before.names + 1, before.rooms.names);
@@ -842,6 +895,7 @@ int main(int argc, char **argv) {
     test_rooms();
     test_refused_questions();
     test_no_book();
+    test_long_names();
     test_refused_edits();
     test_trial();
     test_add_symbol();

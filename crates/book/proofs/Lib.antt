@@ -4,3 +4,4 @@ pub mod Views
 pub mod LineRows
 pub mod FirstNamed
 pub mod Asking
+pub mod Spelling

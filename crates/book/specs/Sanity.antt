@@ -1,14 +1,14 @@
 -- What a book must be besides its packing: 01's row 14. Assumes nothing.
 use Prim.Native.Nat.{ℕ, _+_}
-use mathlib.Core.List.{List, [], _∷_}
+use mathlib.Core.List.{List, [], _∷_, _++_}
 use mathlib.Core.Bool.{Bool, true, false, cond, _&&_, _||_, not}
 use mathlib.Core.Option.{Option, some, none}
 use lib.Dec.{eqb, leb, ltb}
 use lib.ListN.{length, getD}
 use Rattle.numbers.specs.Classes.{all-class, exact-class, nonstar-class, star-class}
-use Rattle.numbers.specs.Limits.{token-limit}
+use Rattle.numbers.specs.Limits.{over, script-limit, token-limit}
 use Rattle.numbers.specs.Marks.{general, global, is-language, is-section, local}
-use Rattle.numbers.specs.Signs.{semicolon}
+use Rattle.numbers.specs.Signs.{closing-brace, opening-brace, semicolon}
 use Rattle.lists.specs.Same.{same}
 use Rattle.lists.specs.Each.{any, every}
 use Rattle.linker_script.specs.Skip.{skips}
@@ -53,9 +53,21 @@ unfoldable pub edit-ok : Edit → Bool
 edit-ok e = eqb (e .what) add || eqb (e .what) strike
 
 -- ---- nodes
--- "a node name … that no reading gives": one or more bytes that a name has, and no beginning that the skip before it takes
+-- the shortest that a script has of a node with the name t and the parent text u: "a name (…), skip, body, parent text up to `;` …, `;`, skip"
+abbrev pub spelled : List ℕ → List ℕ → List ℕ
+spelled t u = t ++ opening-brace ∷ closing-brace ∷ (u ++ semicolon ∷ [])
+
+-- the shortest script that gives the name t, `t{};`; and that gives a node of the name t a parent of the name u, `u{};t{}u;`
+abbrev pub name-script : List ℕ → List ℕ
+name-script t = spelled t []
+
+abbrev pub parent-script : List ℕ → List ℕ → List ℕ
+parent-script t u = spelled u [] ++ spelled t u
+
+-- "a node name … that no reading gives": a name is one or more bytes that a name has, without a beginning that the skip before it takes, and the shortest
+-- script that gives it is not "over its limit". That a reading gives each such name, and no other: book_opened/specs/Given.antt
 unfoldable pub name-good : List ℕ → Bool
-name-good t = ltb 0 (length t) && (every named t && not (skips t 0))
+name-good t = ltb 0 (length t) && (not (over script-limit (name-script t)) && (every named t && not (skips t 0)))
 
 -- a byte of a name that can stand before a `;`
 abbrev pub no-semicolon : ℕ → Bool
@@ -66,13 +78,19 @@ abbrev pub is-number : ℕ → Option ℕ → Bool
 is-number p (some i) = eqb i p
 is-number p none = false
 
--- "or parent that no reading gives": none, or an earlier node, the first of its name, whose name can stand before a `;`
+-- node i's name
+abbrev pub name-at : List Node → ℕ → List ℕ
+name-at all i = getD all i no-node .name
+
+-- "or parent that no reading gives": none, or an earlier node, the first of its name, whose name can stand before a `;`, and the shortest script that gives a
+-- node of node i's name this parent is not "over its limit"
 unfoldable pub parent-good : List Node → ℕ → ℕ → Bool
 parent-good all i p =
     eqb p 0
     || (ltb p i
-    && (is-number p (first-named all 0 (getD all p no-node .name))
-    && every no-semicolon (getD all p no-node .name)))
+    && (not (over script-limit (parent-script (name-at all i) (name-at all p)))
+    && (is-number p (first-named all 0 (name-at all p))
+    && every no-semicolon (name-at all p))))
 
 -- the nodes from number i on, among all
 unfoldable pub named-good : List Node → ℕ → List Node → Bool

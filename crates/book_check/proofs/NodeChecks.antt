@@ -12,6 +12,7 @@ use borrow.Author.Tests.{eq-eqb, ne-eqb, lt-ltb, le-ltb, not-true, not-false}
 use lib.Dec.{eqb, ltb}
 use lib.ListN.{length, drop, getD, length-drop, drop-of-length-le}
 use lib.Seq.{drop-cons, getD-drop, length-take-le}
+use Rattle.numbers.specs.Limits.{over, script-limit}
 use Rattle.numbers.specs.Signs.{asterisk, carriage-return, hash, line-feed, slash, space, tab}
 use Rattle.lists.proofs.Tests.{both, first-fails, passes-on}
 use Rattle.packing.specs.Padding.{all-zero}
@@ -24,10 +25,11 @@ use Rattle.linker_script.specs.declared.Found.{Found}
 use Rattle.linker_script.specs.declared.Found.the-variants.{Here, Nowhere}
 use Rattle.book.specs.Books.{Node, first-named, found, no-node}
 use Rattle.book.specs.Layout.{Node-lies, name-of-node, node-form, node-width}
-use Rattle.book.specs.Sanity.{is-number, name-good, named-good, no-semicolon, nodes-good, parent-good}
+use Rattle.book.specs.Sanity.{is-number, name-at, name-good, name-script, named-good, no-semicolon, nodes-good, parent-good, parent-script}
 use Rattle.book.specs.View.{any-node}
 use Rattle.book.proofs.Forms.{node-laws}
 use Rattle.book.proofs.FirstNamed.{found-here, found-nowhere}
+use Rattle.book.proofs.Spelling.{name-length, parent-length}
 use Rattle.book.proofs.NodeRows.{Row, Walk, node-row, nodes-count, walk-count, walk-on, walk-row, walk-stands}
 
 -- ---- a test of each byte: what is left from i on decides
@@ -149,74 +151,115 @@ module _ (t : List ℕ) where
   unfolding name-good
   name-none h = simp (le-ltb 0 (length t) (omega arith))
 
-  name-parts : (length t ≡ 0 → ⊥) → name-good t ≡ (every named t && not (skips t 0))
-  unfolding name-good
-  name-parts h = simp (lt-ltb 0 (length t) (omega arith))
+  module _ (h : length t ≡ 0 → ⊥) where
+    name-some : name-good t ≡ (not (over script-limit (name-script t)) && (every named t && not (skips t 0)))
+    unfolding name-good
+    name-some = simp (lt-ltb 0 (length t) (omega arith))
 
-  pub name-bad : (r : Bool) → (length t ≡ 0 → ⊥) → r ≡ every named t → not r ≡ true → false ≡ name-good t
-  name-bad r h e f = sym (first-fails (name-good t) (every named t) _ (name-parts h) (sym e ∙ not-true r f))
+    -- no script has room for it
+    pub name-long : script-limit - 3 < length t → false ≡ name-good t
+    name-long k = sym (first-fails (name-good t) _ _ name-some (ap not (lt-ltb script-limit (length (name-script t)) (omega (arith, name-length t)))))
+
+    module _ (k : length t ≤ script-limit - 3) where
+      name-parts : name-good t ≡ (every named t && not (skips t 0))
+      name-parts = passes-on (name-good t) _ _ name-some (ap not (le-ltb script-limit (length (name-script t)) (omega (arith, name-length t))))
+
+      pub name-bad : (r : Bool) → r ≡ every named t → not r ≡ true → false ≡ name-good t
+      name-bad r e f = sym (first-fails (name-good t) (every named t) _ name-parts (sym e ∙ not-true r f))
+
+      pub name-ends : (r q : Bool) → r ≡ every named t → not r ≡ false → q ≡ skips t 0 → not q ≡ name-good t
+      name-ends r q e f g = ap not g ∙ sym (passes-on (name-good t) (every named t) _ name-parts (sym e ∙ not-false r f))
 
   -- what `is_skipped_first` asks
   pub names-asked : (r : Bool) → r ≡ every named t → not r ≡ false → every named t ≡ true
   names-asked r e f = sym e ∙ not-false r f
 
-  pub name-ends : (r q : Bool) → (length t ≡ 0 → ⊥) → r ≡ every named t → not r ≡ false → q ≡ skips t 0 → not q ≡ name-good t
-  name-ends r q h e f g = ap not g ∙ sym (passes-on (name-good t) (every named t) _ (name-parts h) (sym e ∙ not-false r f))
-
 -- ---- a parent: p can be that of node i
+-- whether no script has room for a node's name t with its parent's u, by their lengths
+module _ (t u : List ℕ) where
+  pub parent-longer : script-limit < length u → true ≡ over script-limit (parent-script t u)
+  parent-longer h = sym (lt-ltb script-limit (length (parent-script t u)) (omega (arith, parent-length t u)))
+
+  pub name-longer : script-limit < length t → true ≡ over script-limit (parent-script t u)
+  name-longer h = sym (lt-ltb script-limit (length (parent-script t u)) (omega (arith, parent-length t u)))
+
+  pub both-long : ltb script-limit (2 * length u + length t + 6) ≡ over script-limit (parent-script t u)
+  both-long = rw parent-length
+
 module _ (xs : List Node) (i p : ℕ) where
   pub parent-none : p ≡ 0 → true ≡ parent-good xs i p
   unfolding parent-good
   parent-none e = simp (eq-eqb p 0 e)
 
-  parent-parts : (p ≡ 0 → ⊥)
-      → parent-good xs i p ≡ (ltb p i && (is-number p (first-named xs 0 (getD xs p no-node .name)) && every no-semicolon (getD xs p no-node .name)))
-  unfolding parent-good
-  parent-parts h = simp (ne-eqb p 0 h)
+  module _ (h : p ≡ 0 → ⊥) where
+    parent-parts : parent-good xs i p
+        ≡ (ltb p i
+        && (not (over script-limit (parent-script (name-at xs i) (name-at xs p)))
+        && (is-number p (first-named xs 0 (name-at xs p)) && every no-semicolon (name-at xs p))))
+    unfolding parent-good
+    parent-parts = simp (ne-eqb p 0 h)
 
-  pub parent-late : (p ≡ 0 → ⊥) → i ≤ p → false ≡ parent-good xs i p
-  parent-late h w = sym (first-fails (parent-good xs i p) (ltb p i) _ (parent-parts h) (le-ltb p i w))
+    pub parent-late : i ≤ p → false ≡ parent-good xs i p
+    parent-late w = sym (first-fails (parent-good xs i p) (ltb p i) _ parent-parts (le-ltb p i w))
 
-  parent-early : (p ≡ 0 → ⊥) → p < i
-      → parent-good xs i p ≡ (is-number p (first-named xs 0 (getD xs p no-node .name)) && every no-semicolon (getD xs p no-node .name))
-  parent-early h w = passes-on (parent-good xs i p) (ltb p i) _ (parent-parts h) (lt-ltb p i w)
+module _ (n b : ℕ) (l m : List ℕ) (g : packs node-form any-node n b l m ≡ true) (i p : ℕ) (h : i < n) (w : p < i) where
+  abbrev nodes : List Node
+  nodes = things node-form n l m
 
-module _ (n b : ℕ) (l m : List ℕ) (g : packs node-form any-node n b l m ≡ true) (i p : ℕ) (h : i ≤ n) (w : p < i) where
   parent-row : Row n l m p
   parent-row = node-row n b l m g p (omega arith)
+
+  own-row : Row n l m i
+  own-row = node-row n b l m g i h
 
   pub parent-lies : Node-lies l m p
   parent-lies = parent-row .lies
 
-  module _ (t : List ℕ) (a : t ≡ name-of-node l m p) (o : Found) (y : p ≡ 0 → ⊥) (e : o ≡ found (first-named (things node-form n l m) 0 t)) where
-    name-is : t ≡ getD (things node-form n l m) p no-node .name
-    name-is = a ∙ parent-row .name
+  pub own-lies : Node-lies l m i
+  own-lies = own-row .lies
 
-    abbrev first : Option ℕ
-    first = first-named (things node-form n l m) 0 (getD (things node-form n l m) p no-node .name)
+  module _ (t u : List ℕ) (a : t ≡ name-of-node l m i) (c : u ≡ name-of-node l m p) (y : p ≡ 0 → ⊥) (o : Bool)
+      (k : o ≡ over script-limit (parent-script t u)) where
+    own-is : t ≡ name-at nodes i
+    own-is = a ∙ own-row .name
 
-    parent-first : o ≡ found first
-    parent-first = e ∙ ap (λ (s : List ℕ). found (first-named (things node-form n l m) 0 s)) name-is
+    parent-is : u ≡ name-at nodes p
+    parent-is = c ∙ parent-row .name
 
-    none-told : o ≡ Nowhere → is-number p first ≡ false
-    none-told v = rw (found-nowhere o first parent-first v)
+    rest-decides : parent-good nodes i p ≡ (not o && (is-number p (first-named nodes 0 (name-at nodes p)) && every no-semicolon (name-at nodes p)))
+    rest-decides = passes-on (parent-good nodes i p) (ltb p i) _ (parent-parts nodes i p y) (lt-ltb p i w) ∙ rw (k, own-is, parent-is)
 
-    number-told : (q : ℕ) → o ≡ Here q → is-number p first ≡ eqb q p
-    number-told q v = rw (found-here o first q parent-first v)
+    -- no script has room for both
+    pub parent-long : o ≡ true → false ≡ parent-good nodes i p
+    parent-long f = sym (first-fails _ _ _ rest-decides (ap not f))
 
-    -- no node has its name
-    pub parent-nowhere : o ≡ Nowhere → false ≡ parent-good (things node-form n l m) i p
-    parent-nowhere f = sym (first-fails _ _ _ (parent-early (things node-form n l m) i p y w) (none-told f))
+    module _ (f : o ≡ false) (r : Found) (e : r ≡ found (first-named nodes 0 u)) where
+      abbrev first : Option ℕ
+      first = first-named nodes 0 (name-at nodes p)
 
-    -- an earlier node has its name
-    pub parent-again : (q : ℕ) → o ≡ Here q → (q ≡ p → ⊥) → false ≡ parent-good (things node-form n l m) i p
-    parent-again q v f = sym (first-fails _ _ _ (parent-early (things node-form n l m) i p y w) (number-told q v ∙ ne-eqb q p f))
+      number-decides : parent-good nodes i p ≡ (is-number p first && every no-semicolon (name-at nodes p))
+      number-decides = passes-on _ _ _ rest-decides (ap not f)
 
-    -- it is the first, and its name's bytes decide
-    pub parent-ends : (q : ℕ) (r : Bool) → o ≡ Here q → q ≡ p → r ≡ every no-semicolon t → r ≡ parent-good (things node-form n l m) i p
-    parent-ends q r v f d =
-        d ∙ ap (every no-semicolon) name-is
-        ∙ sym (passes-on _ _ _ (parent-early (things node-form n l m) i p y w) (number-told q v ∙ eq-eqb q p f))
+      parent-first : r ≡ found first
+      parent-first = e ∙ ap (λ (s : List ℕ). found (first-named nodes 0 s)) parent-is
+
+      none-told : r ≡ Nowhere → is-number p first ≡ false
+      none-told v = rw (found-nowhere r first parent-first v)
+
+      number-told : (q : ℕ) → r ≡ Here q → is-number p first ≡ eqb q p
+      number-told q v = rw (found-here r first q parent-first v)
+
+      -- no node has its name
+      pub parent-nowhere : r ≡ Nowhere → false ≡ parent-good nodes i p
+      parent-nowhere v = sym (first-fails _ _ _ number-decides (none-told v))
+
+      -- an earlier node has its name
+      pub parent-again : (q : ℕ) → r ≡ Here q → (q ≡ p → ⊥) → false ≡ parent-good nodes i p
+      parent-again q v x = sym (first-fails _ _ _ number-decides (number-told q v ∙ ne-eqb q p x))
+
+      -- it is the first, and its name's bytes decide
+      pub parent-ends : (q : ℕ) (z : Bool) → r ≡ Here q → q ≡ p → z ≡ every no-semicolon u → z ≡ parent-good nodes i p
+      parent-ends q z v x d = d ∙ ap (every no-semicolon) parent-is ∙ sym (passes-on _ _ _ number-decides (number-told q v ∙ eq-eqb q p x))
 
 -- ---- the nodes: what is left from node i on decides
 pub record Judging (n p : ℕ) (l m : List ℕ) (i : ℕ) : Type 0 where

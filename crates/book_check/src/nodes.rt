@@ -2,20 +2,22 @@
 // for a caller who knows that the rows are packed.
 ghost use mathlib.Core.Path.{_≡_};
 ghost use mathlib.Core.Bool.{true};
-ghost use Prim.Native.Nat.{_*_, _≤_};
+ghost use Prim.Native.Nat.{_+_, _*_, _<_, _≤_};
 ghost use lib.ListN.{length};
+ghost use Rattle.numbers.specs.Limits.{over, script-limit};
 ghost use Rattle.lists.specs.Each.{every};
 ghost use Rattle.packing.specs.Tables.{fine, packs, things};
 ghost use Rattle.linker_script.specs.Skip.{skips};
 ghost use Rattle.reading_tokens.specs.Tokens.{named};
 ghost use Rattle.book.specs.Layout.{node-form, node-width};
-ghost use Rattle.book.specs.Sanity.{name-good, no-semicolon, nodes-good, parent-good};
+ghost use Rattle.book.specs.Sanity.{name-good, no-semicolon, nodes-good, parent-good, parent-script};
 ghost use Rattle.book.specs.View.{any-node};
 use book::NODE_WIDTH;
 use book::nodes::first_named;
 use book::rows::node_name;
 use linker_script::Found;
 use linker_script::byte_at;
+use numbers::SCRIPT_LIMIT;
 use packing::zero_bytes;
 use packing::zero_numbers;
 use reading_tokens::names::is_named;
@@ -98,6 +100,10 @@ fn is_name(name: &[u8]) -> bool
     if name.len() == 0 {
         return false;
     }
+    // The three bytes behind it in the shortest script that gives it, `{};`.
+    if SCRIPT_LIMIT - 3 < name.len() {
+        return false;
+    }
     if !all_named(name) {
         return false;
     }
@@ -117,9 +123,22 @@ fn has_no_semicolon(name: &[u8]) -> bool
     true
 }
 
-// Whether p can be the parent of node i: none, or an earlier node, the first of its name, whose name can stand before a `;`.
+// Whether no script has room for a node with that name and a parent with that one: the shortest is `u{};t{}u;` of the parent's name u and the node's t.
+fn is_over_limit(name: &[u8], parent: &[u8]) -> bool
+    ensures { λ r. ⌜ r ≡ over script-limit (parent-script (now (name .entry)) (now (parent .entry))) ⌝ }
+{
+    if SCRIPT_LIMIT < parent.len() {
+        return true;
+    }
+    if SCRIPT_LIMIT < name.len() {
+        return true;
+    }
+    SCRIPT_LIMIT < 2 * parent.len() + name.len() + 6
+}
+
+// Whether p can be the parent of node i: none, or an earlier node, the first of its name, whose name can stand before a `;`, and some script has room for both.
 fn is_parent(nodes: &[u32], names: &[u8], n: usize, bytes: usize, i: usize, p: u32) -> bool
-    requires { ⌜ (packs node-form any-node n bytes (now nodes) (now names) ≡ true) × (i ≤ n) ⌝ }
+    requires { ⌜ (packs node-form any-node n bytes (now nodes) (now names) ≡ true) × (i < n) ⌝ }
     ensures { λ r. ⌜ r ≡ parent-good (things node-form n (now (nodes .entry)) (now (names .entry))) i p ⌝ }
 {
     if p == 0 {
@@ -129,14 +148,17 @@ fn is_parent(nodes: &[u32], names: &[u8], n: usize, bytes: usize, i: usize, p: u
     if i <= q {
         return false;
     }
-    let name = node_name(nodes, names, q);
-    match first_named(nodes, names, n, bytes, name) {
+    let parent = node_name(nodes, names, q);
+    if is_over_limit(node_name(nodes, names, i), parent) {
+        return false;
+    }
+    match first_named(nodes, names, n, bytes, parent) {
         Found::Nowhere => false,
         Found::Here(first) => {
             if first != q {
                 return false;
             }
-            has_no_semicolon(name)
+            has_no_semicolon(parent)
         }
     }
 }

@@ -8,6 +8,7 @@ use native.Mathlib.Omega.{arith}
 use borrow.Author.Tests.{eq-eqb, eqb-true, not-false, not-true}
 use lib.Dec.{eqb}
 use lib.ListN.{length}
+use Rattle.numbers.specs.Limits.{script-limit}
 use Rattle.numbers.specs.Classes.{all-class, exact-class}
 use Rattle.numbers.specs.Marks.{global, local}
 use Rattle.lists.proofs.Tests.{both}
@@ -20,7 +21,7 @@ use Rattle.book.specs.Edits.{all-back, journal-fits, stands}
 use Rattle.book.specs.Sanity.{bare-star, in-range, kind-allows, kind-good, line-ok, sane, some-star}
 use Rattle.book.specs.View.{Fits}
 use Rattle.book_opened.proofs.Fitting.{Roomy}
-use Rattle.book_opened.proofs.Nodes.{Nodes-good, nodes-told}
+use Rattle.book_opened.proofs.Nodes.{Before, Nodes-good, nodes-told}
 
 -- ---- tests that are joined by `||`
 or-left : (a b : Bool) → (a || b) ≡ false → a ≡ false
@@ -125,6 +126,6 @@ module _ (b : Buffers) (kind : ℕ) (xs : List Node) (ys : List Line) (r : Roomy
     edits-ok = refl;
   }
 
-  pub kind-sane : kind-good book ≡ true → sane book ≡ true
+  pub kind-sane : Before (length xs) script-limit xs → kind-good book ≡ true → sane book ≡ true
   unfolding sane journal-fits all-back
-  kind-sane k = rw (nodes-told xs n, k) stand
+  kind-sane l k = rw (nodes-told xs n l, k) stand

@@ -1,11 +1,12 @@
--- What an opening gives is a book that a view gives back (specs/Opened.antt): the book so far is sound along the reading, and so it is at the end.
+-- What an opening gives is a book that a view gives back (specs/Opened.antt): the book so far is sound along the reading, and so it is at the end, where no
+-- named node is open.
 -- Assumes nothing.
 use Prim.Native.Nat.{ℕ, zero, suc, _+_, _-_, _≤_, _<_}
 use mathlib.Core.Path.{_≡_, refl, _∙_}
 use mathlib.Core.List.{List, []}
 use mathlib.Core.Bool.{Bool, true, false, cond, not, _&&_, _||_, true≢false}
 use native.Mathlib.Omega.{arith}
-use borrow.Author.Tests.{eqb-true, leb-true, ltb-false, not-true}
+use borrow.Author.Tests.{eqb-true, leb-true, ltb-false, ne-eqb, not-true}
 use lib.Dec.{eqb, leb, ltb}
 use lib.ListN.{length}
 use Rattle.numbers.specs.Editions.{reld}
@@ -17,10 +18,12 @@ use Rattle.reading_cursors.specs.declared.Cursor.{Cursor}
 use Rattle.reading_cursors.specs.declared.Step.{Step}
 use Rattle.reading_cursors.specs.declared.Step.the-variants.{Go, End, Refused}
 use Rattle.reading_cursors.specs.Moves.{start}
-use Rattle.reading_cursors.specs.Places.{at-list, at-script, at-symbol}
+use Rattle.reading_cursors.specs.Places.{at-list, at-script, at-symbol, behind-symbol}
 use Rattle.reading.specs.Scripts.{next}
 use Rattle.reading.specs.Events.{on-step, reading, reading-from, reading-within}
+use Rattle.reading.proofs.Onward.{Standing, next-onward, next-stands, start-stands}
 use Rattle.reading.proofs.Parts.{next-parts}
+use Rattle.reading.proofs.Spans.{next-ends, next-spans, outside, stage}
 use Rattle.reading.proofs.Origins.{block-place, next-origin}
 use Rattle.book.specs.Books.{Book, export, regular, rust}
 use Rattle.book.specs.Layout.{Buffers, node-width}
@@ -32,7 +35,8 @@ use Rattle.book_opening.specs.declared.How.{How}
 use Rattle.book_opening.specs.Opening.{Opening, opens, declined, build, build-reading, finished, kind-of, nothing-yet, on-taken, opening}
 use Rattle.book_opened.specs.Opened.{Opened-holds, opens-at}
 use Rattle.book_opened.proofs.KindLines.{kind-fits, kind-sane, regular-allows}
-use Rattle.book_opened.proofs.Soundness.{Holds, Sound, refuses, sound-event, sound-start, takes}
+use Rattle.book_opened.proofs.Soundness.{Holds, Sound, Turn, refuses, sound-event, sound-start, takes}
+use Rattle.book_opened.proofs.Lengths.{spelt-ends}
 
 -- a book that a view gives back
 pub record Viewable (b : Buffers) (w : Book) : Type 0 where
@@ -44,7 +48,7 @@ record Kind-good (w : Book) : Type 0 where
   allows : every (kind-allows (w .kind)) (w .lines) ≡ true
   good : kind-good w ≡ true
 
-module _ (place : ℕ) (b : Buffers) (c : Cursor) (g : Building) (t : Sound place b c g) where
+module _ (place : ℕ) (b : Buffers) (c : Cursor) (g : Building) (t : Sound place b c g) (short : c .at ≤ script-limit) (ended : stage (c .place) ≡ outside) where
   abbrev as-kind : ℕ → Book
   as-kind kind = record { kind = kind; nodes = g .nodes; lines = g .lines; edits = [] }
 
@@ -81,11 +85,12 @@ module _ (place : ℕ) (b : Buffers) (c : Cursor) (g : Building) (t : Sound plac
       let o = t .good in
       record {
         fits = kind-fits b (finished place g .kind) (g .nodes) (g .lines) (o .rooms) (o .nodes) (o .lines) (o .stand) (k .allows);
-        sane = kind-sane b (finished place g .kind) (g .nodes) (g .lines) (o .rooms) (o .nodes) (o .lines) (o .stand) (k .allows) (k .good);
+        sane = kind-sane b (finished place g .kind) (g .nodes) (g .lines) (o .rooms) (o .nodes) (o .lines) (o .stand) (k .allows)
+            (spelt-ends c (g .nodes) script-limit ended short (t .spelt)) (k .good);
       }
 
 -- ---- the reading
-module _ (place : ℕ) (b : Buffers) (s : List ℕ) (w : Book) where
+module _ (place : ℕ) (b : Buffers) (s : List ℕ) (w : Book) (short : length s ≤ script-limit) where
   -- it ends, or an event is taken and it goes on
   done : (g : Building) → Viewable b (finished place g) → opens (finished place g) ≡ opens w → Viewable b w
   done g v e = let z : finished place g ≡ w = cc in rw z at v
@@ -95,49 +100,73 @@ module _ (place : ℕ) (b : Buffers) (s : List ℕ) (w : Book) where
   after P f (on h) (takes k) more e = more h k e
   after P f (no n p) refuses more e = absurd (true≢false (cc))
 
-  -- with at most n events: where that bound cuts a reading off, the book so far is sound too, so nothing is asked of it
-  along : (n : ℕ) (c : Cursor) (g : Building) → Sound place b c g → build-reading place b s g (reading-within n s c) ≡ opens w → Viewable b w
+  -- a script's and a list's cursors stand in the text
+  inside : (c : Cursor) → Standing s c → c .place < at-symbol → c .at ≤ script-limit
+  inside c k h = omega (arith, k .inside (ne-eqb (c .place) behind-symbol (λ z. omega arith)))
+
+  -- with at most n events, which are enough
+  along : (n : ℕ) (c : Cursor) (g : Building) → Sound place b c g → Standing s c → length s + 2 - c .at ≤ n
+      → build-reading place b s g (reading-within n s c) ≡ opens w → Viewable b w
   unfolding reading-within build-reading build
-  along zero c g t e = done g (ends-viewable place b c g t) e
-  along (suc n) c g t e = go (next s c) refl e (along n)
+  along zero c g t k enough e = absurd (omega (arith, k .within))
+  along (suc n) c g t k enough e = go (next s c) refl e (along n)
     where
       go : (r : Step) → next s c ≡ r → build-reading place b s g (on-step r (λ d. reading-within n s d)) ≡ opens w
-          → ((d : Cursor) (h : Building) → Sound place b d h → build-reading place b s h (reading-within n s d) ≡ opens w → Viewable b w)
+          → ((d : Cursor) (h : Building) → Sound place b d h → Standing s d → length s + 2 - d .at ≤ n
+          → build-reading place b s h (reading-within n s d) ≡ opens w → Viewable b w)
           → Viewable b w
-      go (Go x d) k f more =
-          let p = next-parts s c (t .marked) x d k in
-          let o = next-origin s c x d (t .few) k in
+      go (Go x d) q f more =
+          let p = next-parts s c (t .marked) x d q in
+          let o = next-origin s c x d (t .few) q in
+          let y = next-onward s c d x (k .fresh) q in
+          let j = next-stands s c d x k q in
+          let turn : Turn s c x d = record {
+            parts = p .0;
+            marked = p .1;
+            origin = o .0;
+            near = o .1;
+            spans = next-spans s c x d (t .few) q;
+            onward = y .onward;
+            short = inside d j (o .1 .few);
+          } in
           after (Sound place b d) (λ h. build-reading place b s h (reading-within n s d)) (take-event b s g x)
-          (sound-event place b s c g t x d (p .0) (p .1) (o .0) (o .1)) (λ h. more d h) f
-      go End k f more = done g (ends-viewable place b c g t) f
-      go (Refused a p) k f more = absurd (true≢false (cc))
+          (sound-event place b s c g t x d turn) (λ h u. more d h u j (omega (arith, y .onward))) f
+      go End q f more = done g (ends-viewable place b c g t (inside c k (t .few)) (next-ends s c (t .few) q)) f
+      go (Refused a p) q f more = absurd (true≢false (cc))
 
 -- ---- the whole
-viewable : (how : How) (b : Buffers) (s : List ℕ) (w : Book) → how .place < at-symbol → block-place (how .place) ≡ false → opening how b s ≡ opens w
-    → Viewable b w
+viewable : (how : How) (b : Buffers) (s : List ℕ) (w : Book) → how .place < at-symbol → block-place (how .place) ≡ false → stage (how .place) ≡ outside
+    → opening how b s ≡ opens w → Viewable b w
 unfolding opening reading reading-from
-viewable how b s w h k e = go (ltb script-limit (length s)) (leb node-width (length (b .nodes))) refl e
+viewable how b s w h k l e = go (ltb script-limit (length s)) (leb node-width (length (b .nodes))) refl refl e
   where
-    go : (x y : Bool) → leb node-width (length (b .nodes)) ≡ y
+    go : (x y : Bool) → ltb script-limit (length s) ≡ x → leb node-width (length (b .nodes)) ≡ y
         → cond x (declined too-long 0) (cond y (build-reading (how .place) b s nothing-yet (reading reld (how .place) s)) (declined no-room 0)) ≡ opens w
         → Viewable b w
-    go true y z f = absurd (true≢false (cc))
-    go false false z f = absurd (true≢false (cc))
-    go false true z f =
+    go true y u z f = absurd (true≢false (cc))
+    go false false u z f = absurd (true≢false (cc))
+    go false true u z f =
         let p = how .place in
-        along p b s w (length s + 2 - start reld p s .at) (start reld p s) nothing-yet (sound-start b s p (leb-true _ _ z) h k) f
+        along p b s w (ltb-false _ _ u) (length s + 2 - start reld p s .at) (start reld p s) nothing-yet (sound-start b s p (leb-true _ _ z) h k l)
+        (start-stands reld p s) (omega arith) f
 
-starts-free : (how : How) → opens-at how ≡ true → (how .place < at-symbol) × (block-place (how .place) ≡ false)
+-- where a reading starts, no extern block is open and no node
+record Starts (place : ℕ) : Type 0 where
+  few : place < at-symbol
+  free : block-place place ≡ false
+  none : stage place ≡ outside
+
+starts-free : (how : How) → opens-at how ≡ true → Starts (how .place)
 starts-free how e = go (how .place) (eqb (how .place) at-script) refl e
   where
-    go : (place : ℕ) (v : Bool) → eqb place at-script ≡ v → (v || eqb place at-list) ≡ true → (place < at-symbol) × (block-place place ≡ false)
-    go place true z f = let q : place ≡ at-script = eqb-true place at-script z in (omega arith, rw q)
-    go place false z f = let q : place ≡ at-list = eqb-true place at-list f in (omega arith, rw q)
+    go : (place : ℕ) (v : Bool) → eqb place at-script ≡ v → (v || eqb place at-list) ≡ true → Starts place
+    go place true z f = let q : place ≡ at-script = eqb-true place at-script z in record { few = omega arith; free = rw q; none = rw q }
+    go place false z f = let q : place ≡ at-list = eqb-true place at-list f in record { few = omega arith; free = rw q; none = rw q }
 
 pub opened-viewable : (how : How) (b : Buffers) (s : List ℕ) (w : Book) → opens-at how ≡ true → opening how b s ≡ opens w → Viewable b w
 opened-viewable how b s w h e =
     let f = starts-free how h in
-    viewable how b s w (f .0) (f .1) e
+    viewable how b s w (f .few) (f .free) (f .none) e
 
 pub opened-holds : Opened-holds
 opened-holds how b s w h e =

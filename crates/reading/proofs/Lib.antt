@@ -9,3 +9,5 @@ pub mod Looking
 pub mod Points
 pub mod Parts
 pub mod Origins
+pub mod Spans
+pub mod WholeNodes

@@ -111,7 +111,8 @@ fn nodes<'b>(book: &'b Buffers, counts: &Counted) -> Result<Vec<Node<'b>>, &'sta
 }
 
 /// "A node name … that no reading gives": node 0 has none; another is one or more bytes outside
-/// space ( ) { } LF tab, and none that the skip before it would take.
+/// space ( ) { } LF tab, and none that the skip before it would take; and no script is longer than
+/// its limit, in which it stands with a body and a `;` behind it.
 fn named(nodes: &[Node], number: usize) -> Result<(), &'static str> {
     let name = nodes[number].name;
     if number == 0 {
@@ -122,13 +123,14 @@ fn named(nodes: &[Node], number: usize) -> Result<(), &'static str> {
     demand(
         !name.is_empty()
             && name.iter().all(of_a_name)
-            && !skipped.iter().any(|front| name.starts_with(front)),
+            && !skipped.iter().any(|front| name.starts_with(front))
+            && name.len() + b"{};".len() <= limit::SCRIPT,
         "a node name that no reading gives",
     )
 }
 
 /// "Or parent that no reading gives": 0 for none, or an earlier node, the first of its name, which
-/// is the text up to a `;`.
+/// is the text up to a `;`; in a script it stands twice, before its own body and behind the node's.
 fn with_parent(nodes: &[Node], number: usize) -> Result<(), &'static str> {
     let parent = nodes[number].parent;
     if parent == 0 {
@@ -137,7 +139,8 @@ fn with_parent(nodes: &[Node], number: usize) -> Result<(), &'static str> {
     let earlier = &nodes[..number];
     let found = earlier.get(parent).is_some_and(|node| {
         let first = earlier.iter().position(|other| other.name == node.name);
-        first == Some(parent) && !node.name.contains(&b';')
+        let script = 2 * node.name.len() + b"{};{};".len() + nodes[number].name.len();
+        first == Some(parent) && !node.name.contains(&b';') && script <= limit::SCRIPT
     });
     demand(found, "a parent that no reading gives")
 }

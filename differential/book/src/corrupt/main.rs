@@ -281,7 +281,8 @@ fn edit(random: &mut Random, model: &mut Model) {
 }
 
 /// Books with as many nodes, lines, pool bytes and edits as are taken, and up to two less and more,
-/// in rooms that are larger; a line as long as it can be; and more bytes of names than a script has.
+/// in rooms that are larger; a line as long as it can be; a name, and a parent's, as long as a
+/// script can have it; and more bytes of names than a script has.
 fn limits(comparison: &mut Comparison) {
     let over = |limit: usize| limit - 2..=limit + 2;
     let mut held = |words, model: &Model, within: bool| {
@@ -331,14 +332,25 @@ fn limits(comparison: &mut Comparison) {
             held("a line's length", &model, length <= limit::TOKEN);
         }
     }
-    for length in over(limit::SCRIPT) {
+    let named = |letter: &[u8], length, parent| Node {
+        name: letter.repeat(length),
+        parent,
+    };
+    for length in over(limit::SCRIPT - 3) {
         let mut model = regular();
-        for letter in [b"A", b"B"] {
-            model.nodes.push(Node {
-                name: letter.repeat(length),
-                parent: model.nodes.len() - 1,
-            });
+        model.nodes.push(named(b"A", length, 0));
+        held("a name's length", &model, length + 3 <= limit::SCRIPT);
+        model.nodes.push(named(b"B", length, 0));
+        held("two such names", &model, length + 3 <= limit::SCRIPT);
+    }
+    // `A{};N{}A;`, with a name N of one byte to three.
+    for length in over((limit::SCRIPT - 7) / 2) {
+        for own in 1..=3 {
+            let mut model = regular();
+            model.nodes.push(named(b"A", length, 0));
+            model.nodes.push(named(b"N", own, 1));
+            let within = 2 * length + own + 6 <= limit::SCRIPT;
+            held("a parent's length", &model, within);
         }
-        held("a name's length", &model, true);
     }
 }

@@ -1,5 +1,6 @@
 -- `tell_version` meets its contract. Assumes nothing.
 use borrow.Author.Needs.{needs}
+use Rattle.lookups.specs.Lookups.{version-refusal, version-value}
 use Rattle.c_lending.proofs.Lending.{tells}
 use Rattle.c_api.proofs.lent_questions.tell_version.Statement.{statement}
 use Rattle.c_api.proofs.lent_questions.tell_version.Tie as tie
