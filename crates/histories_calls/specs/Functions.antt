@@ -48,7 +48,8 @@ opens (list f) =
     let (_, (n′, (m′, (l′, (p′, (j′, _)))))) = exit f in
     opening-seen as-list (five (now n) (now m) (now l) (now p) (now j)) (now s) (f .answered) (five (now n′) (now m′) (now l′) (now p′) (now j′))
 
--- ---- edits
+-- ---- edits. `undo`, to which the counts are lent, is proved by a walk by hand: its promise is the one that its clauses are shown to say (`undo-says` of
+-- `uniqueness`)
 pub data Edit-run : Type 0 where
   add-run : Run-of add.ended add.Reads.Post → Edit-run
   strike-run : Run-of strike.ended strike.Reads.Post → Edit-run
