@@ -123,8 +123,8 @@ exports-said = record {
 }
 
 -- ---- the theorems
-pub exports-run : Runs-as-said exports
-exports-run = runs-as-said exports exports-said
+pub exports-runs : Runs-as-said exports
+exports-runs = runs-as-said exports exports-said
 
 pub exports-demand-3 : Demand-3-of exports
 exports-demand-3 = demand-3-of exports exports-said
