@@ -9,7 +9,7 @@ use borrow.Author.Tests.{lt-ltb}
 use lib.Dec.{eqb, leb, ltb}
 use lib.ListN.{length}
 use Rattle.numbers.specs.Editions.{reld}
-use Rattle.numbers.specs.Limits.{script-limit}
+use Rattle.numbers.specs.Limits.{over, script-limit, token-limit}
 use Rattle.numbers.specs.Refusals.{no-room, too-long}
 use Rattle.linker_script.specs.Trim.{trim-end}
 use Rattle.lists.specs.Each.{every}
@@ -17,7 +17,7 @@ use Rattle.classes.specs.declared.Class.{Class}
 use Rattle.storing.specs.Keeping.{kept, keep}
 use Rattle.reading_cursors.specs.declared.Event.{Event}
 use Rattle.reading.specs.Events.{Outcome, accepted, refused, reading}
-use Rattle.book.specs.Books.{Book, Edit, Line, book-frame, edition-of, rust, with-lines}
+use Rattle.book.specs.Books.{Book, Edit, Line, book-frame, edition-of, export, rust, with-lines}
 use Rattle.book.specs.Edits.{line-at, stands, take-back}
 use Rattle.book.specs.Layout.{Buffers, node-width}
 use Rattle.book.proofs.Views.{laid-out-same}
@@ -29,14 +29,19 @@ use Rattle.book_opened.specs.Opened.{opens-at}
 use Rattle.book_opened.proofs.Opened.{Viewable, opened-viewable}
 use Rattle.trial.specs.Changes.{Change, to, after, counts-after, edited}
 use Rattle.trial.specs.Trial.{add-asked, append, append-kept, may-stand, settle-asked, standing, strike-asked, strike-line}
+use Rattle.trial.specs.Symbols.{add-reading, symbol-asked, symbol-place}
 use Rattle.trial.proofs.SameRooms.{edit-room-same, line-room-same}
-use Rattle.histories.specs.Histories.{Call, adds, settles, strikes, undoes, Lent, Desk, answer, change, desk-at, follow, lent-after, run, settled-to, undos}
-use Rattle.histories.specs.Demand.{Brought-back, Demand-3, Holds, desk-behind, lent-behind, lent-book, lent-opening}
+use Rattle.histories.specs.Histories.{Call, adds, adds-symbol, settles, strikes, undoes, Lent, Desk, answer, change, history, lent-after, run, undos}
+use Rattle.histories.specs.Histories.{desk-at, edits-left, follow, leads, settled-to}
+use Rattle.histories.specs.Demand.{Brought-back, Demand-3, Freed, Holds, Undone-all}
+use Rattle.histories.specs.Demand.{all-room, desk-behind, lent-behind, lent-book, lent-opening, lines-kept}
 use Rattle.trial.proofs.Standing.{standing-same}
 use Rattle.histories.proofs.Asked.{asked-locality, asked-member, asked-version, book-with}
 use Rattle.histories.proofs.Trails.{Trail, begins, goes, trail-length}
 use Rattle.histories.proofs.Calls.{Held, rooms, seen, undo-is}
-use Rattle.histories.proofs.EachCall.{held-after, held-run}
+use Rattle.histories.proofs.EachCall.{held-run}
+use Rattle.histories.proofs.SymbolRooms.{events-done}
+use Rattle.histories.proofs.Counted.{leads-on, run-counted}
 
 -- ---- a book that is opened has no edit
 module _ (place : ℕ) (b : Buffers) (s : List ℕ) (w : Book) where
@@ -125,6 +130,14 @@ module _ (b : Buffers) (w : Book) (k : eqb (w .kind) rust ≡ false) (d : Desk) 
   unfolding answer change strike-asked strike-line edited
   strike-done i j s e = rw (seen b w d x h, k, lt-ltb _ _ j, s, edit-room-same (x .buffers) b (rooms b w d x h) (h .edits), e)
 
+  symbols-done : (t : List ℕ) (bare : Bool) (ls : List Line) → eqb (w .kind) export ≡ true → over token-limit t ≡ false
+      → reading reld (symbol-place bare) t .outcome ≡ accepted
+      → lines-kept (edition-of (book-frame w)) t (reading reld (symbol-place bare) t .events) ≡ some ls → all-room b (d .lines) (h .edits) ls ≡ true
+      → answer x (adds-symbol t bare) ≡ 0
+  unfolding answer change symbol-asked add-reading
+  symbols-done t bare ls z n o q m =
+      rw (seen b w d x h, z, n, o) (events-done (x .buffers) b (rooms b w d x h) t (reading reld (symbol-place bare) t .events) book-now ls q m)
+
 -- ---- behind a settle
 module _ (b : Buffers) (w : Book) (k : eqb (w .kind) rust ≡ false) (d : Desk) (x : Lent) (h : Held b w d x) where
   abbrev settled-desk : Desk
@@ -134,10 +147,6 @@ module _ (b : Buffers) (w : Book) (k : eqb (w .kind) rust ≡ false) (d : Desk) 
   unfolding answer change settle-asked edited
   settle-answer = rw (seen b w d x h)
 
-  settle-held : Held b w settled-desk (lent-after x settles)
-  unfolding follow
-  settle-held = rw settle-answer at (held-after b w k d x h settles)
-
   settled-lines : settled-desk .lines ≡ standing (d .lines)
   settled-lines = go (every stands (d .lines)) refl
     where
@@ -145,16 +154,8 @@ module _ (b : Buffers) (w : Book) (k : eqb (w .kind) rust ≡ false) (d : Desk) 
       go true e = sym (standing-same (d .lines) e)
       go false e = refl
 
-  no-trail : {moment : List Line} {es : List Edit} {ls : List Line} → Trail b w moment [] es ls → es ≡ []
-  no-trail (begins z e) = z
-
-  settled-edits : every stands (d .lines) ≡ false → settle-held .edits ≡ []
-  settled-edits e = go (every stands (d .lines)) e (settle-held .sound .trail)
-    where
-      go : (y : Bool) → y ≡ false → Trail b w (settled-to y d .moment) (settled-to y d .earlier) (settle-held .edits) (settled-to y d .lines)
-          → settle-held .edits ≡ []
-      go true z t = absurd (true≢false z)
-      go false z t = no-trail t
+  settled-empty : every stands (d .lines) ≡ false → settled-desk .earlier ≡ []
+  settled-empty e = rw e
 
   -- ---- the demand, of what is held
   holds : Holds b w x d
@@ -168,33 +169,58 @@ module _ (b : Buffers) (w : Book) (k : eqb (w .kind) rust ≡ false) (d : Desk) 
     undone = undone-from b w (d .moment) x (h .sound .trail) (h .sound .viewable) (h .lent);
     added = add-done b w k d x h;
     struck = strike-done b w k d x h;
-    journal = settle-held .edits;
-    emptied = settled-edits;
-    settled = seen b w settled-desk (lent-after x settles) settle-held ∙ rw settled-lines;
-    freed = λ node section language t bs c m q l e.
-        add-done b w k settled-desk (lent-after x settles) settle-held node section language t bs c m q (rw settled-lines l) e;
+    symbols = symbols-done b w k d x h;
   }
 
 -- ---- the theorem
-lent-opened : (b : Buffers) (o : Opening) (w : Book) → o ≡ opens w → lent-opening b o ≡ lent-book b w
+pub lent-opened : (b : Buffers) (o : Opening) (w : Book) → o ≡ opens w → lent-opening b o ≡ lent-book b w
 unfolding told left
 lent-opened b o w e = rw e
 
-module _ (how : How) (b : Buffers) (s : List ℕ) (w : Book) (ks : List Call) (o : opens-at how ≡ true) (e : opening how b s ≡ opens w)
-    (k : eqb (w .kind) rust ≡ false) where
-  behind : Holds b w (lent-behind how b s ks) (desk-behind how b s w ks)
-  behind =
+module _ (how : How) (b : Buffers) (s : List ℕ) (w : Book) (o : opens-at how ≡ true) (e : opening how b s ≡ opens w) (k : eqb (w .kind) rust ≡ false) where
+  held-behind : (ks : List Call) → Held b w (desk-behind how b s w ks) (lent-behind how b s ks)
+  held-behind ks =
       let h = held-opened how b s w (opened-viewable how b s w o e) (opened-edits how b s w e) in
       let z = sym (lent-opened b (opening how b s) w e) in
-      holds b w k (desk-behind how b s w ks) (lent-behind how b s ks)
-      (held-run b w k ks (desk-at (w .lines)) (lent-opening b (opening how b s)) (subst (Held b w (desk-at (w .lines))) z h))
+      held-run b w k ks (desk-at (w .lines)) (lent-opening b (opening how b s)) (subst (Held b w (desk-at (w .lines))) z h)
+
+  behind : (ks : List Call) → Holds b w (lent-behind how b s ks) (desk-behind how b s w ks)
+  behind ks = holds b w k (desk-behind how b s w ks) (lent-behind how b s ks) (held-behind ks)
+
+  desk-on : (ks ls : List Call)
+      → desk-behind how b s w (ks ++ ls) ≡ leads (edition-of (book-frame w)) (desk-behind how b s w ks) (history (lent-behind how b s ks) ls)
+  desk-on ks ls = leads-on (edition-of (book-frame w)) (desk-at (w .lines)) (lent-opening b (opening how b s)) ks ls
+
+  desk-settled : (ks : List Call)
+      → desk-behind how b s w (ks ++ settles ∷ []) ≡ settled-desk b w k (desk-behind how b s w ks) (lent-behind how b s ks) (held-behind ks)
+  unfolding leads history follow
+  desk-settled ks = desk-on ks (settles ∷ []) ∙ rw (settle-answer b w k (desk-behind how b s w ks) (lent-behind how b s ks) (held-behind ks))
 
 pub demand-3 : Demand-3
-demand-3 how b s w ks o e k = behind how b s w ks o e k
+demand-3 how b s w ks o e k = behind how b s w o e k ks
+
+pub freed : Freed
+freed how b s w ks o e k =
+    let d = desk-behind how b s w ks in
+    let h = held-behind how b s w o e k ks in
+    let z = desk-settled how b s w o e k ks in (
+      rw z (settled-lines b w k d (lent-behind how b s ks) h),
+      λ n. rw z (settled-empty b w k d (lent-behind how b s ks) h n),
+    )
 
 pub brought-back : Brought-back
 unfolding run undos
 brought-back how b s w ks ls o e k none same =
     let then : run (lent-behind how b s ks) [] ≡ lent-book b (with-lines w (desk-behind how b s w ks .moment))
-    = rw none at (behind how b s w ks o e k .undone) in
-    behind how b s w (ks ++ ls) o e k .undone ∙ rw same (sym then)
+    = rw none at (behind how b s w o e k ks .undone) in
+    behind how b s w o e k (ks ++ ls) .undone ∙ rw same (sym then)
+
+pub undone-all : Undone-all
+undone-all how b s w ks ls o e k none whole =
+    let d = desk-behind how b s w ks in
+    let y = lent-behind how b s ks in
+    let r = run-counted b w k ls d y (held-behind how b s w o e k ks) whole in
+    let z = desk-on how b s w o e k ks ls in
+    let n : length (desk-behind how b s w (ks ++ ls) .earlier) ≡ edits-left 0 (history y ls)
+    = ap (λ (i : Desk). length (i .earlier)) z ∙ r .1 ∙ ap (λ (i : List (List Line)). edits-left (length i) (history y ls)) none in
+    rw (← n) (brought-back how b s w ks ls o e k none (rw z (r .0)))

@@ -6,5 +6,7 @@ pub mod Numbered
 pub mod Calls
 pub mod SymbolLines
 pub mod EachCall
+pub mod SymbolRooms
+pub mod Counted
 pub mod Demand
 pub mod KnownHistories

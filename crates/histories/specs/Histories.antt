@@ -1,8 +1,8 @@
 -- Histories of a trial book: calls with their answers, what they do to lent counts and buffers, and, told without any buffer, which lines they leave and where
 -- undoing leads back to. Assumes nothing.
-use Prim.Native.Nat.{ℕ, zero, suc}
+use Prim.Native.Nat.{ℕ, zero, suc, _+_, _-_}
 use mathlib.Core.List.{List, [], _∷_, _++_}
-use mathlib.Core.Bool.{Bool, cond}
+use mathlib.Core.Bool.{Bool, true, false, cond, not, _&&_}
 use lib.Dec.{eqb}
 use Rattle.linker_script.specs.Parts.{part}
 use Rattle.numbers.specs.Editions.{reld}
@@ -89,15 +89,19 @@ with-kept d node section language (kept k bs) =
     edited-to d (d .lines ++ new-line node section language (class-number k) bs ∷ [])
 with-kept d node section language (refused n) = d
 
+-- what is made of an event's line, of its language and its place in the text, and a of any other event
+abbrev pub on-line : {A : Type 0} → (ℕ → ℕ → ℕ → A) → A → Event → A
+on-line make a (event.Node p n) = a
+on-line make a event.Body = a
+on-line make a (event.Section section) = a
+on-line make a (event.Extern section language) = a
+on-line make a event.Closed = a
+on-line make a (event.Line section language p n) = make language p n
+on-line make a (event.Parent p n) = a
+
 -- the lines of a text of `add_symbol`, each an add of its own
 abbrev pub with-event : Edition → List ℕ → Desk → Event → Desk
-with-event e s d (event.Node p n) = d
-with-event e s d event.Body = d
-with-event e s d (event.Section section) = d
-with-event e s d (event.Extern section language) = d
-with-event e s d event.Closed = d
-with-event e s d (event.Line section language p n) = with-kept d 0 global language (keep e (part s p n))
-with-event e s d (event.Parent p n) = d
+with-event e s d x = on-line (λ language p n. with-kept d 0 global language (keep e (part s p n))) d x
 
 unfoldable pub with-events : Edition → List ℕ → Desk → List Event → Desk
 with-events e s d [] = d
@@ -118,6 +122,38 @@ follow e d (adds-symbol t bare) = with-events e t d (reading reld (symbol-place 
 unfoldable pub leads : Edition → Desk → List Told → Desk
 leads e d [] = d
 leads e d (x ∷ xs) = leads e (cond (eqb (x .number) 0) (follow e d (x .call)) d) xs
+
+-- ---- how many edits there are to undo
+-- the lines of a text
+unfoldable pub line-events : List Event → ℕ
+line-events [] = 0
+line-events (x ∷ xs) = on-line (λ language p n. 1) 0 x + line-events xs
+
+-- n edits and then a call that was done: "`add_symbol` on an export list is one add per line", an undo takes one back, and a settle that drops no line none
+abbrev pub edits-after : ℕ → Call → ℕ
+edits-after n (adds node section language t) = n + 1
+edits-after n (strikes i) = n + 1
+edits-after n undoes = n - 1
+edits-after n settles = n
+edits-after n (adds-symbol t bare) = n + line-events (reading reld (symbol-place bare) t .events)
+
+-- n edits and then a history in which no settle drops a line
+unfoldable pub edits-left : ℕ → List Told → ℕ
+edits-left n [] = n
+edits-left n (x ∷ xs) = edits-left (cond (eqb (x .number) 0) (edits-after n (x .call)) n) xs
+
+-- whether a call drops a line of these where it is done
+abbrev pub drops : List Line → Call → Bool
+drops ls (adds node section language t) = false
+drops ls (strikes i) = false
+drops ls undoes = false
+drops ls settles = not (every stands ls)
+drops ls (adds-symbol t bare) = false
+
+-- no settle of a history drops a line: each that is done meets a desk whose lines all stand
+unfoldable pub nothing-dropped : Edition → Desk → List Told → Bool
+nothing-dropped e d [] = true
+nothing-dropped e d (x ∷ xs) = not (eqb (x .number) 0 && drops (d .lines) (x .call)) && nothing-dropped e (leads e d (x ∷ [])) xs
 
 -- so many undos
 unfoldable pub undos : ℕ → List Call

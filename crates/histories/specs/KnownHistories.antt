@@ -8,9 +8,15 @@ use Prim.Native.String.{String}
 use mathlib.Core.Path.{_≡_}
 use mathlib.Core.List.{List, [], _∷_}
 use mathlib.Core.Bool.{true, false}
-use mathlib.Core.Option.{none}
+use mathlib.Core.Option.{none, some}
 use Rattle.numbers.specs.Marks.{cxx, general, global, local}
 use Rattle.lists.specs.Texts.{codes}
+use Rattle.numbers.specs.Classes.{exact-class}
+use Rattle.numbers.specs.Editions.{reld}
+use Rattle.numbers.specs.declared.Edition.the-variants.{Reld}
+use Rattle.reading_cursors.specs.Places.{at-symbol}
+use Rattle.reading.specs.Events.{reading}
+use Rattle.book.specs.Books.{Line, new-line}
 use Rattle.book.specs.Layout.{Buffers}
 use Rattle.book.specs.View.{view}
 use Rattle.ranking.specs.Matching.{Name}
@@ -23,8 +29,8 @@ use Rattle.export_list.specs.declared.Membership.{Membership}
 use Rattle.export_list.specs.declared.Membership.the-variants.{Within, Without}
 use Rattle.export_list.specs.Membership.{contains-asked}
 use Rattle.known_points.specs.Tables.{demangles, opened-list, opened-script, rooms, symbol}
-use Rattle.histories.specs.Histories.{Call, adds, strikes, undoes, settles, adds-symbol, Lent, Told, history, run}
-use Rattle.histories.specs.Demand.{lent-opening}
+use Rattle.histories.specs.Histories.{Call, adds, strikes, undoes, settles, adds-symbol, Lent, Told, edits-left, history, run, undos}
+use Rattle.histories.specs.Demand.{all-room, lent-opening, lines-kept}
 
 -- ---- how the table is told
 -- what the opening of a version script leaves, and that of an export list
@@ -159,8 +165,11 @@ many-more = export-list (rooms 1 0 4 4 3) "{ f; };"
 abbrev pub symbol-g : Call
 symbol-g = adds-symbol (codes "g;") false
 
+abbrev pub text-ab : List ℕ
+text-ab = codes "extern \"C\" { a; b; };"
+
 abbrev pub symbols-ab : Call
-symbols-ab = adds-symbol (codes "extern \"C\" { a; b; };") false
+symbols-ab = adds-symbol text-ab false
 
 abbrev pub symbols-bad : Call
 symbols-bad = adds-symbol (codes "extern \"C\" { a; b; [ };") false
@@ -189,6 +198,25 @@ pub record Without-semicolon : Type 0 where
   pub done : answers one-more (adds-symbol (codes "h") false ∷ adds-symbol (codes "h") true ∷ []) ≡ 2 ∷ 0 ∷ []
   pub added : contains (run one-more (adds-symbol (codes "h") true ∷ [])) "h" ≡ Within
 
+-- ---- how many edits calls leave to be undone: refused ones are none, an undo takes one back, and of an `add_symbol` each line is one
+pub record Edits-left : Type 0 where
+  pub undone : edits-left 0 (history empty-node (add-f ∷ add-all ∷ undoes ∷ add-g ∷ [])) ≡ 2
+  pub refused : edits-left 0 (history full (add-h ∷ strikes 0 ∷ strikes 0 ∷ [])) ≡ 1
+  pub lines : edits-left 0 (history many-more (symbols-ab ∷ symbols-bad ∷ [])) ≡ 2
+  pub back : run many-more (symbols-ab ∷ symbols-bad ∷ undos 2) ≡ many-more
+
+-- the lines of a text, which have room in the one book, behind its line, and in the other not
+abbrev pub exact-line : String → Line
+exact-line t = new-line 0 global general exact-class (codes t)
+
+abbrev pub lines-ab : List Line
+lines-ab = exact-line "a" ∷ exact-line "b" ∷ []
+
+pub record Rooms-for-all : Type 0 where
+  pub kept : lines-kept Reld text-ab (reading reld at-symbol text-ab .events) ≡ some lines-ab
+  pub room : all-room (many-more .buffers) (exact-line "f" ∷ []) [] lines-ab ≡ true
+  pub no-row : all-room (one-more .buffers) (exact-line "f" ∷ []) [] lines-ab ≡ false
+
 -- the table
 pub record Known-histories : Type 0 where
   pub haze-struck : Haze
@@ -202,3 +230,5 @@ pub record Known-histories : Type 0 where
   pub symbols : Symbols
   pub all-or-none : All-or-none
   pub without-semicolon : Without-semicolon
+  pub left-to-undo : Edits-left
+  pub rooms-for-all : Rooms-for-all

@@ -55,7 +55,7 @@ pub first-unique : Unique first.ended First
 first-unique κs a x y v w p q = (same p q, refl)
 
 -- ---- trial_undo
-abbrev Undo : Promise undo.ended
+abbrev pub Undo : Promise undo.ended
 Undo κs a r e =
     let b = five (now (a .1 .0)) (now (a .1 .1 .0)) (now (a .1 .1 .1 .0)) (now (a .1 .1 .1 .1 .0)) (now (a .1 .1 .1 .1 .1 .0)) in
     let c = undo-asked (view (now (a .0)) b) in

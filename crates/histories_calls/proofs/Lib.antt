@@ -1,0 +1,4 @@
+pub mod Openings
+pub mod Following
+pub mod Functions
+pub mod Exports

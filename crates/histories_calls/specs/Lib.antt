@@ -1,0 +1,4 @@
+pub mod Interfaces
+pub mod Demands
+pub mod Functions
+pub mod Exports
