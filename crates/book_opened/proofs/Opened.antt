@@ -125,7 +125,7 @@ viewable how b s w h k e = go (ltb script-limit (length s)) (leb node-width (len
     go false false z f = absurd (true≢false (cc))
     go false true z f =
         let p = how .place in
-        along p b s w (length s + 2 - start reld p s .at) (start reld p s) nothing-yet (sound-start b s p (leb-true _ _ z) h k) f
+        along p b s w (length s + 2 - start reld p .at) (start reld p) nothing-yet (sound-start b s p (leb-true _ _ z) h k) f
 
 starts-free : (how : How) → opens-at how ≡ true → (how .place < at-symbol) × (block-place (how .place) ≡ false)
 starts-free how e = go (how .place) (eqb (how .place) at-script) refl e
