@@ -21,7 +21,8 @@ use Rattle.reading_cursors.specs.Moves.{start}
 use Rattle.reading_cursors.specs.Places.{at-list, at-script, at-symbol, behind-symbol}
 use Rattle.reading.specs.Scripts.{next}
 use Rattle.reading.specs.Events.{on-step, reading, reading-from, reading-within}
-use Rattle.reading.proofs.Onward.{Standing, next-onward, next-stands, start-stands}
+use Rattle.reading.specs.Standing.{Standing}
+use Rattle.reading.proofs.Onward.{next-onward, next-stands, start-stands}
 use Rattle.reading.proofs.Parts.{next-parts}
 use Rattle.reading.proofs.Spans.{next-ends, next-spans, outside, stage}
 use Rattle.reading.proofs.Origins.{block-place, next-origin}
@@ -147,7 +148,7 @@ viewable how b s w h k l e = go (ltb script-limit (length s)) (leb node-width (l
     go false false u z f = absurd (true≢false (cc))
     go false true u z f =
         let p = how .place in
-        along p b s w (ltb-false _ _ u) (length s + 2 - start reld p s .at) (start reld p s) nothing-yet (sound-start b s p (leb-true _ _ z) h k l)
+        along p b s w (ltb-false _ _ u) (length s + 2 - start reld p .at) (start reld p) nothing-yet (sound-start b s p (leb-true _ _ z) h k l)
         (start-stands reld p s) (omega arith) f
 
 -- where a reading starts, no extern block is open and no node

@@ -116,14 +116,14 @@ good-line b xs ys y t h k e = record {
 -- ---- the start
 module _ (b : Buffers) (s : List ℕ) (place : ℕ) (room : node-width ≤ length (b .nodes)) (few : place < at-symbol) (free : block-place place ≡ false)
     (none : stage place ≡ outside) where
-  pub sound-start : Sound place b (start reld place s) nothing-yet
+  pub sound-start : Sound place b (start reld place) nothing-yet
   unfolding start nothing-yet every
   sound-start = record {
     few = few;
     side = refl;
-    marked = start-marked reld place s;
+    marked = start-marked reld place;
     good = record { rooms = roomy-start b room; nodes = nodes-start; lines = refl; stand = refl };
-    spelt = spelt-start (start reld place s) none;
+    spelt = spelt-start (start reld place) none;
     agrees = record { block = sym free; plain = λ _. refl; among = λ e. absurd (true≢false (sym e ∙ free)) };
     rust = rust-start;
     list = λ _. record { one = refl; global-yet = refl; globals = refl };

@@ -22,7 +22,8 @@ use Rattle.reading_cursors.specs.Moves.{start}
 use Rattle.reading.specs.Scripts.{next}
 use Rattle.reading.specs.Events.{on-step, reading, reading-from}
 use Rattle.reading.specs.Events as events
-use Rattle.reading.proofs.Onward.{Standing, next-onward, next-stands, reading-step, start-stands}
+use Rattle.reading.specs.Standing.{Standing}
+use Rattle.reading.proofs.Onward.{next-onward, next-stands, reading-step, start-stands}
 use Rattle.reading.proofs.Parts.{Marked, next-parts, start-marked}
 use Rattle.book.specs.declared.Counts.{Counts}
 use Rattle.book.specs.Books.{Book}
@@ -61,14 +62,14 @@ ended-no : (o : Opening) (k p : ℕ) (r : Built) (b b′ : Buffers) → o ≡ de
 ended-no o k p r b b′ z x = rw z x
 
 module _ (place : ℕ) (s n m l q : List ℕ) where
-  pub going-starts : (c : Cursor) → c ≡ start reld place s → node-width ≤ length n → All-clear (four n m l q)
+  pub going-starts : (c : Cursor) → c ≡ start reld place → node-width ≤ length n → All-clear (four n m l q)
       → Going place s n m l q n m l q c none-yet
   unfolding reading
   going-starts c z h a =
       let t = starts-built n m l q (a .0) (a .1) (a .2) (a .3) h in
       record {
         stands = rw z (start-stands reld place s);
-        marked = rw z (start-marked reld place s);
+        marked = rw z (start-marked reld place);
         holds = t .1;
         alike = record { nodes = refl; names = refl; lines = refl; pool = refl };
         whole = rw (t .0, z);

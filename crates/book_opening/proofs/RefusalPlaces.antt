@@ -20,7 +20,8 @@ use Rattle.reading_cursors.specs.declared.Step.the-variants.{Go, End, Refused}
 use Rattle.reading_cursors.specs.Moves.{start}
 use Rattle.reading.specs.Scripts.{next}
 use Rattle.reading.specs.Events.{on-step, reading, reading-from, reading-within}
-use Rattle.reading.proofs.Onward.{Standing, next-stands, start-stands}
+use Rattle.reading.specs.Standing.{Standing}
+use Rattle.reading.proofs.Onward.{next-stands, start-stands}
 use Rattle.reading.proofs.Parts.{Marked, next-parts, start-marked}
 use Rattle.reading.proofs.Refusals.{standing-refuses}
 use Rattle.book.specs.Books.{edition-of, first-named}
@@ -100,7 +101,7 @@ module _ (s : List ℕ) where
             → Within (cond x (declined too-long 0) (cond y (build-reading (how .place) b s nothing-yet (reading reld (how .place) s)) (declined no-room 0)))
         go true y = omega arith
         go false true =
-            build-within (how .place) b _ (start reld (how .place) s) nothing-yet (start-stands reld (how .place) s) (start-marked reld (how .place) s)
+            build-within (how .place) b _ (start reld (how .place)) nothing-yet (start-stands reld (how .place) s) (start-marked reld (how .place))
         go false false = omega arith
 
     pub opening-refuses-within : (n p : ℕ) → opening how b s ≡ declined n p → p ≤ length s

@@ -2,7 +2,6 @@
 ghost use mathlib.Core.Path.{_≡_};
 ghost use Prim.Native.Nat.{_*_, _≤_};
 ghost use lib.ListN.{length};
-ghost use Rattle.numbers.specs.Editions.{reld};
 ghost use Rattle.numbers.specs.Limits.{line-limit, node-limit, pool-limit, script-limit};
 ghost use Rattle.book.specs.Layout.{node-width};
 ghost use Rattle.book_building.specs.State.{All-clear, four};
@@ -21,6 +20,7 @@ use book_building::Progress;
 use book_building::Taking;
 use book_building::clear_book;
 use book_building::events::take_event;
+use linker_script::last_close;
 use numbers::NO_ROOM;
 use numbers::RELD;
 use numbers::SCRIPT_LIMIT;
@@ -86,7 +86,8 @@ fn build(
     ensures { λ r. ⌜ Builds place (four (now (nodes .entry)) (now (names .entry)) (now (lines .entry)) (now (pool .entry))) (now (s .entry))
         r (four (now (nodes .exit)) (now (names .exit)) (now (lines .exit)) (now (pool .exit))) ⌝ }
 {
-    let mut c = start_at(RELD, place, s);
+    let last = last_close(s);
+    let mut c = start_at(RELD, place);
     let mut g = Progress {
         nodes: 1,
         names: 0,
@@ -97,7 +98,7 @@ fn build(
         starred: false,
     };
     loop {
-        match next_event(s, c) {
+        match next_event(s, last, c) {
             Step::End => {
                 return Built::Done(finished(place, g));
             }

@@ -81,7 +81,7 @@ module _ (a b : Buffers) (r : Rooms a b) (w : Book) (k : eqb (w .kind) rust ≡ 
       → Leads b w (with-events (edition-of (book-frame w)) s d (reading reld (symbol-place bare) s .events)) (symbol-asked a (some (book-with w (d .lines) es)) s bare)
   unfolding symbol-asked reading reading-from
   symbol-leads bare d es g =
-      let c : Cursor = start reld (symbol-place bare) s in
+      let c : Cursor = start reld (symbol-place bare) in
       leads-cond (eqb (w .kind) export)
-      (λ _. leads-cond (ltb token-limit (length s)) (λ _. declined (λ h. omega arith)) (along (length s + 2 - c .at) c (start-marked reld (symbol-place bare) s) d es g))
+      (λ _. leads-cond (ltb token-limit (length s)) (λ _. declined (λ h. omega arith)) (along (length s + 2 - c .at) c (start-marked reld (symbol-place bare)) d es g))
       (declined (λ h. omega arith))

@@ -7,7 +7,7 @@ use Rattle.lists.specs.Same.{same}
 use Rattle.lists.specs.Texts.{codes}
 use Rattle.packing.specs.Padding.{all-zero, pad}
 use Rattle.packing.specs.Tables.{fine, packed, packs, rows, things}
-use Rattle.linker_script.specs.Finding.{first-in, first-from, last-in, last-close}
+use Rattle.linker_script.specs.Finding.{first-in, first-from}
 use Rattle.linker_script.specs.Skip.{blank, move, skip-past, skip}
 use Rattle.linker_script.specs.Trim.{white, trim-end}
 use Rattle.utf8.specs.Utf8.{scalar, character, none, when, tail, two, three, four, starts, read, chars, utf8}
@@ -16,7 +16,7 @@ use Rattle.pattern.specs.Patterns.{ended, first, somewhere, matches, adjacent-f
 use Rattle.pattern.specs.Storing.{stored-byte, negated-from, stored}
 use Rattle.classes.specs.Classes.{quoted, unquoted, lone-star, nonstar, scanned, scan, class-of}
 use Rattle.storing.specs.Keeping.{unescaped, unescape, keep-when, keep-glob, keep-as, inside-kept, keep}
-use Rattle.reading_tokens.specs.Tokens.{begins, named, name-in, to-semicolon, to-brace, extern-end, bare-extern-end, bare-end, bare-skip}
+use Rattle.reading_tokens.specs.Tokens.{begins, named, name-in, to-semicolon, to-brace, to-either, bare-extern-end, bare-end, bare-skip}
 use Rattle.reading_cursors.specs.Moves.{start}
 use Rattle.reading_matchers.specs.Matchers.{line-to, extern-open, extern-at, extern-inside, in-extern, in-bare, matcher, bare-line, bare-matcher}
 use Rattle.reading_bodies.specs.Bodies.{name-to, node-at, script-at, parent-to, parent-at, node-end, sole-end, inside-body, body-at, sole-at, list-at}
@@ -54,10 +54,10 @@ keeping = 0
 
 -- ---- the events of a text
 unfoldable pub reading-texts : ℕ
-unfolding first-in first-from last-in last-close
+unfolding first-in first-from
     blank move skip-past skip white trim-end
     start
-    begins named name-in to-semicolon to-brace extern-end bare-extern-end bare-end bare-skip
+    begins named name-in to-semicolon to-brace to-either bare-extern-end bare-end bare-skip
     line-to extern-open extern-at extern-inside in-extern in-bare matcher bare-line bare-matcher
     name-to node-at script-at parent-to parent-at node-end sole-end inside-body body-at sole-at list-at opening-at
     start-script go-node go-body go-sole go-list next-script next-list next-symbol next

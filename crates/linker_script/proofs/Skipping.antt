@@ -55,9 +55,9 @@ module _ (x : Edition) (s : List ℕ) (i : ℕ) (n : blank (getD s i 0) ≡ fals
   line-move k = rw (n, eq-eqb (getD s i 0) hash k)
 
   module _ (k : getD s i 0 ≡ hash → ⊥) where
-    comment-move : passes (are slash asterisk) s i ≡ true → move-at x s i ≡ past i 1 (comment-end x s i)
-    unfolding move first-from
-    comment-move c = rw (n, ne-eqb (getD s i 0) hash k, next-byte, c)
+    comment-move : i < length s → passes (are slash asterisk) s i ≡ true → move-at x s i ≡ past i 1 (comment-end x s i)
+    unfolding move
+    comment-move h c = rw (n, ne-eqb (getD s i 0) hash k, next-byte, c, drop-next s i h)
 
     stop-move : passes (are slash asterisk) s i ≡ false → move-at x s i ≡ stop
     unfolding move
@@ -73,6 +73,13 @@ pair-within s p q x y h e =
     let f = first-within (are x y) s p q e in
     let z = eqb-true (getD s (q + 1) 0) y (and-right (eqb (getD s q 0) x) (eqb (getD s (q + 1) 0) y) (f .holds)) in
     (f .onward, byte-within s (q + 1) (omega arith))
+
+pub comment-from : (x : Edition) (s : List ℕ) (p : ℕ) → comment-end x s p ≡ first-from (are asterisk slash) s (p + closes-after x)
+unfolding first-from
+comment-from x s p = rw drop-drop
+
+comment-within : (x : Edition) (s : List ℕ) (p q : ℕ) → comment-end x s p ≡ Here q → (p + closes-after x ≤ q) × (q + 1 < length s)
+comment-within x s p q e = pair-within s (p + closes-after x) q asterisk slash (omega arith) (sym (comment-from x s p) ∙ e)
 
 -- ---- the loop of `skip_comments_and_whitespace`: the skip from i on decides
 module _ (x : Edition) (s : List ℕ) (at i : ℕ) (inv : skip x s at ≡ skip x s i) where
@@ -104,16 +111,16 @@ module _ (x : Edition) (s : List ℕ) (at i : ℕ) (inv : skip x s at ≡ skip x
         module _ (o : not w ≡ false) (f : Found) (g : f ≡ comment-end x s i) where
           pub past-comment : (q : ℕ) → f ≡ Here q → skip x s at ≡ skip x s (q + 2)
           past-comment q m =
-              let r = pair-within s (i + closes-after x) q asterisk slash (omega arith) (sym g ∙ m) in
-              let a = comment-move x s i (sym e ∙ n) k (sym c ∙ not-false w o) in
+              let r = comment-within x s i q (sym g ∙ m) in
+              let a = comment-move x s i (sym e ∙ n) k h (sym c ∙ not-false w o) in
               inv ∙ skip-to x s i h (q + 1 - i) (q + 2) (a ∙ rw (← g, m)) (omega (arith, r .0)) (omega (arith, r .1))
 
           pub comment-opens : f ≡ Nowhere → Open i ≡ skip x s at
-          comment-opens m = sym (inv ∙ skip-step x s i h ∙ rw (comment-move x s i (sym e ∙ n) k (sym c ∙ not-false w o), ← g, m))
+          comment-opens m = sym (inv ∙ skip-step x s i h ∙ rw (comment-move x s i (sym e ∙ n) k h (sym c ∙ not-false w o), ← g, m))
 
--- the place behind what was found, from d bytes behind i on, fits, and lies behind i
-module _ (s : List ℕ) (i d q : ℕ) (f : Found) (m : f ≡ Here q) where
-  module _ (t : Test) (g : f ≡ first-from t s (i + d)) where
+-- the place behind what was found fits, and lies behind i
+module _ (s : List ℕ) (i q : ℕ) (f : Found) (m : f ≡ Here q) where
+  module _ (t : Test) (d : ℕ) (g : f ≡ first-from t s (i + d)) where
     line-found : First t s (i + d) q
     line-found = first-within t s (i + d) q (sym g ∙ m)
 
@@ -123,15 +130,15 @@ module _ (s : List ℕ) (i d q : ℕ) (f : Found) (m : f ≡ Here q) where
     pub line-less : 0 < d → length s - (q + 1) < length s - i
     line-less h = omega (arith, line-found .within, line-found .onward)
 
-  module _ (x : ℕ) (g : f ≡ first-from (are x slash) s (i + d)) where
-    comment-found : (i + d ≤ q) × (q + 1 < length s)
-    comment-found = pair-within s (i + d) q x slash (omega arith) (sym g ∙ m)
+  module _ (x : Edition) (g : f ≡ comment-end x s i) where
+    comment-found : (i + closes-after x ≤ q) × (q + 1 < length s)
+    comment-found = comment-within x s i q (sym g ∙ m)
 
     pub comment-fits : Fits w64 (length s) → Fits w64 (q + 2)
     comment-fits n = omega (arith, comment-found .1)
 
-    pub comment-less : 0 < d → length s - (q + 2) < length s - i
-    comment-less h = omega (arith, comment-found .0, comment-found .1)
+    pub comment-less : length s - (q + 2) < length s - i
+    comment-less = omega (arith, comment-found .0, comment-found .1)
 
 -- ---- where a skip ends
 -- at q stand neither a blank nor the first byte of a comment
@@ -165,7 +172,7 @@ module _ (x : Edition) (s : List ℕ) (p : ℕ) (h : p < length s) where
 
       step-comment : true ≡ passes (are slash asterisk) s p → (f : Found) → f ≡ comment-end x s p → Step x s p
       step-comment c (Here q) g =
-          let r = pair-within s (p + closes-after x) q asterisk slash (omega arith) (sym g) in
+          let r = comment-within x s p q (sym g) in
           goes (q + 2) (omega (arith, r .0)) (omega (arith, r .1)) (past-comment x s p p refl h false n refl other true c refl (Here q) g q refl)
       step-comment c Nowhere g = opens (sym (comment-opens x s p p refl h false n refl other true c refl Nowhere g refl))
 

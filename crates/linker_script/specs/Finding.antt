@@ -25,6 +25,11 @@ first-in t p (b ∷ l) = found (t b (getD l 0 0)) p (first-in t (p + 1) l)
 unfoldable pub first-from : Test → List ℕ → ℕ → Found
 first-from t s p = first-in t p (drop p s)
 
+-- whether there is one
+abbrev pub found-any : Found → Bool
+found-any (Here q) = true
+found-any Nowhere = false
+
 -- a byte, and two bytes side by side
 abbrev pub is : ℕ → Test
 is x b n = eqb b x

@@ -13,7 +13,7 @@ use Rattle.linker_script.specs.declared.Found.{Found}
 use Rattle.linker_script.specs.declared.Found.the-variants.{Here, Nowhere}
 use Rattle.linker_script.specs.declared.Skipped.{Skipped}
 use Rattle.linker_script.specs.declared.Skipped.the-variants.{At, Open}
-use Rattle.linker_script.specs.Finding.{first-in, first-from, is, are}
+use Rattle.linker_script.specs.Finding.{first-in, is, are}
 
 -- "spaces, tabs, CR, LF"
 unfoldable pub blank : ℕ → Bool
@@ -38,16 +38,19 @@ past p more Nowhere = open-comment
 abbrev pub closes-after : Edition → ℕ
 closes-after e = 1
 
--- "the first `*/` that starts at least one byte after the `/`", which stands at the place p of s
+-- "the first `*/` that starts at least one byte after the `/`": of the text l, which begins with that `/` at the place p; and in s, where it stands at p
+abbrev pub comment-in : Edition → ℕ → List ℕ → Found
+comment-in e p l = first-in (are asterisk slash) (p + closes-after e) (drop (closes-after e) l)
+
 abbrev pub comment-end : Edition → List ℕ → ℕ → Found
-comment-end e s p = first-from (are asterisk slash) s (p + closes-after e)
+comment-end e s p = comment-in e p (drop p s)
 
 -- at the byte b, which stands at the place p with the text l behind it
 unfoldable pub move : Edition → ℕ → ℕ → List ℕ → Move
 move e p b l =
     cond (blank b) (pass 0)
     (cond (eqb b hash) (past p 0 (first-in (is line-feed) (p + 1) l))
-    (cond (are slash asterisk b (getD l 0 0)) (past p 1 (first-in (are asterisk slash) (p + closes-after e) (drop (closes-after e - 1) l)))
+    (cond (are slash asterisk b (getD l 0 0)) (past p 1 (comment-in e p (b ∷ l)))
     stop))
 
 abbrev pub go : Move → ℕ → (ℕ → Skipped) → Skipped

@@ -17,7 +17,7 @@ use Rattle.linker_script.specs.declared.Skipped.the-variants.{At, Open}
 use Rattle.linker_script.specs.Finding.{Test, are, first-from, is}
 use Rattle.linker_script.specs.Skip.{blank, closes-after, comment-end, skip, skips}
 use Rattle.linker_script.proofs.Searches.{byte-within, first-here, first-on, first-within, passes}
-use Rattle.linker_script.proofs.Skipping.{skip-ends, past-blank, past-line, line-opens, stops, past-comment, comment-opens}
+use Rattle.linker_script.proofs.Skipping.{comment-from, skip-ends, past-blank, past-line, line-opens, stops, past-comment, comment-opens}
 use Rattle.reading_tokens.proofs.Ends.{and-both}
 use Rattle.reading.specs.Rules.{Byte, None, No-pair}
 
@@ -134,7 +134,7 @@ module _ (x : Edition) (s : List ℕ) (p : ℕ) where
 
     pub skip-comment-opens : No-pair asterisk slash s (p + closes-after x) → skip x s p ≡ Open p
     skip-comment-opens g =
-        let n = pair-nowhere asterisk slash s (p + closes-after x) g in
+        let n = comment-from x s p ∙ pair-nowhere asterisk slash s (p + closes-after x) g in
         sym (comment-opens x s p p refl slash-within false (slash-blank s p e) refl no-hash true opens refl Nowhere (sym n) refl)
 
   pub skip-stays : skips s p ≡ false → skip x s p ≡ At p
@@ -180,9 +180,9 @@ module _ (x : Edition) (s : List ℕ) (p : ℕ) where
 
   turn-comment : Byte slash s p → Byte asterisk s (p + 1) → (f : Found) → comment-end x s p ≡ f → Turn x s p
   turn-comment j k (Here q) e =
-      let f = first-within (are asterisk slash) s (p + closes-after x) q e in
+      let f = first-within (are asterisk slash) s (p + closes-after x) q (sym (comment-from x s p) ∙ e) in
       at-comment {q = q} (omega (arith, f .onward)) (f .within) j k e
-  turn-comment j k Nowhere e = in-comment j k (nowhere-pair asterisk slash s (p + closes-after x) (omega arith) e)
+  turn-comment j k Nowhere e = in-comment j k (nowhere-pair asterisk slash s (p + closes-after x) (omega arith) (sym (comment-from x s p) ∙ e))
 
   pub turn : Turn x s p
   turn = go (blank (getD s p 0)) refl

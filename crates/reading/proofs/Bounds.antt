@@ -12,11 +12,11 @@ use Rattle.numbers.specs.Refusals.{unclosed, unreadable, bad-extern}
 use Rattle.numbers.specs.Signs.{closing-brace, semicolon}
 use Rattle.linker_script.specs.declared.Found.{Found}
 use Rattle.linker_script.specs.declared.Found.the-variants.{Here, Nowhere}
-use Rattle.linker_script.specs.Finding.{Test, first-from, is}
+use Rattle.linker_script.specs.Finding.{Test, closes, first-from, found-any, is}
 use Rattle.linker_script.proofs.Searches.{byte-within, first-within}
 use Rattle.reading_tokens.specs.declared.TokenEnd.{TokenEnd}
 use Rattle.reading_tokens.specs.declared.TokenEnd.the-variants.{To, Refused}
-use Rattle.reading_tokens.specs.Tokens.{begins, stands-at, named, longer, name-in, name-end, end-at, to-semicolon, to-brace, brace-before, extern-end, bare-extern-end, bare-end, bare-skip}
+use Rattle.reading_tokens.specs.Tokens.{begins, stands-at, named, longer, name-in, name-end, end-at, to-semicolon, to-brace, brace-next, to-either, bare-extern-end, bare-end, bare-skip}
 use Rattle.reading_matchers.specs.Matchers.{past-semicolon}
 
 -- ---- bytes and words
@@ -94,13 +94,13 @@ module _ (x : Edition) (s : List ℕ) (p : ℕ) where
   unfolding to-brace
   brace-ends = ends-found s p (is closing-brace) unclosed refl (first-from (is closing-brace) s p) refl
 
-  pub extern-ends : (last : ℕ) → Ends s p (extern-end x last s p)
-  unfolding extern-end
-  extern-ends last = ends-cond s p (ltb p last) (ends-cond s p (brace-before s p (first-from (is semicolon) s p)) brace-ends semicolon-ends) brace-ends
+  pub either-ends : Ends s p (to-either x s p)
+  unfolding to-either
+  either-ends = ends-cond s p (brace-next x s p) brace-ends semicolon-ends
 
-  pub bare-extern-ends : (last : ℕ) → Ends s p (bare-extern-end x last s p)
+  pub bare-extern-ends : Ends s p (bare-extern-end x s p)
   unfolding bare-extern-end
-  bare-extern-ends last = ends-cond s p (ltb p last) (extern-ends last) semicolon-ends
+  bare-extern-ends = ends-cond s p (found-any (first-from closes s p)) either-ends semicolon-ends
 
 pub bare-skip-within : (x : Edition) (s : List ℕ) → bare-skip x s ≤ length s
 unfolding bare-skip

@@ -4,7 +4,7 @@
 use Prim.Native.Nat.{ℕ, zero, suc, _+_, _<_, _≤_}
 use mathlib.Core.Path.{_≡_, refl, sym, _∙_}
 use mathlib.Core.List.{List, [], _∷_}
-use mathlib.Core.Bool.{Bool, true, false, cond, true≢false}
+use mathlib.Core.Bool.{Bool, true, false, cond, _&&_, true≢false}
 use native.Mathlib.Decide.{decLt}
 use native.Mathlib.Omega.{arith}
 use borrow.Author.Tests.{eq-eqb, ne-eqb, eqb-true, le-ltb}
@@ -14,15 +14,13 @@ use Rattle.numbers.specs.declared.Edition.{Edition}
 use Rattle.numbers.specs.Limits.{script-limit, token-limit}
 use Rattle.numbers.specs.Refusals.{unreadable, unclosed, bad-extern}
 use Rattle.numbers.specs.Signs.{closing-brace, opening-brace, semicolon}
-use Rattle.linker_script.specs.declared.Found.{Found}
-use Rattle.linker_script.specs.declared.Found.the-variants.{Here, Nowhere}
 use Rattle.linker_script.specs.declared.Skipped.the-variants.{At, Open}
-use Rattle.linker_script.specs.Finding.{closes, first-from}
+use Rattle.linker_script.specs.Finding.{closes, first-from, found-any}
 use Rattle.linker_script.proofs.Searches.{drop-next}
 use Rattle.reading_tokens.specs.declared.TokenEnd.{TokenEnd}
 use Rattle.reading_tokens.specs.declared.TokenEnd.the-variants as no
-use Rattle.reading_tokens.specs.Tokens.{begins, stands-at, named, longer, name-in, name-end, to-semicolon, to-brace, to-either, extern-end, bare-extern-end, bare-end, bare-skip}
-use Rattle.reading_tokens.proofs.Ends.{and-both, bare-either, bare-extern-01}
+use Rattle.reading_tokens.specs.Tokens.{begins, stands-at, named, longer, name-in, name-end, to-semicolon, to-brace, brace-next, to-either, bare-extern-end, bare-end, bare-skip}
+use Rattle.reading_tokens.proofs.Ends.{and-both}
 use Rattle.reading_cursors.specs.declared.Cursor.{Cursor}
 use Rattle.reading_cursors.specs.declared.Event.{Event}
 use Rattle.reading_cursors.specs.declared.Event.the-variants.{Body, Extern, Closed}
@@ -33,10 +31,9 @@ use Rattle.reading_matchers.specs.Matchers.{extern-word, cxx-word, c-word, clos
 use Rattle.reading_cursors.specs.Places.{in-body, in-body-extern, in-sole, in-sole-extern, in-list, in-list-extern, in-symbol-extern, in-bare-extern, behind-symbol}
 use Rattle.reading_bodies.specs.Bodies.{global-word, local-word, name-to, node-at, script-at, parent-to, parent-at, node-end, sole-end, inside-body, body-at, sole-at, list-at}
 use Rattle.reading.specs.Scripts.{opening-at, start-script, go-node, go-body, go-sole, go-list, next-script, next-list, next-symbol, next}
-use Rattle.reading.specs.Rules.{Byte, None, Word, No-word, Name-byte, Token, plain-token, extern-token, bare-token, bare-extern-token, to-closing, Rule, skip-to, script-start, node, opening, body, parent, last-semicolon, end, matchers, matcher, block, token, no-more, Due, due-script, due-node, due-opening, due-body, due-body-block, due-sole, due-sole-block, due-list, due-matchers, due-list-block, due-symbol, due-symbol-block, due-bare, due-bare-block, Over, script, list, symbol, bare, Comes, starts, past-blank, past-line, past-comment, skipped, to-nodes, behind-body, of-body, behind-semicolon, behind-list, of-list, behind-cxx, behind-c, behind-block, of-matcher, of-block, all-text}
+use Rattle.reading.specs.Rules.{Byte, None, Word, No-word, Name-byte, Token, plain-token, extern-token, bare-token, bare-extern-token, to-closing, Rule, skip-to, script-start, node, opening, body, parent, last-semicolon, end, matchers, matcher, block, token, no-more, Due, due-script, due-node, due-opening, due-body, due-body-block, due-sole, due-sole-block, due-list, due-matchers, due-list-block, due-symbol, due-symbol-block, due-bare, due-bare-block, due-at, Over, script, list, symbol, bare, Comes, starts, past-blank, past-line, past-comment, skipped, to-nodes, behind-body, of-body, behind-semicolon, behind-list, of-list, behind-cxx, behind-c, behind-block, of-matcher, of-block, all-text}
 use Rattle.reading.specs.Refusing.{Unreadable, no-name, no-opening, no-parent-end, no-semicolon, bytes-remain, no-token-end, empty-to-semicolon, empty-to-closing, Unclosed, line, comment, no-brace-left, Bad-extern, language, within-extern}
 use Rattle.reading.proofs.Absence.{none-nowhere, stands-first, pair-nowhere, skip-blank, skip-line, skip-line-opens, skip-comment, skip-comment-opens, skip-stays}
-use Rattle.reading.proofs.Onward.{Standing, standing-ends}
 
 -- ---- words
 -- what stands of a word at its places
@@ -96,18 +93,14 @@ usual bare-extern-token = true
 abbrev pub token-end : Edition → Token → List ℕ → ℕ → TokenEnd
 token-end x k s p = cond (to-closing x k s p) (to-brace x s p) (to-semicolon x s p)
 
-module _ (s : List ℕ) (c : Cursor) (g : Standing s c) (p : ℕ) where
-  extern-end-said : extern-end (edition-at c) (c .last) s p ≡ token-end (edition-at c) extern-token s p
-  unfolding to-either
-  extern-end-said = standing-ends s c g p
+-- so it says of one in a block without semicolon, in its own words
+two-tests : (t u : Bool) (a b : TokenEnd) → cond t (cond u a b) b ≡ cond (t && u) a b
+two-tests true u a b = refl
+two-tests false u a b = refl
 
-  bare-extern-end-said : bare-extern-end (edition-at c) (c .last) s p ≡ token-end (edition-at c) bare-extern-token s p
-  unfolding to-either
-  bare-extern-end-said = rw (g .last) (bare-extern-01 (edition-at c) s p ∙ go (first-from closes s p) refl)
-    where
-      go : (f : Found) → first-from closes s p ≡ f → bare-either (edition-at c) s p (first-from closes s p) ≡ token-end (edition-at c) bare-extern-token s p
-      go (Here q) e = rw (e, to-either, e)
-      go Nowhere e = rw e
+bare-end-said : (x : Edition) (s : List ℕ) (p : ℕ) → bare-extern-end x s p ≡ token-end x bare-extern-token s p
+unfolding bare-extern-end to-either
+bare-end-said x s p = two-tests (found-any (first-from closes s p)) (brace-next x s p) (to-brace x s p) (to-semicolon x s p)
 
 -- ---- what is left of a step that has come to a rule at a place
 pub data Rest (s : List ℕ) (c : Cursor) : Rule → ℕ → Step → Type 0 where
@@ -151,9 +144,6 @@ module _ (s : List ℕ) (c : Cursor) where
 
   now-left : {r : Rule} {p : ℕ} (t : Step) → next s c ≡ t → Rest s c r p t → Left s c r p
   now-left t e x = record { step = t; same = e; rest = x }
-
-  same-place : {r : Rule} {t : Step} (p q : ℕ) → q ≡ p → Rest s c r p t → Rest s c r q t
-  same-place p q e x = rw e x
 
   from : {r : Rule} {p : ℕ} {A : Type 0} → Left s c r p → ((t : Step) → next s c ≡ t → Rest s c r p t → A) → A
   from l f = f (l .step) (l .same) (l .rest)
@@ -234,91 +224,90 @@ module _ (s : List ℕ) (c : Cursor) where
       matched : ℕ → Event
       matched place = line-of c s 0 (length s)
 
-  module _ (g : Standing s c) where
-    -- where it starts
-    at-body-rest : (p : ℕ) → Rest s c (body parent) p (body-at c s p)
-    unfolding body-at node-end
-    at-body-rest p = body-rest in-body-extern (skip-rest (λ q. parent-at (in-section c 0) s q) (λ q. parent-rest (in-section c 0)))
+  -- where it starts
+  at-body-rest : (p : ℕ) → Rest s c (body parent) p (body-at c s p)
+  unfolding body-at node-end
+  at-body-rest p = body-rest in-body-extern (skip-rest (λ q. parent-at (in-section c 0) s q) (λ q. parent-rest (in-section c 0)))
 
-    at-sole-rest : (p : ℕ) → Rest s c (body last-semicolon) p (sole-at c s p)
-    unfolding sole-at sole-end
-    at-sole-rest p =
-        body-rest in-sole-extern
-        (skip-rest (λ q. expecting semicolon s q (λ r. skipping c s r (λ e. ending s e))) (λ q. semicolon-rest))
+  at-sole-rest : (p : ℕ) → Rest s c (body last-semicolon) p (sole-at c s p)
+  unfolding sole-at sole-end
+  at-sole-rest p =
+      body-rest in-sole-extern
+      (skip-rest (λ q. expecting semicolon s q (λ r. skipping c s r (λ e. ending s e))) (λ q. semicolon-rest))
 
-    at-opening-rest : (place : ℕ) → Rest s c (skip-to opening) (c .at) (opening-at c s place)
-    unfolding opening-at
-    at-opening-rest place =
-        skip-rest (λ p. expecting opening-brace s p (λ q. Go Body (moved c place q))) (λ p. opening-rest Body (λ q. moved c place q))
+  at-opening-rest : (place : ℕ) → Rest s c (skip-to opening) (c .at) (opening-at c s place)
+  unfolding opening-at
+  at-opening-rest place =
+      skip-rest (λ p. expecting opening-brace s p (λ q. Go Body (moved c place q))) (λ p. opening-rest Body (λ q. moved c place q))
 
-    at-block-rest : (place : ℕ) → Rest s c (skip-to (block extern-token)) (c .at) (in-extern c s place)
-    unfolding in-extern
-    at-block-rest place =
-        skip-rest {r = block extern-token}
-        (λ p. extern-inside c s place p (extern-end (edition-at c) (c .last) s p))
-        (λ p. rw (extern-end-said s c g p) (block-rest place refl))
+  at-block-rest : (place : ℕ) → Rest s c (skip-to (block extern-token)) (c .at) (in-extern c s place)
+  unfolding in-extern to-either
+  at-block-rest place =
+      skip-rest {r = block extern-token}
+      (λ p. extern-inside c s place p (to-either (edition-at c) s p))
+      (λ p. block-rest place refl)
 
-    at-bare-block-rest : (place : ℕ) → Rest s c (skip-to (block bare-extern-token)) (c .at) (in-bare c s place)
-    unfolding in-bare
-    at-bare-block-rest place =
-        skip-rest {r = block bare-extern-token}
-        (λ p. extern-inside c s place p (bare-extern-end (edition-at c) (c .last) s p))
-        (λ p. rw (bare-extern-end-said s c g p) (block-rest place refl))
+  at-bare-block-rest : (place : ℕ) → Rest s c (skip-to (block bare-extern-token)) (c .at) (in-bare c s place)
+  unfolding in-bare
+  at-bare-block-rest place =
+      skip-rest {r = block bare-extern-token}
+      (λ p. extern-inside c s place p (bare-extern-end (edition-at c) s p))
+      (λ p. rw (bare-end-said (edition-at c) s p) (block-rest place refl))
 
-    at-bare-rest : (inner place : ℕ) → c .at ≡ 0 → Rest s c (matcher bare-token) (c .at) (bare-matcher c s inner place)
-    unfolding bare-matcher
-    at-bare-rest inner place z = same-place 0 (c .at) z (matcher-rest inner (bare-rest place refl))
+  at-bare-rest : (inner place : ℕ) → Rest s c (matcher bare-token) 0 (bare-matcher c s inner place)
+  unfolding bare-matcher
+  at-bare-rest inner place = matcher-rest inner (bare-rest place refl)
 
-    in-limit : (limit : ℕ) → (limit < length s → ⊥) → ltb limit (length s) ≡ false
-    in-limit limit h = le-ltb limit (length s) (omega arith)
+  in-limit : (limit : ℕ) → (limit < length s → ⊥) → ltb limit (length s) ≡ false
+  in-limit limit h = le-ltb limit (length s) (omega arith)
 
-    pub due-left : {r : Rule} (n : ℕ) → c .place ≡ n → (Over s n → ⊥) → Due n r → Left s c r (c .at)
-    unfolding next next-script next-list next-symbol start-script go-node go-body go-sole go-list
-    due-left n z o due-script =
-        now-left
-        (skipping c s (c .at) (λ p. script-at c s p))
-        (rw (z, in-limit script-limit (λ h. o (script h))))
-        (skip-rest (λ p. script-at c s p) (λ p. script-rest))
-    due-left n z o due-node = now-left (go-node s c) (rw z) (skip-rest (λ p. node-at c s p) (λ p. node-rest))
-    due-left n z o due-opening = now-left (opening-at c s in-body) (rw z) (at-opening-rest in-body)
-    due-left n z o due-body = now-left (go-body s c) (rw z) (skip-rest (λ p. body-at c s p) at-body-rest)
-    due-left n z o due-body-block = now-left (in-extern c s in-body) (rw z) (at-block-rest in-body)
-    due-left n z o due-sole = now-left (go-sole s c) (rw z) (skip-rest (λ p. sole-at c s p) at-sole-rest)
-    due-left n z o due-sole-block = now-left (in-extern c s in-sole) (rw z) (at-block-rest in-sole)
-    due-left n z o due-list = now-left (opening-at c s in-list) (rw (z, in-limit script-limit (λ h. o (list h)))) (at-opening-rest in-list)
-    due-left n z o due-matchers = now-left (go-list s c) (rw z) (skip-rest (λ p. list-at c s p) (λ p. list-rest))
-    due-left n z o due-list-block = now-left (in-extern c s in-list) (rw z) (at-block-rest in-list)
-    due-left n z o due-symbol =
-        now-left
-        (matcher-at c s in-symbol-extern behind-symbol 0)
-        (rw (z, in-limit token-limit (λ h. o (symbol h))))
-        (same-place 0 (c .at) (g .fresh (rw z)) (plain-rest in-symbol-extern behind-symbol 0))
-    due-left n z o due-symbol-block = now-left (in-extern c s behind-symbol) (rw z) (at-block-rest behind-symbol)
-    due-left n z o due-bare =
-        now-left
-        (bare-matcher c s in-bare-extern behind-symbol)
-        (rw (z, in-limit token-limit (λ h. o (bare h))))
-        (at-bare-rest in-bare-extern behind-symbol (g .fresh (rw z)))
-    due-left n z o due-bare-block = now-left (in-bare c s behind-symbol) (rw z) (at-bare-block-rest behind-symbol)
+  pub due-left : {r : Rule} (n : ℕ) → c .place ≡ n → (Over s n → ⊥) → Due n r → Left s c r (due-at n (c .at))
+  unfolding next next-script next-list next-symbol start-script go-node go-body go-sole go-list
+  due-left n z o due-script =
+      now-left
+      (skipping c s (c .at) (λ p. script-at c s p))
+      (rw (z, in-limit script-limit (λ h. o (script h))))
+      (skip-rest (λ p. script-at c s p) (λ p. script-rest))
+  due-left n z o due-node = now-left (go-node s c) (rw z) (skip-rest (λ p. node-at c s p) (λ p. node-rest))
+  due-left n z o due-opening = now-left (opening-at c s in-body) (rw z) (at-opening-rest in-body)
+  due-left n z o due-body = now-left (go-body s c) (rw z) (skip-rest (λ p. body-at c s p) at-body-rest)
+  due-left n z o due-body-block = now-left (in-extern c s in-body) (rw z) (at-block-rest in-body)
+  due-left n z o due-sole = now-left (go-sole s c) (rw z) (skip-rest (λ p. sole-at c s p) at-sole-rest)
+  due-left n z o due-sole-block = now-left (in-extern c s in-sole) (rw z) (at-block-rest in-sole)
+  due-left n z o due-list = now-left (opening-at c s in-list) (rw (z, in-limit script-limit (λ h. o (list h)))) (at-opening-rest in-list)
+  due-left n z o due-matchers = now-left (go-list s c) (rw z) (skip-rest (λ p. list-at c s p) (λ p. list-rest))
+  due-left n z o due-list-block = now-left (in-extern c s in-list) (rw z) (at-block-rest in-list)
+  due-left n z o due-symbol =
+      now-left
+      (matcher-at c s in-symbol-extern behind-symbol 0)
+      (rw (z, in-limit token-limit (λ h. o (symbol h))))
+      (plain-rest in-symbol-extern behind-symbol 0)
+  due-left n z o due-symbol-block = now-left (in-extern c s behind-symbol) (rw z) (at-block-rest behind-symbol)
+  due-left n z o due-bare =
+      now-left
+      (bare-matcher c s in-bare-extern behind-symbol)
+      (rw (z, in-limit token-limit (λ h. o (bare h))))
+      (at-bare-rest in-bare-extern behind-symbol)
+  due-left n z o due-bare-block = now-left (in-bare c s behind-symbol) (rw z) (at-bare-block-rest behind-symbol)
 
-    comes-left : {r : Rule} {p : ℕ} → Comes s c r p → Left s c r p
-    comes-left (starts o d) = due-left (c .place) refl o d
-    comes-left (past-blank {p = p} h e) = from (comes-left h) (skip-moves p (p + 1) (skip-blank (edition-at c) s p e))
-    comes-left (past-line {p = p} {q = q} h e f) = from (comes-left h) (skip-moves p (q + 1) (skip-line (edition-at c) s p e q f))
-    comes-left (past-comment {p = p} {q = q} h e f k) = from (comes-left h) (skip-moves p (q + 2) (skip-comment (edition-at c) s p e f q k))
-    comes-left (skipped {p = p} h e) = from (comes-left h) (skip-done p (skip-stays (edition-at c) s p e))
-    comes-left (to-nodes {p = p} h n) = from (comes-left h) (nodes-left p n)
-    comes-left (behind-body {p = p} h e) = from (comes-left h) (body-left p e)
-    comes-left (of-body {p = p} h n a b) = from (comes-left h) (in-body-left p n a b)
-    comes-left (behind-semicolon {p = p} h e) = from (comes-left h) (semicolon-left p e)
-    comes-left (behind-list {p = p} h e) = from (comes-left h) (list-left p e)
-    comes-left (of-list {p = p} h e) = from (comes-left h) (in-list-left p e)
-    comes-left (behind-cxx {p = p} h e f) = from (comes-left h) (cxx-left p e f)
-    comes-left (behind-c {p = p} h e f) = from (comes-left h) (c-left p e f)
-    comes-left (behind-block {p = p} h e) = from (comes-left h) (block-left p e)
-    comes-left (of-matcher {p = p} h e) = from (comes-left h) (matcher-left p e)
-    comes-left (of-block {p = p} h e f) = from (comes-left h) (in-block-left p e f)
-    comes-left (all-text {p = p} h n) = from (comes-left h) (all-left p n)
+  comes-left : {r : Rule} {p : ℕ} → Comes s c r p → Left s c r p
+  comes-left (starts o d) = due-left (c .place) refl o d
+  comes-left (past-blank {p = p} h e) = from (comes-left h) (skip-moves p (p + 1) (skip-blank (edition-at c) s p e))
+  comes-left (past-line {p = p} {q = q} h e f) = from (comes-left h) (skip-moves p (q + 1) (skip-line (edition-at c) s p e q f))
+  comes-left (past-comment {p = p} {q = q} h e f k) = from (comes-left h) (skip-moves p (q + 2) (skip-comment (edition-at c) s p e f q k))
+  comes-left (skipped {p = p} h e) = from (comes-left h) (skip-done p (skip-stays (edition-at c) s p e))
+  comes-left (to-nodes {p = p} h n) = from (comes-left h) (nodes-left p n)
+  comes-left (behind-body {p = p} h e) = from (comes-left h) (body-left p e)
+  comes-left (of-body {p = p} h n a b) = from (comes-left h) (in-body-left p n a b)
+  comes-left (behind-semicolon {p = p} h e) = from (comes-left h) (semicolon-left p e)
+  comes-left (behind-list {p = p} h e) = from (comes-left h) (list-left p e)
+  comes-left (of-list {p = p} h e) = from (comes-left h) (in-list-left p e)
+  comes-left (behind-cxx {p = p} h e f) = from (comes-left h) (cxx-left p e f)
+  comes-left (behind-c {p = p} h e f) = from (comes-left h) (c-left p e f)
+  comes-left (behind-block {p = p} h e) = from (comes-left h) (block-left p e)
+  comes-left (of-matcher {p = p} h e) = from (comes-left h) (matcher-left p e)
+  comes-left (of-block {p = p} h e f) = from (comes-left h) (in-block-left p e f)
+  comes-left (all-text {p = p} h n) = from (comes-left h) (all-left p n)
 
   -- ---- and refuses where it is said to refuse
   module _ (p : ℕ) where
@@ -375,22 +364,22 @@ module _ (s : List ℕ) (c : Cursor) where
     brace-refuses n t z (token-rest place u) =
         z ∙ rw (pair-nowhere closing-brace semicolon s p (λ q l b _. n q l b), none-nowhere closing-brace s p n)
 
-  module _ (g : Standing s c) (p : ℕ) where
+  module _ (p : ℕ) where
     pub unreadable-refuses : Unreadable s c p → next s c ≡ Refused unreadable p
-    unreadable-refuses (no-name h n m) = from (comes-left g h) (name-refuses p n m)
-    unreadable-refuses (no-opening h n) = from (comes-left g h) (opening-refuses p n)
-    unreadable-refuses (no-parent-end h n) = from (comes-left g h) (parent-refuses p n)
-    unreadable-refuses (no-semicolon h n) = from (comes-left g h) (semicolon-refuses p n)
-    unreadable-refuses (bytes-remain h n) = from (comes-left g h) (end-refuses p n)
-    unreadable-refuses (no-token-end h e n) = from (comes-left g h) (no-end-refuses p e n)
-    unreadable-refuses (empty-to-semicolon h e b) = from (comes-left g h) (empty-refuses p e b)
-    unreadable-refuses (empty-to-closing h e b) = from (comes-left g h) (closing-refuses p e b)
+    unreadable-refuses (no-name h n m) = from (comes-left h) (name-refuses p n m)
+    unreadable-refuses (no-opening h n) = from (comes-left h) (opening-refuses p n)
+    unreadable-refuses (no-parent-end h n) = from (comes-left h) (parent-refuses p n)
+    unreadable-refuses (no-semicolon h n) = from (comes-left h) (semicolon-refuses p n)
+    unreadable-refuses (bytes-remain h n) = from (comes-left h) (end-refuses p n)
+    unreadable-refuses (no-token-end h e n) = from (comes-left h) (no-end-refuses p e n)
+    unreadable-refuses (empty-to-semicolon h e b) = from (comes-left h) (empty-refuses p e b)
+    unreadable-refuses (empty-to-closing h e b) = from (comes-left h) (closing-refuses p e b)
 
     pub unclosed-refuses : Unclosed s c p → next s c ≡ Refused unclosed p
-    unclosed-refuses (line h e n) = from (comes-left g h) (skip-refuses p (skip-line-opens (edition-at c) s p e n))
-    unclosed-refuses (comment h e f n) = from (comes-left g h) (skip-refuses p (skip-comment-opens (edition-at c) s p e f n))
-    unclosed-refuses (no-brace-left h n) = from (comes-left g h) (brace-refuses p n)
+    unclosed-refuses (line h e n) = from (comes-left h) (skip-refuses p (skip-line-opens (edition-at c) s p e n))
+    unclosed-refuses (comment h e f n) = from (comes-left h) (skip-refuses p (skip-comment-opens (edition-at c) s p e f n))
+    unclosed-refuses (no-brace-left h n) = from (comes-left h) (brace-refuses p n)
 
     pub bad-extern-refuses : Bad-extern s c p → next s c ≡ Refused bad-extern p
-    bad-extern-refuses (language h e a b) = from (comes-left g h) (language-refuses p e a b)
-    bad-extern-refuses (within-extern h e) = from (comes-left g h) (within-refuses p e)
+    bad-extern-refuses (language h e a b) = from (comes-left h) (language-refuses p e a b)
+    bad-extern-refuses (within-extern h e) = from (comes-left h) (within-refuses p e)

@@ -1,6 +1,6 @@
 -- A step of a reading refuses exactly where specs/Refusing.antt says, with that number and at that place (`refuses-exactly`): so for each of the numbers 2, 3
 -- and 4 (`unreadable-exactly`, `unclosed-exactly`, `bad-extern-exactly`; for 1, `too-long-exactly` of proofs/Refusals.antt), and of a whole reading
--- (`reading-exactly`). What is asked of a cursor, `Standing`, holds at the start of a reading and behind each of its events (proofs/Onward.antt).
+-- (`reading-exactly`). A step may start at any cursor: nothing is asked of it.
 -- Assumes nothing.
 use Prim.Native.Nat.{ℕ, zero, suc, _+_, _-_, _<_, _≤_}
 use mathlib.Core.Path.{_≡_, refl, sym, _∙_}
@@ -36,7 +36,8 @@ use Rattle.reading.specs.Rules.{Byte, Token, plain-token, extern-token, 
 use Rattle.reading.specs.Refusing.{Unreadable, no-name, no-opening, no-parent-end, no-semicolon, bytes-remain, no-token-end, empty-to-semicolon, empty-to-closing, Unclosed, line, comment, no-brace-left, Bad-extern, language, within-extern, Refusing, one, two, three, four, Reaches, first, after, Refused-reading}
 use Rattle.reading.specs.Events.{refused, on-step, reading-from, reading}
 use Rattle.reading.proofs.Absence.{nowhere-none, pair-found, skip-blank, skip-line, skip-line-opens, skip-comment, skip-comment-opens, skip-stays, semicolon-stays, closing-stays, Turn, stays, at-blank, at-line, at-comment, in-line, in-comment, turn}
-use Rattle.reading.proofs.Onward.{Standing, start-stands, next-stands, next-onward, reading-step}
+use Rattle.reading.specs.Standing.{Standing}
+use Rattle.reading.proofs.Onward.{start-stands, next-stands, next-onward, reading-step}
 use Rattle.reading.proofs.Refusals.{too-long-exactly}
 use Rattle.reading.proofs.Coming.{name-goes, usual, token-end, Rest, skip-rest, script-rest, node-rest, opening-rest, body-rest, parent-rest, semicolon-rest, end-rest, list-rest, matcher-rest, block-rest, token-rest, bare-rest, no-more-rest, due-left, unreadable-refuses, unclosed-refuses, bad-extern-refuses}
 
@@ -254,7 +255,7 @@ placed n =
             let z : m ≡ n = omega arith in
             due (rw z at d)
 
-module _ (s : List ℕ) (c : Cursor) (g : Standing s c) where
+module _ (s : List ℕ) (c : Cursor) where
   nothing-read : 13 < c .place → next s c ≡ End
   unfolding next next-symbol
   nothing-read h =
@@ -274,7 +275,7 @@ module _ (s : List ℕ) (c : Cursor) (g : Standing s c) where
     other : (n ≡ too-long → ⊥) → next s c ≡ Refused n p → Placed (c .place) → Refusing s c n p
     other h e (due d) =
         let o : Over s (c .place) → ⊥ = λ o. (let z : n ≡ too-long = cc (too-long-exactly s c .1 o) in h z) in
-        let l = due-left s c g (c .place) refl o d in
+        let l = due-left s c (c .place) refl o d in
         let x : Says s c (next s c) = rw (l .same) (rest-says s c (l .rest) (starts o d)) in
         said (rw e at x)
     other h e (past k) =
@@ -294,9 +295,9 @@ module _ (s : List ℕ) (c : Cursor) (g : Standing s c) where
 
   refuses-so : {n p : ℕ} → Refusing s c n p → next s c ≡ Refused n p
   refuses-so (one o) = too-long-exactly s c .1 o
-  refuses-so (two {p = p} u) = unreadable-refuses s c g p u
-  refuses-so (three {p = p} u) = unclosed-refuses s c g p u
-  refuses-so (four {p = p} u) = bad-extern-refuses s c g p u
+  refuses-so (two {p = p} u) = unreadable-refuses s c p u
+  refuses-so (three {p = p} u) = unclosed-refuses s c p u
+  refuses-so (four {p = p} u) = bad-extern-refuses s c p u
 
   pub refuses-exactly : (n p : ℕ) → (next s c ≡ Refused n p → Refusing s c n p) × (Refusing s c n p → next s c ≡ Refused n p)
   refuses-exactly n p = (refuses-only n p, refuses-so)
@@ -307,19 +308,19 @@ module _ (s : List ℕ) (c : Cursor) (g : Standing s c) where
 
   module _ (p : ℕ) where
     pub unreadable-exactly : (next s c ≡ Refused unreadable p → Unreadable s c p) × (Unreadable s c p → next s c ≡ Refused unreadable p)
-    unreadable-exactly = (λ e. go (refuses-only unreadable p e), unreadable-refuses s c g p)
+    unreadable-exactly = (λ e. go (refuses-only unreadable p e), unreadable-refuses s c p)
       where
         go : Refusing s c unreadable p → Unreadable s c p
         go (two u) = u
 
     pub unclosed-exactly : (next s c ≡ Refused unclosed p → Unclosed s c p) × (Unclosed s c p → next s c ≡ Refused unclosed p)
-    unclosed-exactly = (λ e. go (refuses-only unclosed p e), unclosed-refuses s c g p)
+    unclosed-exactly = (λ e. go (refuses-only unclosed p e), unclosed-refuses s c p)
       where
         go : Refusing s c unclosed p → Unclosed s c p
         go (three u) = u
 
     pub bad-extern-exactly : (next s c ≡ Refused bad-extern p → Bad-extern s c p) × (Bad-extern s c p → next s c ≡ Refused bad-extern p)
-    bad-extern-exactly = (λ e. go (refuses-only bad-extern p e), bad-extern-refuses s c g p)
+    bad-extern-exactly = (λ e. go (refuses-only bad-extern p e), bad-extern-refuses s c p)
       where
         go : Refusing s c bad-extern p → Bad-extern s c p
         go (four u) = u
@@ -341,7 +342,7 @@ module _ (edition place : ℕ) (s : List ℕ) (n p : ℕ) where
   refused-so : Refused-reading edition place s n p → reading edition place s .outcome ≡ refused n p
   refused-so x =
       let g = reached-stands (x .reached) in
-      let h = refuses-so s (x .cursor) g (x .refusing) in
+      let h = refuses-so s (x .cursor) (x .refusing) in
       reached-same (x .reached) ∙ rw (reading-step s (x .cursor) g, h)
 
   -- with at most m events to come
@@ -362,11 +363,11 @@ module _ (edition place : ℕ) (s : List ℕ) (n p : ℕ) where
       go (Refused a b) z k more =
           let x : a ≡ n = cc in
           let y : b ≡ p = cc in
-          record { cursor = c; reached = r; refusing = refuses-only s c (reached-stands r) n p (rw (x, y) at z) }
+          record { cursor = c; reached = r; refusing = refuses-only s c n p (rw (x, y) at z) }
 
   refused-only : reading edition place s .outcome ≡ refused n p → Refused-reading edition place s n p
   unfolding reading
-  refused-only h = refused-in (length s + 2) (start edition place s) (omega arith) first h
+  refused-only h = refused-in (length s + 2) (start edition place) (omega arith) first h
 
   pub reading-exactly : (reading edition place s .outcome ≡ refused n p → Refused-reading edition place s n p)
       × (Refused-reading edition place s n p → reading edition place s .outcome ≡ refused n p)

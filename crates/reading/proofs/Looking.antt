@@ -19,8 +19,8 @@ use Rattle.linker_script.specs.declared.Found.the-variants.{Here, Nowhere}
 use Rattle.linker_script.specs.Finding.{Test, first-from, is, last-close}
 use Rattle.linker_script.proofs.Searches.{First, first-within, last-close-none}
 use Rattle.reading_tokens.specs.declared.TokenEnd.the-variants.{To, Refused}
-use Rattle.reading_tokens.specs.Tokens.{end-at, to-semicolon, to-brace, brace-before, extern-end}
-use Rattle.reading_tokens.proofs.Ends.{and-both}
+use Rattle.reading_tokens.specs.Tokens.{end-at, to-semicolon, to-brace, to-either}
+use Rattle.reading_tokens.proofs.Ends.{and-both, brace-before, either-left}
 use Rattle.reading.specs.Rules.{Byte}
 use Rattle.reading.proofs.Absence.{nowhere-in, nowhere-pair, stands-first}
 
@@ -57,7 +57,7 @@ end-found p n r Nowhere e =
 -- the token ends at r, and the search for `;` at q
 pub data Looked (x : Edition) (s : List ℕ) (q r : ℕ) : Type 0 where
   near : q ≤ r + 1 → Looked x s q r
-  at-last : extern-end x (last-close s) s r ≡ Refused unreadable → Looked x s q r
+  at-last : to-either x s r ≡ Refused unreadable → Looked x s q r
 
 -- a `};` is left from p on, so the first `;` from there is looked for
 module _ (x : Edition) (s : List ℕ) (p q r : ℕ) (h : p < last-close s) (e : first-from (is semicolon) s p ≡ Here q) where
@@ -72,7 +72,7 @@ module _ (x : Edition) (s : List ℕ) (p q r : ℕ) (h : p < last-close s) (e : 
       near (omega arith)
 
   ends-at-brace : brace-before s p (Here q) ≡ true → to-brace x s p ≡ To r → Looked x s q r
-  unfolding to-brace extern-end
+  unfolding to-brace
   ends-at-brace b k = go (decLe q (r + 1))
     where
       brace : (first-from (is closing-brace) s p ≡ Here r) × (p < r)
@@ -99,14 +99,13 @@ module _ (x : Edition) (s : List ℕ) (p q r : ℕ) (h : p < last-close s) (e : 
       go (yes l) = near l
       go (no l) =
           let m : r < q = omega arith in
-          let a = lt-ltb r (last-close s) (left (omega arith)) in
           let f = first-later (is semicolon) s p q r found (omega (arith, brace .1)) (omega arith) in
           let b = eq-eqb (getD s (q - 1) 0) closing-brace before in
-          at-last (rw (a, f, lt-ltb r q m, b, stands-first closing-brace s r (omega arith) here, le-ltb r r (omega arith)))
+          at-last (either-left x s r (left (omega arith)) (Here q) f
+          ∙ rw (lt-ltb r q m, b, stands-first closing-brace s r (omega arith) here, le-ltb r r (omega arith)))
 
-  pub semicolon-near : extern-end x (last-close s) s p ≡ To r → Looked x s q r
-  unfolding extern-end
-  semicolon-near k = go (brace-before s p (Here q)) refl (rw (lt-ltb p (last-close s) h, e) at k)
+  pub semicolon-near : to-either x s p ≡ To r → Looked x s q r
+  semicolon-near k = go (brace-before s p (Here q)) refl (sym (either-left x s p h (Here q) e) ∙ k)
     where
       go : (v : Bool) → brace-before s p (Here q) ≡ v → cond v (to-brace x s p) (to-semicolon x s p) ≡ To r → Looked x s q r
       go true b x = ends-at-brace b x

@@ -1,25 +1,21 @@
 -- Each event moves on in the text (`next-onward`), so the bound on the number of events never cuts a reading off: a reading is its first step and the reading
--- from there (`reading-step`). What that asks of a cursor, `Standing`, holds at the start and behind each event.
+-- from there (`reading-step`). What that asks of a cursor, `Standing` (specs/Standing.antt), holds at the start and behind each event.
 -- Assumes nothing.
 use Prim.Native.Nat.{ℕ, zero, suc, _+_, _-_, _<_, _≤_}
 use mathlib.Core.Path.{_≡_, refl, sym, _∙_}
 use mathlib.Core.List.{List}
-use mathlib.Core.Bool.{false, true≢false}
+use mathlib.Core.Bool.{true≢false}
 use native.Mathlib.Omega.{arith}
-use lib.Dec.{eqb}
 use lib.ListN.{length}
-use Rattle.linker_script.specs.Finding.{last-close}
-use Rattle.reading_tokens.specs.Tokens.{to-either, extern-end}
-use Rattle.reading_tokens.proofs.Ends.{extern-end-01}
 use Rattle.reading_cursors.specs.declared.Cursor.{Cursor}
 use Rattle.reading_cursors.specs.declared.Event.{Event}
 use Rattle.reading_cursors.specs.declared.Step.{Step}
 use Rattle.reading_cursors.specs.declared.Step.the-variants.{Go, End, Refused}
-use Rattle.reading_cursors.specs.Moves.{edition-at, start}
-use Rattle.reading_cursors.specs.Places.{behind-symbol}
+use Rattle.reading_cursors.specs.Moves.{start}
 use Rattle.reading.specs.Scripts.{next}
 use Rattle.reading.specs.Events.{Reading, on-step, reading-within, reading-from, reading}
-use Rattle.reading.proofs.Steps.{Fresh, Onward, Fits, goes, next-fits}
+use Rattle.reading.specs.Standing.{Fresh, Standing}
+use Rattle.reading.proofs.Steps.{Onward, Fits, goes, next-fits}
 
 pub next-onward : (s : List ℕ) (c d : Cursor) (e : Event) → Fresh c → next s c ≡ Go e d → Onward s c d
 next-onward s c d e f h = go (rw h at (next-fits s c))
@@ -28,24 +24,14 @@ next-onward s c d e f h = go (rw h at (next-fits s c))
     go (goes k) = k f
 
 -- ---- the cursors of a reading of s
-pub record Standing (s : List ℕ) (c : Cursor) : Type 0 where
-  pub fresh : Fresh c
-  pub within : c .at ≤ length s + 1
-  pub last : c .last ≡ last-close s
-  pub inside : eqb (c .place) behind-symbol ≡ false → c .at ≤ length s
-
-pub start-stands : (edition place : ℕ) (s : List ℕ) → Standing s (start edition place s)
+pub start-stands : (edition place : ℕ) (s : List ℕ) → Standing s (start edition place)
 unfolding start
-start-stands edition place s = record { fresh = λ _. refl; within = omega arith; last = refl; inside = λ _. omega arith }
+start-stands edition place s = record { fresh = λ _. refl; within = omega arith; inside = λ _. omega arith }
 
 pub next-stands : (s : List ℕ) (c d : Cursor) (e : Event) → Standing s c → next s c ≡ Go e d → Standing s d
 next-stands s c d e k h =
     let o = next-onward s c d e (k .fresh) h in
-    record { fresh = λ b. absurd (true≢false (sym b ∙ o .begun)); within = o .within; last = o .same ∙ k .last; inside = o .inside }
-
--- so a token of an extern block ends there as 01 says
-pub standing-ends : (s : List ℕ) (c : Cursor) → Standing s c → (p : ℕ) → extern-end (edition-at c) (c .last) s p ≡ to-either (edition-at c) s p
-standing-ends s c k p = rw (k .last) (extern-end-01 (edition-at c) s p)
+    record { fresh = λ b. absurd (true≢false (sym b ∙ o .begun)); within = o .within; inside = o .inside }
 
 -- ---- the bound
 same-step : (t : Step) (f g : Cursor → Reading) → ((e : Event) (d : Cursor) → t ≡ Go e d → f d ≡ g d) → on-step t f ≡ on-step t g
@@ -79,6 +65,6 @@ module _ (s : List ℕ) where
       let z : length s + 2 - c .at ≡ suc n = omega (arith, k .within) in
       rw z (turn n c k (λ d. reading-from s d) (λ d j l. same-within n (length s + 2 - d .at) d j (omega arith) (omega arith)))
 
-  pub reading-starts : (edition place : ℕ) → reading edition place s ≡ on-step (next s (start edition place s)) (λ d. reading-from s d)
+  pub reading-starts : (edition place : ℕ) → reading edition place s ≡ on-step (next s (start edition place)) (λ d. reading-from s d)
   unfolding reading
-  reading-starts edition place = reading-step (start edition place s) (start-stands edition place s)
+  reading-starts edition place = reading-step (start edition place) (start-stands edition place s)

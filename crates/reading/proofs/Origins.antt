@@ -21,7 +21,7 @@ use Rattle.linker_script.proofs.Skipping.{Stopped, skip-stops}
 use Rattle.reading_tokens.specs.declared.TokenEnd.{TokenEnd}
 use Rattle.reading_tokens.specs.declared.TokenEnd.the-variants.{To}
 use Rattle.reading_tokens.specs.declared.TokenEnd.the-variants as token
-use Rattle.reading_tokens.specs.Tokens.{stands-at, named, longer, name-in, name-end, to-semicolon, extern-end}
+use Rattle.reading_tokens.specs.Tokens.{stands-at, named, longer, name-in, name-end, to-semicolon, to-either}
 use Rattle.reading_cursors.specs.declared.Cursor.{Cursor}
 use Rattle.reading_cursors.specs.declared.Event.{Event}
 use Rattle.reading_cursors.specs.declared.Event.the-variants.{Node, Body, Section, Extern, Closed, Line, Parent}
@@ -132,7 +132,7 @@ module _ (s : List ℕ) (c : Cursor) where
 
       in-extern-comes : Comes s c (in-extern c s place)
       unfolding in-extern
-      in-extern-comes = on-skipping (c .at) (λ p _. extern-inside-comes p (extern-end (edition-at c) (c .last) s p))
+      in-extern-comes = on-skipping (c .at) (λ p _. extern-inside-comes p (to-either (edition-at c) s p))
 
   module _ (h : block-place (c .place) ≡ false) where
     matcher-comes : (inner place p : ℕ) → block-place inner ≡ true → Near c inner → block-place place ≡ false → Near c place

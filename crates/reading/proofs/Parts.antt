@@ -21,7 +21,7 @@ use Rattle.linker_script.proofs.Trimming.{trim-few}
 use Rattle.reading_tokens.specs.declared.TokenEnd.{TokenEnd}
 use Rattle.reading_tokens.specs.declared.TokenEnd.the-variants.{To}
 use Rattle.reading_tokens.specs.declared.TokenEnd.the-variants as token
-use Rattle.reading_tokens.specs.Tokens.{stands-at, name-end, to-semicolon, extern-end, bare-extern-end, bare-end, trimmed}
+use Rattle.reading_tokens.specs.Tokens.{stands-at, name-end, to-semicolon, to-either, bare-extern-end, bare-end, trimmed}
 use Rattle.reading_cursors.specs.declared.Cursor.{Cursor}
 use Rattle.reading_cursors.specs.declared.Event.{Event}
 use Rattle.reading_cursors.specs.declared.Event.the-variants.{Node, Body, Section, Extern, Closed, Line, Parent}
@@ -32,7 +32,7 @@ use Rattle.reading_matchers.specs.Matchers.{extern-word, cxx-word, c-word, clos
 use Rattle.reading_cursors.specs.Places.{at-script, at-node, at-body, in-body, in-body-extern, in-sole, in-sole-extern, at-list, in-list, in-list-extern, at-symbol, in-symbol-extern, at-bare, in-bare-extern, behind-symbol}
 use Rattle.reading_bodies.specs.Bodies.{global-word, local-word, name-to, node-at, script-at, parent-to, parent-at, node-end, sole-end, inside-body, body-at, sole-at, list-at}
 use Rattle.reading.specs.Scripts.{opening-at, within, start-script, go-node, go-body, go-sole, go-list, next-script, next-list, next-symbol, next}
-use Rattle.reading.proofs.Bounds.{name-within, Ends, ends, refuses, semicolon-ends, extern-ends, bare-extern-ends}
+use Rattle.reading.proofs.Bounds.{name-within, Ends, ends, refuses, semicolon-ends, either-ends, bare-extern-ends}
 
 -- a section and a language
 pub record Marks (k l : ℕ) : Type 0 where
@@ -109,11 +109,11 @@ module _ (s : List ℕ) where
 
     in-extern-keeps : (place : ℕ) → Keeps s (in-extern c s place)
     unfolding in-extern
-    in-extern-keeps place = on-skipping c (c .at) (λ p. extern-inside-keeps place p (extern-end (edition-at c) (c .last) s p) (extern-ends (edition-at c) s p (c .last)))
+    in-extern-keeps place = on-skipping c (c .at) (λ p. extern-inside-keeps place p (to-either (edition-at c) s p) (either-ends (edition-at c) s p))
 
     in-bare-keeps : (place : ℕ) → Keeps s (in-bare c s place)
     unfolding in-bare
-    in-bare-keeps place = on-skipping c (c .at) (λ p. extern-inside-keeps place p (bare-extern-end (edition-at c) (c .last) s p) (bare-extern-ends (edition-at c) s p (c .last)))
+    in-bare-keeps place = on-skipping c (c .at) (λ p. extern-inside-keeps place p (bare-extern-end (edition-at c) s p) (bare-extern-ends (edition-at c) s p))
 
     matcher-keeps : (inner place p : ℕ) → Keeps s (matcher c s inner place p)
     unfolding matcher
@@ -232,6 +232,6 @@ module _ (s : List ℕ) where
         go : Keeps s (Go e d) → Parts s e × Marked d
         go (goes p k) = (p, k)
 
-pub start-marked : (edition place : ℕ) (s : List ℕ) → Marked (start edition place s)
+pub start-marked : (edition place : ℕ) → Marked (start edition place)
 unfolding start
-start-marked edition place s = record { section = omega arith; language = omega arith }
+start-marked edition place = record { section = omega arith; language = omega arith }

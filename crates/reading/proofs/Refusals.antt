@@ -19,9 +19,9 @@ use Rattle.reading_cursors.specs.Places.{behind-symbol}
 use Rattle.reading.specs.Scripts.{start-script, next-script, next-list, next-symbol, next}
 use Rattle.reading.specs.Events.{refused, on-step, reading-within, reading-from, reading}
 use Rattle.reading.specs.Rules.{Over, script, list, symbol, bare}
+use Rattle.reading.specs.Standing.{Standing}
 use Rattle.reading.proofs.Bounds.{of-grammar}
 use Rattle.reading.proofs.Steps.{Refusal, long, grammar, Fits, refused as refuses, next-fits}
-use Rattle.reading.proofs.Onward.{Standing}
 
 -- 1, 2, 3 or 4
 abbrev pub of-reader : ℕ → Bool
@@ -78,7 +78,7 @@ module _ (s : List ℕ) (n p : ℕ) where
 
   pub reading-refuses : (edition place : ℕ) → reading edition place s .outcome ≡ refused n p → of-reader n ≡ true
   unfolding reading reading-from
-  reading-refuses edition place h = within-refuses (length s + 2 - start edition place s .at) (start edition place s) h
+  reading-refuses edition place h = within-refuses (length s + 2 - start edition place .at) (start edition place) h
 
 -- ---- a refusal, at a cursor of a reading
 small : (n : ℕ) → of-reader n ≡ true → n ≤ 4

@@ -5,7 +5,7 @@
 use Prim.Native.Nat.{ℕ, _+_, _<_, _≤_}
 use mathlib.Core.Path.{_≡_, refl}
 use mathlib.Core.List.{List}
-use mathlib.Core.Bool.{Bool, true, false, cond, _||_, true≢false}
+use mathlib.Core.Bool.{Bool, true, false, cond, true≢false}
 use native.Mathlib.Omega.{arith}
 use borrow.Author.Tests.{eqb-true, ne-eqb, ltb-true}
 use lib.Dec.{eqb, ltb}
@@ -24,7 +24,7 @@ use Rattle.linker_script.proofs.Unclosed.{unclosed-within}
 use Rattle.reading_tokens.specs.declared.TokenEnd.{TokenEnd}
 use Rattle.reading_tokens.specs.declared.TokenEnd.the-variants.{To}
 use Rattle.reading_tokens.specs.declared.TokenEnd.the-variants as token
-use Rattle.reading_tokens.specs.Tokens.{stands-at, name-end, to-semicolon, extern-end, bare-extern-end, bare-end, bare-skip}
+use Rattle.reading_tokens.specs.Tokens.{stands-at, name-end, to-semicolon, to-either, bare-extern-end, bare-end, bare-skip}
 use Rattle.reading_cursors.specs.declared.Cursor.{Cursor}
 use Rattle.reading_cursors.specs.declared.Event.{Event}
 use Rattle.reading_cursors.specs.declared.Step.{Step}
@@ -34,22 +34,15 @@ use Rattle.reading_matchers.specs.Matchers.{extern-word, cxx-word, c-word, clos
 use Rattle.reading_cursors.specs.Places.{at-script, at-node, at-body, in-body, in-body-extern, in-sole, in-sole-extern, at-list, in-list, in-list-extern, at-symbol, in-symbol-extern, at-bare, in-bare-extern, behind-symbol}
 use Rattle.reading_bodies.specs.Bodies.{global-word, local-word, name-to, node-at, script-at, parent-to, parent-at, node-end, sole-end, inside-body, body-at, sole-at, list-at}
 use Rattle.reading.specs.Scripts.{opening-at, within, start-script, go-node, go-body, go-sole, go-list, next-script, next-list, next-symbol, next}
-use Rattle.reading.specs.Rules.{Over, script, list, symbol, bare}
-use Rattle.reading.proofs.Bounds.{byte-stands, word-stands, name-within, Past, past-semicolon-within, of-grammar, Ends, ends, refuses, semicolon-ends, extern-ends, bare-extern-ends, bare-skip-within, bare-refuses}
+use Rattle.reading.specs.Rules.{symbol-start, Over, script, list, symbol, bare}
+use Rattle.reading.specs.Standing.{Fresh}
+use Rattle.reading.proofs.Bounds.{byte-stands, word-stands, name-within, Past, past-semicolon-within, of-grammar, Ends, ends, refuses, semicolon-ends, either-ends, bare-extern-ends, bare-skip-within, bare-refuses}
 
 -- ---- what a step keeps to
--- a text of `add_symbol` is read from its first byte, wherever the cursor stands
-abbrev pub symbol-start : ℕ → Bool
-symbol-start place = eqb place at-symbol || eqb place at-bare
-
-abbrev pub Fresh : Cursor → Type 0
-Fresh c = symbol-start (c .place) ≡ true → c .at ≡ 0
-
 -- from c to d
 pub record Onward (s : List ℕ) (c d : Cursor) : Type 0 where
   pub onward : c .at < d .at
   pub within : d .at ≤ length s + 1
-  pub same : d .last ≡ c .last
   pub begun : symbol-start (d .place) ≡ false
   -- past the text it stands only where nothing more is read
   pub inside : eqb (d .place) behind-symbol ≡ false → d .at ≤ length s
@@ -83,9 +76,9 @@ module _ (s : List ℕ) (c : Cursor) where
   refuse : (n p : ℕ) → of-grammar n ≡ true → Reached s c p → Fits s c (Refused n p)
   refuse n p h r = refused (grammar h (r .inside))
 
-  go-on : {e : Event} {d : Cursor} (p : ℕ) → Reached s c p → p < d .at → d .at ≤ length s → d .last ≡ c .last → symbol-start (d .place) ≡ false
+  go-on : {e : Event} {d : Cursor} (p : ℕ) → Reached s c p → p < d .at → d .at ≤ length s → symbol-start (d .place) ≡ false
       → Fits s c (Go e d)
-  go-on {d = d} p r h k l b = goes {d = d} (λ f. record { onward = omega (arith, r .ahead f); within = omega arith; same = l; begun = b; inside = λ _. k })
+  go-on {d = d} p r h k b = goes {d = d} (λ f. record { onward = omega (arith, r .ahead f); within = omega arith; begun = b; inside = λ _. k })
 
   on-cond : (t : Bool) {a b : Step} → (t ≡ true → Fits s c a) → (t ≡ false → Fits s c b) → Fits s c (cond t a b)
   on-cond true f g = f refl
@@ -117,13 +110,13 @@ module _ (s : List ℕ) (c : Cursor) where
     line-to-fits (To q) (ends h k) =
         on-skipping q (further p q r (omega arith) (λ _. omega arith)) (λ x w _.
         let y = past-semicolon-within s x in
-        go-on p r (omega (arith, w .onward, y .onward)) (y .within (w .within (omega arith))) refl b)
+        go-on p r (omega (arith, w .onward, y .onward)) (y .within (w .within (omega arith))) b)
     line-to-fits (token.Refused n) (refuses h) = refuse n p h r
 
     extern-open-fits : (language : ℕ) → Fits s c (extern-open c s place language p)
     unfolding extern-open
     extern-open-fits language =
-        on-skipping p r (λ q _ t. on-expecting opening-brace q (omega arith) t (λ h. go-on q t (omega arith) (omega arith) refl b))
+        on-skipping p r (λ q _ t. on-expecting opening-brace q (omega arith) t (λ h. go-on q t (omega arith) (omega arith) b))
 
   -- behind a word of n bytes
   behind : (p n : ℕ) → Reached s c p → p + n ≤ length s → Reached s c (p + n)
@@ -149,18 +142,18 @@ module _ (s : List ℕ) (c : Cursor) where
         on-cond (stands-at close-word s p)
         (λ k.
         let n = word-stands close-word s p (omega arith) k in
-        on-skipping (p + 2) (behind p 2 r n) (λ q w t. go-on p r (omega (arith, w .onward)) (w .within n) refl b))
+        on-skipping (p + 2) (behind p 2 r n) (λ q w t. go-on p r (omega (arith, w .onward)) (w .within n) b))
         (λ _. on-cond (stands-at extern-word s p) (λ _. refuse bad-extern p refl r)
         (λ _. line-to-fits (c .place) p i r e h))
 
   module _ (place : ℕ) (b : symbol-start place ≡ false) (i : symbol-start (c .place) ≡ false) where
     in-extern-fits : Fits s c (in-extern c s place)
     unfolding in-extern
-    in-extern-fits = on-skipping (c .at) here (λ p _ r. extern-inside-fits place p b r i (extern-end (edition-at c) (c .last) s p) (extern-ends (edition-at c) s p (c .last)))
+    in-extern-fits = on-skipping (c .at) here (λ p _ r. extern-inside-fits place p b r i (to-either (edition-at c) s p) (either-ends (edition-at c) s p))
 
     in-bare-fits : Fits s c (in-bare c s place)
     unfolding in-bare
-    in-bare-fits = on-skipping (c .at) here (λ p _ r. extern-inside-fits place p b r i (bare-extern-end (edition-at c) (c .last) s p) (bare-extern-ends (edition-at c) s p (c .last)))
+    in-bare-fits = on-skipping (c .at) here (λ p _ r. extern-inside-fits place p b r i (bare-extern-end (edition-at c) s p) (bare-extern-ends (edition-at c) s p))
 
   module _ (inner place : ℕ) (a : symbol-start inner ≡ false) (b : symbol-start place ≡ false) where
     matcher-fits : (p : ℕ) → Reached s c p → Fits s c (matcher c s inner place p)
@@ -178,7 +171,6 @@ module _ (s : List ℕ) (c : Cursor) where
           goes (λ f. record {
             onward = omega (arith, r .ahead f);
             within = omega arith;
-            same = refl;
             begun = b;
             inside = λ h. absurd (true≢false (rw z at h));
           }))
@@ -194,7 +186,7 @@ module _ (s : List ℕ) (c : Cursor) where
     unfolding name-to
     name-to-fits q h =
         on-cond (ltb p q)
-        (λ e. let l = ltb-true p q e in go-on p r l (h l) refl refl)
+        (λ e. let l = ltb-true p q e in go-on p r l (h l) refl)
         (λ _. refuse unreadable p refl r)
 
     node-at-fits : Fits s c (node-at c s p)
@@ -205,20 +197,20 @@ module _ (s : List ℕ) (c : Cursor) where
     unfolding script-at
     script-at-fits =
         on-cond (eqb (getD s p 0) opening-brace)
-        (λ e. go-on p r (omega arith) (omega (arith, byte-stands s p opening-brace (omega arith) e)) refl refl)
+        (λ e. go-on p r (omega arith) (omega (arith, byte-stands s p opening-brace (omega arith) e)) refl)
         (λ _. node-at-fits)
 
-    parent-to-fits : (d : Cursor) → d .last ≡ c .last → (f : Found) → first-from (is semicolon) s p ≡ f → Fits s c (parent-to d p f)
+    parent-to-fits : (d : Cursor) → (f : Found) → first-from (is semicolon) s p ≡ f → Fits s c (parent-to d p f)
     unfolding parent-to
-    parent-to-fits d l (Here q) e =
+    parent-to-fits d (Here q) e =
         let h = first-within (is semicolon) s p q e in
-        go-on p r (omega (arith, h .onward)) (omega (arith, h .within)) l refl
-    parent-to-fits d l Nowhere e = refuse unreadable p refl r
+        go-on p r (omega (arith, h .onward)) (omega (arith, h .within)) refl
+    parent-to-fits d Nowhere e = refuse unreadable p refl r
 
   module _ (p : ℕ) (r : Reached s c p) where
     node-end-fits : Fits s c (node-end c s p)
     unfolding node-end parent-at
-    node-end-fits = on-skipping p r (λ q _ t. parent-to-fits q t (in-section c 0) refl (first-from (is semicolon) s q) refl)
+    node-end-fits = on-skipping p r (λ q _ t. parent-to-fits q t (in-section c 0) (first-from (is semicolon) s q) refl)
 
     sole-end-fits : Fits s c (sole-end c s p)
     unfolding sole-end
@@ -229,15 +221,15 @@ module _ (s : List ℕ) (c : Cursor) where
   opening-at-fits : (place : ℕ) → symbol-start place ≡ false → Fits s c (opening-at c s place)
   unfolding opening-at
   opening-at-fits place b =
-      on-skipping (c .at) here (λ p _ r. on-expecting opening-brace p (omega arith) r (λ h. go-on p r (omega arith) (omega arith) refl b))
+      on-skipping (c .at) here (λ p _ r. on-expecting opening-brace p (omega arith) r (λ h. go-on p r (omega arith) (omega arith) b))
 
   -- ---- bodies and lists
   module _ (i : symbol-start (c .place) ≡ false) (p : ℕ) (r : Reached s c p) where
     inside-body-fits : (inner : ℕ) → symbol-start inner ≡ false → Fits s c (inside-body c s inner p)
     unfolding inside-body
     inside-body-fits inner a =
-        on-cond (stands-at global-word s p) (λ e. go-on p r (omega arith) (word-stands global-word s p (omega arith) e) refl i)
-        (λ _. on-cond (stands-at local-word s p) (λ e. go-on p r (omega arith) (word-stands local-word s p (omega arith) e) refl i)
+        on-cond (stands-at global-word s p) (λ e. go-on p r (omega arith) (word-stands global-word s p (omega arith) e) i)
+        (λ _. on-cond (stands-at local-word s p) (λ e. go-on p r (omega arith) (word-stands local-word s p (omega arith) e) i)
         (λ _. matcher-fits inner (c .place) a i p r))
 
     -- at a `}`, and else

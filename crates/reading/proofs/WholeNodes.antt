@@ -30,7 +30,8 @@ use Rattle.reading_cursors.specs.Places.{at-script, at-node, at-body, in-body}
 use Rattle.reading_bodies.specs.Bodies.{name-to, node-at, script-at, parent-to, parent-at, node-end, body-at}
 use Rattle.reading.specs.Scripts.{opening-at, start-script, go-node, go-body, next-script, next}
 use Rattle.reading.specs.Events.{Reading, accepted, and-then, ends, reading, reading-from}
-use Rattle.reading.proofs.Onward.{Standing, next-stands, reading-step, start-stands}
+use Rattle.reading.specs.Standing.{Standing}
+use Rattle.reading.proofs.Onward.{next-stands, reading-step, start-stands}
 
 -- ---- a skip stops where it takes nothing
 skip-stays : (e : Edition) (p : ℕ) (l : List ℕ) → skips l 0 ≡ false → skip-past e 0 p l ≡ At p
@@ -193,7 +194,7 @@ module _ (free : ℕ → Bool) (none : (b : ℕ) → free b ≡ true → eqb b s
   pub script-reads : length s ≤ script-limit → Stands-at 0 → Whole s (reading reld at-script s) 0 t u
   unfolding reading start
   script-reads h e =
-      let c : Cursor = start reld at-script s in
+      let c : Cursor = start reld at-script in
       node-from c (start-stands reld at-script s) (node-first s c refl h (unskipped 0 e) (first-byte-named e)) e
 
 -- ---- the end, behind a node

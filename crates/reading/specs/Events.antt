@@ -41,4 +41,4 @@ reading-from s c = reading-within (length s + 2 - c .at) s c
 
 -- the text s from a place of the grammar on, in the edition with that number
 unfoldable pub reading : ℕ → ℕ → List ℕ → Reading
-reading edition place s = reading-from s (start edition place s)
+reading edition place s = reading-from s (start edition place)

@@ -65,6 +65,7 @@ pub record Braces : Type 0 where
 -- a token goes to its `;`, comments too
 pub record Remaining : Type 0 where
   pub comment : gives (Line 0 0 15 4 ∷ Line 0 0 22 4 ∷ []) (as-script "{ extern \"C\" { f /* ; */ g }; };")
+  pub before : gives (Line 0 0 15 1 ∷ Line 0 0 18 1 ∷ []) (as-script "{ extern \"C\" { f; g }; };")
   pub outer : refuses 2 17 (as-script "{ extern \"C\" { f } };")
   pub in-body : gives (Line 0 0 2 7 ∷ []) (as-script "{ f /*c*/; };")
 

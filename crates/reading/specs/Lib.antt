@@ -2,4 +2,5 @@ pub mod Scripts
 pub mod Events
 pub mod KnownReadings
 pub mod Rules
+pub mod Standing
 pub mod Refusing

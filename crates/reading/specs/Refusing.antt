@@ -1,6 +1,6 @@
 -- When a step of a reading refuses, and with which number: the first four of 01's 'Numbers that say no', each with 01's words above the ways in which it
 -- arises. Each way tells the rule that is read at the place p (specs/Rules.antt), and what of it the text lacks there. proofs/Exactly.antt proves that `next`
--- refuses so and only so.
+-- refuses so and only so: at every cursor, also one that no reading gives; and a whole reading at the cursor that it has come to.
 -- Assumes nothing.
 use Prim.Native.Nat.{ℕ, _+_}
 use mathlib.Core.Path.{_≡_}
@@ -61,7 +61,7 @@ pub data Refusing (s : List ℕ) (c : Cursor) : ℕ → ℕ → Type 0 where
 
 -- ---- a whole reading of s, in an edition, from a place of the grammar on: the cursors that it comes to, and the one at which it is refused
 pub data Reaches (edition place : ℕ) (s : List ℕ) : Cursor → Type 0 where
-  first : Reaches edition place s (start edition place s)
+  first : Reaches edition place s (start edition place)
   after : {c d : Cursor} {e : Event} → Reaches edition place s c → next s c ≡ Go e d → Reaches edition place s d
 
 pub record Refused-reading (edition place : ℕ) (s : List ℕ) (n p : ℕ) : Type 0 where

@@ -3,14 +3,14 @@
 use Prim.Native.Nat.{ℕ, _+_, _<_, _≤_}
 use mathlib.Core.Path.{_≡_}
 use mathlib.Core.List.{List, _++_}
-use mathlib.Core.Bool.{Bool, true, false, _&&_}
+use mathlib.Core.Bool.{Bool, true, false, cond, _&&_, _||_}
+use lib.Dec.{eqb}
 use lib.ListN.{length, getD}
 use Rattle.numbers.specs.declared.Edition.{Edition}
 use Rattle.numbers.specs.Limits.{script-limit, token-limit}
 use Rattle.numbers.specs.Signs.{asterisk, closing-brace, hash, line-feed, opening-brace, semicolon, slash}
-use Rattle.linker_script.specs.declared.Found.{Found}
-use Rattle.linker_script.specs.declared.Found.the-variants.{Here, Nowhere}
-use Rattle.linker_script.specs.Finding.{closes, first-from, is}
+use Rattle.linker_script.specs.declared.Found.the-variants.{Here}
+use Rattle.linker_script.specs.Finding.{closes, first-from, found-any, is}
 use Rattle.linker_script.specs.Parts.{behind}
 use Rattle.linker_script.specs.Skip.{blank, comment-end, skips}
 use Rattle.reading_tokens.specs.Tokens.{brace-next, named, stands-at}
@@ -51,11 +51,6 @@ pub data Token : Type 0 where
   extern-token : Token
   bare-token : Token
   bare-extern-token : Token
-
--- whether something was found
-abbrev pub found-any : Found → Bool
-found-any (Here q) = true
-found-any Nowhere = false
 
 -- whether the token at p goes to `}`, else to `;`: "when the remaining text has no `};`, or has one with no `;` before it"; "An extern block there differs in
 -- one point: with no `};` left, tokens go to `;`."
@@ -104,6 +99,13 @@ pub data Due : ℕ → Rule → Type 0 where
   due-bare : Due at-bare (matcher bare-token)
   due-bare-block : Due in-bare-extern (skip-to (block bare-extern-token))
 
+-- where it is due, at such a place of the grammar and the place p of the text: a text of `add_symbol` is read from its first byte, wherever the cursor stands
+abbrev pub symbol-start : ℕ → Bool
+symbol-start place = eqb place at-symbol || eqb place at-bare
+
+abbrev pub due-at : ℕ → ℕ → ℕ
+due-at place p = cond (symbol-start place) 0 p
+
 -- "script, text … over its limit", at the places where a reading starts: of such a text nothing is read
 pub data Over (s : List ℕ) : ℕ → Type 0 where
   script : script-limit < length s → Over s at-script
@@ -113,7 +115,7 @@ pub data Over (s : List ℕ) : ℕ → Type 0 where
 
 -- ---- the step from c comes to the place p, and is to read a rule there
 pub data Comes (s : List ℕ) (c : Cursor) : Rule → ℕ → Type 0 where
-  starts : {r : Rule} → (Over s (c .place) → ⊥) → Due (c .place) r → Comes s c r (c .at)
+  starts : {r : Rule} → (Over s (c .place) → ⊥) → Due (c .place) r → Comes s c r (due-at (c .place) (c .at))
   -- "Skip: spaces, tabs, CR, LF; `#` up to LF, …; `/*` up to the first `*/` that starts at least one byte after the `/`."
   past-blank : {r : Rule} {p : ℕ} → Comes s c (skip-to r) p → blank (getD s p 0) ≡ true → Comes s c (skip-to r) (p + 1)
   past-line : {r : Rule} {p q : ℕ} → Comes s c (skip-to r) p → Byte hash s p → first-from (is line-feed) s (p + 1) ≡ Here q

@@ -1,5 +1,6 @@
 // Scripts, export lists and texts of `add_symbol`: the step of a reading at each of its places.
 ghost use mathlib.Core.Path.{_≡_};
+ghost use Rattle.linker_script.specs.Finding.{last-close};
 ghost use Rattle.reading.specs.Scripts.{opening-at, start-script, go-node, go-body, go-sole, go-list, next-script, next-list, next-symbol, next};
 use linker_script::Skipped;
 use linker_script::byte_at;
@@ -107,7 +108,8 @@ fn go_list(c: Cursor, s: &[u8]) -> Step
 }
 
 // The places of a version script.
-fn next_script(s: &[u8], c: Cursor) -> Step
+fn next_script(s: &[u8], last: usize, c: Cursor) -> Step
+    requires { ⌜ last ≡ last-close (now s) ⌝ }
     ensures { λ r. ⌜ r ≡ next-script (now (s .entry)) c ⌝ }
 {
     let place = c.place;
@@ -124,16 +126,17 @@ fn next_script(s: &[u8], c: Cursor) -> Step
         return go_body(c, s);
     }
     if place == IN_BODY_EXTERN {
-        return in_extern(c, s, IN_BODY);
+        return in_extern(c, last, s, IN_BODY);
     }
     if place == IN_SOLE {
         return go_sole(c, s);
     }
-    in_extern(c, s, IN_SOLE)
+    in_extern(c, last, s, IN_SOLE)
 }
 
 // Those of an export list.
-fn next_list(s: &[u8], c: Cursor) -> Step
+fn next_list(s: &[u8], last: usize, c: Cursor) -> Step
+    requires { ⌜ last ≡ last-close (now s) ⌝ }
     ensures { λ r. ⌜ r ≡ next-list (now (s .entry)) c ⌝ }
 {
     let place = c.place;
@@ -146,11 +149,12 @@ fn next_list(s: &[u8], c: Cursor) -> Step
     if place == IN_LIST {
         return go_list(c, s);
     }
-    in_extern(c, s, IN_LIST)
+    in_extern(c, last, s, IN_LIST)
 }
 
 // Those of a text of `add_symbol`.
-fn next_symbol(s: &[u8], c: Cursor) -> Step
+fn next_symbol(s: &[u8], last: usize, c: Cursor) -> Step
+    requires { ⌜ last ≡ last-close (now s) ⌝ }
     ensures { λ r. ⌜ r ≡ next-symbol (now (s .entry)) c ⌝ }
 {
     let place = c.place;
@@ -161,7 +165,7 @@ fn next_symbol(s: &[u8], c: Cursor) -> Step
         return parse_matcher(c, s, IN_SYMBOL_EXTERN, BEHIND_SYMBOL, 0);
     }
     if place == IN_SYMBOL_EXTERN {
-        return in_extern(c, s, BEHIND_SYMBOL);
+        return in_extern(c, last, s, BEHIND_SYMBOL);
     }
     if place == AT_BARE {
         if TOKEN_LIMIT < s.len() {
@@ -170,21 +174,22 @@ fn next_symbol(s: &[u8], c: Cursor) -> Step
         return parse_bare_matcher(c, s, IN_BARE_EXTERN, BEHIND_SYMBOL);
     }
     if place == IN_BARE_EXTERN {
-        return in_bare(c, s, BEHIND_SYMBOL);
+        return in_bare(c, last, s, BEHIND_SYMBOL);
     }
     Step::End
 }
 
-// The next event of a text, or its end, or its refusal.
-pub fn next_event(s: &[u8], c: Cursor) -> Step
+// The next event of a text, or its end, or its refusal. `last` is the place from which on the text has no `};`: who opens a reading asks it once.
+pub fn next_event(s: &[u8], last: usize, c: Cursor) -> Step
+    requires { ⌜ last ≡ last-close (now s) ⌝ }
     ensures { λ r. ⌜ r ≡ next (now (s .entry)) c ⌝ }
 {
     let place = c.place;
     if place < AT_LIST {
-        return next_script(s, c);
+        return next_script(s, last, c);
     }
     if place < AT_SYMBOL {
-        return next_list(s, c);
+        return next_list(s, last, c);
     }
-    next_symbol(s, c)
+    next_symbol(s, last, c)
 }

@@ -10,30 +10,25 @@ use Rattle.numbers.specs.Marks.{general, global}
 use Rattle.numbers.specs.Refusals.{unreadable}
 use Rattle.linker_script.specs.declared.Skipped.{Skipped}
 use Rattle.linker_script.specs.declared.Skipped.the-variants.{At, Open}
-use Rattle.linker_script.specs.Finding.{last-close}
 use Rattle.linker_script.specs.Skip.{skip, skip-refusal}
 use Rattle.reading_cursors.specs.declared.Cursor.{Cursor}
 use Rattle.reading_cursors.specs.declared.Step.{Step}
 use Rattle.reading_cursors.specs.declared.Step.the-variants.{End, Refused}
 
 -- a reading starts at the text's first byte; the edition is told by its number
-unfoldable pub start : ℕ → ℕ → List ℕ → Cursor
-start edition place s =
-    record { at = 0; place = place; section = global; language = general; last = last-close s; edition = edition }
+unfoldable pub start : ℕ → ℕ → Cursor
+start edition place = record { at = 0; place = place; section = global; language = general; edition = edition }
 
 -- the cursor moved to another place of the text and of the reading
 abbrev pub moved : Cursor → ℕ → ℕ → Cursor
-moved c place p =
-    record { at = p; place = place; section = c .section; language = c .language; last = c .last; edition = c .edition }
+moved c place p = record { at = p; place = place; section = c .section; language = c .language; edition = c .edition }
 
 -- with another section, or another language
 abbrev pub in-section : Cursor → ℕ → Cursor
-in-section c section =
-    record { at = c .at; place = c .place; section = section; language = c .language; last = c .last; edition = c .edition }
+in-section c section = record { at = c .at; place = c .place; section = section; language = c .language; edition = c .edition }
 
 abbrev pub in-language : Cursor → ℕ → Cursor
-in-language c language =
-    record { at = c .at; place = c .place; section = c .section; language = language; last = c .last; edition = c .edition }
+in-language c language = record { at = c .at; place = c .place; section = c .section; language = language; edition = c .edition }
 
 -- the cursor's edition, and a skip in it
 abbrev pub edition-at : Cursor → Edition

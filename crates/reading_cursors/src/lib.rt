@@ -4,19 +4,17 @@ ghost use mathlib.Core.Path.{_≡_};
 ghost use Rattle.reading_cursors.specs.Moves.{in-language, in-section, moved, skip-at, start};
 use linker_script::Skipped;
 use linker_script::comments::skip_comments_and_whitespace;
-use linker_script::last_close;
 use numbers::edition_by;
 
 pub mod places;
 
-// Where a reading stands: the place in the text, the place in the grammar (specs/Places.antt), the section and language that a line there gets,
-// the place from which on the text has no `};`, and the number of the edition in which it is read.
+// Where a reading stands: the place in the text, the place in the grammar (specs/Places.antt), the section and language that a line there gets, and the
+// number of the edition in which it is read.
 pub struct Cursor {
     pub at: usize,
     pub place: u32,
     pub section: u32,
     pub language: u32,
-    pub last: usize,
     pub edition: u32,
 }
 
@@ -58,15 +56,14 @@ pub enum Step {
 }
 
 // A reading starts at the text's first byte, at a place of the grammar (specs/Places.antt).
-pub fn start_at(edition: u32, place: u32, s: &[u8]) -> Cursor
-    ensures { λ r. ⌜ r ≡ start edition place (now (s .entry)) ⌝ }
+pub fn start_at(edition: u32, place: u32) -> Cursor
+    ensures { λ r. ⌜ r ≡ start edition place ⌝ }
 {
     Cursor {
         at: 0,
         place,
         section: 0,
         language: 0,
-        last: last_close(s),
         edition,
     }
 }
@@ -79,7 +76,6 @@ pub fn move_to(c: Cursor, place: u32, at: usize) -> Cursor
         place,
         section: c.section,
         language: c.language,
-        last: c.last,
         edition: c.edition,
     }
 }
@@ -92,7 +88,6 @@ pub fn with_section(c: Cursor, section: u32) -> Cursor
         place: c.place,
         section,
         language: c.language,
-        last: c.last,
         edition: c.edition,
     }
 }
@@ -105,7 +100,6 @@ pub fn with_language(c: Cursor, language: u32) -> Cursor
         place: c.place,
         section: c.section,
         language,
-        last: c.last,
         edition: c.edition,
     }
 }

@@ -12,7 +12,7 @@ use Rattle.linker_script.specs.declared.Skipped.the-variants.{At, Open}
 use Rattle.reading_tokens.specs.declared.TokenEnd.{TokenEnd}
 use Rattle.reading_tokens.specs.declared.TokenEnd.the-variants.{To}
 use Rattle.reading_tokens.specs.declared.TokenEnd.the-variants as token
-use Rattle.reading_tokens.specs.Tokens.{to-semicolon, extern-end, bare-extern-end, bare-end, bare-skip}
+use Rattle.reading_tokens.specs.Tokens.{to-semicolon, to-either, bare-extern-end, bare-end, bare-skip}
 use Rattle.reading_cursors.specs.declared.Cursor.{Cursor}
 use Rattle.reading_cursors.specs.declared.Event.{Event}
 use Rattle.reading_cursors.specs.declared.Step.{Step}
@@ -69,10 +69,10 @@ module _ (c : Cursor) (s : List ℕ) (place : ℕ) (x : TokenEnd) (r : Step) (y 
     line-with a e = rw (← z, ← e) a
 
     module _ (a : r ≡ extern-inside c s place p x) where
-      pub inside-with : x ≡ extern-end y (c .last) s p → r ≡ extern-inside c s place p (extern-end (edition-at c) (c .last) s p)
+      pub inside-with : x ≡ to-either y s p → r ≡ extern-inside c s place p (to-either (edition-at c) s p)
       inside-with e = rw (← z, ← e) a
 
-      pub inside-bare-with : x ≡ bare-extern-end y (c .last) s p → r ≡ extern-inside c s place p (bare-extern-end (edition-at c) (c .last) s p)
+      pub inside-bare-with : x ≡ bare-extern-end y s p → r ≡ extern-inside c s place p (bare-extern-end (edition-at c) s p)
       inside-bare-with e = rw (← z, ← e) a
 
   pub bare-with : r ≡ bare-line c s place x → x ≡ bare-end y s → r ≡ bare-line c s place (bare-end (edition-at c) s)

@@ -12,7 +12,7 @@ use Rattle.numbers.specs.Signs.{closing-brace, opening-brace, quote, semicolon,
 use Rattle.reading_tokens.specs.declared.TokenEnd.{TokenEnd}
 use Rattle.reading_tokens.specs.declared.TokenEnd.the-variants.{To}
 use Rattle.reading_tokens.specs.declared.TokenEnd.the-variants as token
-use Rattle.reading_tokens.specs.Tokens.{stands-at, to-semicolon, extern-end, bare-extern-end, bare-end, bare-skip, trimmed}
+use Rattle.reading_tokens.specs.Tokens.{stands-at, to-semicolon, to-either, bare-extern-end, bare-end, bare-skip, trimmed}
 use Rattle.reading_cursors.specs.declared.Cursor.{Cursor}
 use Rattle.reading_cursors.specs.declared.Event.{Event}
 use Rattle.reading_cursors.specs.declared.Event.the-variants.{Extern, Closed, Line}
@@ -69,10 +69,11 @@ extern-inside c s place p e =
     (line-to c s (c .place) p e))
 
 unfoldable pub in-extern : Cursor → List ℕ → ℕ → Step
-in-extern c s place = skipping c s (c .at) (λ p. extern-inside c s place p (extern-end (edition-at c) (c .last) s p))
+in-extern c s place = skipping c s (c .at) (λ p. extern-inside c s place p (to-either (edition-at c) s p))
 
+-- "An extern block there differs in one point"
 unfoldable pub in-bare : Cursor → List ℕ → ℕ → Step
-in-bare c s place = skipping c s (c .at) (λ p. extern-inside c s place p (bare-extern-end (edition-at c) (c .last) s p))
+in-bare c s place = skipping c s (c .at) (λ p. extern-inside c s place p (bare-extern-end (edition-at c) s p))
 
 -- ---- a matcher at the place p; its extern block is read at `inner`, and behind its token the reading stands at `place`
 unfoldable pub matcher : Cursor → List ℕ → ℕ → ℕ → ℕ → Step

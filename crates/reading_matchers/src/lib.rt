@@ -2,6 +2,7 @@
 ghost use mathlib.Core.Path.{_≡_};
 ghost use Prim.Native.Nat.{_<_, _≤_};
 ghost use lib.ListN.{length};
+ghost use Rattle.linker_script.specs.Finding.{last-close};
 ghost use Rattle.linker_script.specs.Parts.{behind};
 ghost use Rattle.reading_tokens.specs.Tokens.{trimmed};
 ghost use Rattle.reading_matchers.specs.Matchers.{extern-word, past-semicolon, line, line-to, extern-open, extern-at};
@@ -136,11 +137,12 @@ fn extern_inside(c: Cursor, s: &[u8], place: u32, p: usize, end: TokenEnd) -> St
     line_to(c, s, here, p, end)
 }
 
-pub fn in_extern(c: Cursor, s: &[u8], place: u32) -> Step
+// `last` is the place from which on the text has no `};`.
+pub fn in_extern(c: Cursor, last: usize, s: &[u8], place: u32) -> Step
+    requires { ⌜ last ≡ last-close (now s) ⌝ }
     ensures { λ r. ⌜ r ≡ in-extern c (now (s .entry)) place ⌝ }
 {
     let at = c.at;
-    let last = c.last;
     match skip_at(c, s, at) {
         Skipped::Open(o) => Step::Refused(UNCLOSED, o),
         Skipped::At(p) => {
@@ -152,11 +154,11 @@ pub fn in_extern(c: Cursor, s: &[u8], place: u32) -> Step
 }
 
 // The same in an `add_symbol` text without semicolon.
-pub fn in_bare(c: Cursor, s: &[u8], place: u32) -> Step
+pub fn in_bare(c: Cursor, last: usize, s: &[u8], place: u32) -> Step
+    requires { ⌜ last ≡ last-close (now s) ⌝ }
     ensures { λ r. ⌜ r ≡ in-bare c (now (s .entry)) place ⌝ }
 {
     let at = c.at;
-    let last = c.last;
     match skip_at(c, s, at) {
         Skipped::Open(o) => Step::Refused(UNCLOSED, o),
         Skipped::At(p) => {

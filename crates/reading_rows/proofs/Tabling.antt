@@ -23,7 +23,8 @@ use Rattle.reading_cursors.specs.Moves.{start}
 use Rattle.reading.specs.Scripts.{next}
 use Rattle.reading.specs.Events.{Outcome, accepted, refused, ends, on-step, reading-from, reading}
 use Rattle.reading.proofs.Refusals.{standing-refuses}
-use Rattle.reading.proofs.Onward.{Standing, start-stands, next-stands, next-onward, reading-step}
+use Rattle.reading.specs.Standing.{Standing}
+use Rattle.reading.proofs.Onward.{start-stands, next-stands, next-onward, reading-step}
 use Rattle.reading_rows.specs.Rows.{row, event-rows, place-of, outcome-told, reading-told, events-told, rows-fitting, events-rows}
 
 -- ---- a test decides
@@ -74,7 +75,7 @@ pub record Tabled (place : ℕ) (s d l : List ℕ) (n : ℕ) (c : Cursor) : Type
   pub events : reading reld place s .events ≡ done ++ reading-from s c .events
   pub outcome : reading reld place s .outcome ≡ reading-from s c .outcome
 
-pub tabled-start : (place : ℕ) (s d : List ℕ) (c : Cursor) → c ≡ start reld place s → Tabled place s d d 0 c
+pub tabled-start : (place : ℕ) (s d : List ℕ) (c : Cursor) → c ≡ start reld place → Tabled place s d d 0 c
 unfolding event-rows reading
 tabled-start place s d c e = record {
   done = [];
@@ -88,7 +89,7 @@ tabled-start place s d c e = record {
   outcome = rw e;
 }
 
--- t is what `next_event` answers
+-- t is what `step` answers
 module _ (place : ℕ) (s d l : List ℕ) (n : ℕ) (c : Cursor) (z : Tabled place s d l n c) (t : Step) (a : t ≡ next s c) where
   step : reading-from s c ≡ on-step t (λ x. reading-from s x)
   step = rw a (reading-step s c (z .stands))

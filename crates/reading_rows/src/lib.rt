@@ -1,4 +1,4 @@
-// The events of a text as rows of numbers, for a host in another language. Definitions: specs/Rows.antt.
+// The events of a text as rows of numbers, for a host in another language, read by a `Reader`. Definitions: specs/Rows.antt.
 ghost use mathlib.Core.Path.{_≡_};
 ghost use mathlib.Core.List.{[], _∷_};
 ghost use Prim.Native.Nat.{_+_, _/_, _≤_};
@@ -9,11 +9,12 @@ ghost use Rattle.numbers.specs.Limits.{script-limit};
 ghost use Rattle.lists.specs.Front.{front};
 ghost use Rattle.reading.specs.Events.{reading};
 ghost use Rattle.reading_rows.specs.Rows.{events-rows, events-told, place-of, row, rows-fitting, reading-told};
+use linker_script::last_close;
 use numbers::NO_ROOM;
 use numbers::RELD;
 use numbers::SCRIPT_LIMIT;
 use numbers::TOO_LONG;
-use reading::scripts::next_event;
+use reader::step;
 use reading_cursors::Event;
 use reading_cursors::Step;
 use reading_cursors::places::AT_BARE;
@@ -84,10 +85,11 @@ fn write_events(place: u32, text: &[u8], rows: &mut [u64]) -> u64
     ensures { λ r. ⌜ (r ≡ reading-told (reading reld place (now (text .entry))) (length (now (rows .entry)) / 5))
         × (now (rows .exit) ≡ front (rows-fitting place (now (text .entry)) (length (now (rows .entry)) / 5)) (now (rows .entry))) ⌝ }
 {
-    let mut c = start_at(RELD, place, text);
+    let last = last_close(text);
+    let mut c = start_at(RELD, place);
     let mut n = 0;
     loop {
-        match next_event(text, c) {
+        match step(text, last, c) {
             Step::End => {
                 return 256 * ((n / 5) as u64);
             }

@@ -1,7 +1,9 @@
 -- Where a token ends, exit by exit; f is what `find` answers. Assumes nothing.
 use Prim.Native.Nat.{ℕ, _-_, _<_, _≤_}
-use mathlib.Core.Path.{_≡_}
+use mathlib.Core.Path.{_≡_, sym, _∙_}
 use mathlib.Core.List.{List}
+use mathlib.Core.Bool.{cond}
+use native.Mathlib.Omega.{arith}
 use borrow.Author.Tests.{eq-eqb, ne-eqb, lt-ltb, le-ltb}
 use lib.ListN.{length, getD}
 use Rattle.numbers.specs.declared.Edition.{Edition}
@@ -9,10 +11,11 @@ use Rattle.numbers.specs.Refusals.{unclosed, unreadable}
 use Rattle.numbers.specs.Signs.{closing-brace, semicolon}
 use Rattle.linker_script.specs.declared.Found.{Found}
 use Rattle.linker_script.specs.declared.Found.the-variants.{Here, Nowhere}
-use Rattle.linker_script.specs.Finding.{first-from, is}
+use Rattle.linker_script.specs.Finding.{first-from, is, last-close}
 use Rattle.reading_tokens.specs.declared.TokenEnd.{TokenEnd}
 use Rattle.reading_tokens.specs.declared.TokenEnd.the-variants.{To, Refused}
-use Rattle.reading_tokens.specs.Tokens.{to-semicolon, to-brace, extern-end, bare-extern-end, bare-end, bare-skip}
+use Rattle.reading_tokens.specs.Tokens.{to-semicolon, to-brace, to-either, bare-extern-end, bare-end, bare-skip}
+use Rattle.reading_tokens.proofs.Ends.{brace-before, either-none, either-left, bare-none, bare-left}
 
 module _ (x : Edition) (s : List ℕ) (p : ℕ) (f : Found) where
   -- ---- up to the first `;`
@@ -45,38 +48,36 @@ module _ (x : Edition) (s : List ℕ) (p : ℕ) (f : Found) where
       unfolding to-brace
       brace-at-once h = rw (← e, k, le-ltb p q h)
 
--- ---- in an extern block; r is what the function called last answers
-module _ (x : Edition) (last : ℕ) (s : List ℕ) (p : ℕ) (r : TokenEnd) where
-  pub extern-none-left : last ≤ p → r ≡ to-brace x s p → r ≡ extern-end x last s p
-  unfolding extern-end
-  extern-none-left h a = rw (le-ltb p last h) a
+-- ---- in an extern block, where `last` is that of the text; r is what the function called last answers
+module _ (x : Edition) (last : ℕ) (s : List ℕ) (p : ℕ) (l : last ≡ last-close s) where
+  module _ (h : last ≤ p) (r : TokenEnd) where
+    pub extern-none-left : r ≡ to-brace x s p → r ≡ to-either x s p
+    extern-none-left a = a ∙ sym (either-none x s p (omega arith))
 
-  module _ (h : p < last) (f : Found) (e : f ≡ first-from (is semicolon) s p) where
-    pub extern-no-semicolon : f ≡ Nowhere → r ≡ to-brace x s p → r ≡ extern-end x last s p
-    unfolding extern-end
-    extern-no-semicolon k a = rw (lt-ltb p last h, ← e, k) a
+    pub bare-none-left : r ≡ to-semicolon x s p → r ≡ bare-extern-end x s p
+    bare-none-left a = a ∙ sym (bare-none x s p (omega arith))
 
-    module _ (q : ℕ) (k : f ≡ Here q) where
-      pub extern-at-once : q ≤ p → r ≡ to-semicolon x s p → r ≡ extern-end x last s p
-      unfolding extern-end
-      extern-at-once g a = rw (lt-ltb p last h, ← e, k, le-ltb p q g) a
+  module _ (h : p < last) where
+    pub bare-some-left : (r : TokenEnd) → r ≡ to-either x s p → r ≡ bare-extern-end x s p
+    bare-some-left r a = a ∙ sym (bare-left x s p (omega arith))
 
-      module _ (g : p < q) (b : ℕ) (m : b ≡ getD s (q - 1) 0) where
-        pub extern-closed : b ≡ closing-brace → r ≡ to-brace x s p → r ≡ extern-end x last s p
-        unfolding extern-end
-        extern-closed n a = rw (lt-ltb p last h, ← e, k, lt-ltb p q g, ← m, eq-eqb b closing-brace n) a
+    module _ (f : Found) (e : f ≡ first-from (is semicolon) s p) where
+      pub extern-no-semicolon : f ≡ Nowhere → (r : TokenEnd) → r ≡ to-brace x s p → r ≡ to-either x s p
+      extern-no-semicolon k r a = a ∙ sym (either-left x s p (omega arith) Nowhere (sym e ∙ k))
 
-        pub extern-apart : (b ≡ closing-brace → ⊥) → r ≡ to-semicolon x s p → r ≡ extern-end x last s p
-        unfolding extern-end
-        extern-apart n a = rw (lt-ltb p last h, ← e, k, lt-ltb p q g, ← m, ne-eqb b closing-brace n) a
+      module _ (q : ℕ) (k : f ≡ Here q) where
+        asked : to-either x s p ≡ cond (brace-before s p (Here q)) (to-brace x s p) (to-semicolon x s p)
+        asked = either-left x s p (omega arith) (Here q) (sym e ∙ k)
 
-  pub bare-none-left : last ≤ p → r ≡ to-semicolon x s p → r ≡ bare-extern-end x last s p
-  unfolding bare-extern-end
-  bare-none-left h a = rw (le-ltb p last h) a
+        pub extern-at-once : q ≤ p → Refused unreadable ≡ to-either x s p
+        extern-at-once g = semicolon-at-once x s p f e q k g ∙ sym (asked ∙ rw (le-ltb p q g))
 
-  pub bare-some-left : p < last → r ≡ extern-end x last s p → r ≡ bare-extern-end x last s p
-  unfolding bare-extern-end
-  bare-some-left h a = rw (lt-ltb p last h) a
+        module _ (g : p < q) (b : ℕ) (m : b ≡ getD s (q - 1) 0) where
+          pub extern-closed : b ≡ closing-brace → (r : TokenEnd) → r ≡ to-brace x s p → r ≡ to-either x s p
+          extern-closed n r a = a ∙ sym (asked ∙ rw (lt-ltb p q g, ← m, eq-eqb b closing-brace n))
+
+          pub extern-apart : (b ≡ closing-brace → ⊥) → To q ≡ to-either x s p
+          extern-apart n = semicolon-behind x s p f e q k g ∙ sym (asked ∙ rw (lt-ltb p q g, ← m, ne-eqb b closing-brace n))
 
 -- ---- a whole text without semicolon
 module _ (x : Edition) (s : List ℕ) (f : Found) (e : f ≡ first-from (is closing-brace) s 0) where

@@ -1,9 +1,9 @@
--- Where a token of an extern block ends is what 01 says, though it is asked of the last `};` of the text and of the byte before the first `;`. Assumes
--- nothing.
+-- How the code asks where a token of an extern block ends: by the last `};` of the text, behind which none is left (`either-none`, `bare-none`), and else by
+-- the byte before the first `;` (`either-left`, `bare-left`). Assumes nothing.
 use Prim.Native.Nat.{ℕ, _+_, _-_, _<_, _≤_}
 use mathlib.Core.Path.{_≡_, refl, sym, _∙_}
 use mathlib.Core.List.{List}
-use mathlib.Core.Bool.{Bool, true, false, _&&_, true≢false}
+use mathlib.Core.Bool.{Bool, true, false, cond, _&&_, true≢false}
 use native.Mathlib.Decide.{decLt}
 use native.Mathlib.Omega.{arith}
 use borrow.Author.Tests.{eq-eqb, eqb-true, lt-ltb, le-ltb, ltb-true}
@@ -15,8 +15,7 @@ use Rattle.linker_script.specs.declared.Found.{Found}
 use Rattle.linker_script.specs.declared.Found.the-variants.{Here, Nowhere}
 use Rattle.linker_script.specs.Finding.{closes, first-from, is, last-close}
 use Rattle.linker_script.proofs.Searches.{First, first-within, last-close-none, last-close-some}
-use Rattle.reading_tokens.specs.declared.TokenEnd.{TokenEnd}
-use Rattle.reading_tokens.specs.Tokens.{to-semicolon, to-either, brace-before, extern-end, bare-extern-end}
+use Rattle.reading_tokens.specs.Tokens.{to-semicolon, to-brace, to-either, bare-extern-end}
 
 pub and-both : (a b : Bool) → a && b ≡ true → (a ≡ true) × (b ≡ true)
 and-both true b h = (refl, h)
@@ -26,6 +25,11 @@ and-both false b h = absurd (true≢false (sym h))
 fails : (t : Bool) → (t ≡ true → ⊥) → t ≡ false
 fails true n = absurd (n refl)
 fails false n = refl
+
+-- whether the first `;` from the place p on is that of a `};`, or there is none
+abbrev pub brace-before : List ℕ → ℕ → Found → Bool
+brace-before s p (Here q) = ltb p q && eqb (getD s (q - 1) 0) closing-brace
+brace-before s p Nowhere = true
 
 -- the first `};` from p on stands at c, and the first `;` at q: no `;` stands before the `};` exactly where q has a `}` before it
 module _ (s : List ℕ) (p c q : ℕ) (close : First closes s p c) (end : First (is semicolon) s p q) where
@@ -58,39 +62,28 @@ module _ (s : List ℕ) (p c q : ℕ) (close : First closes s p c) (end : First 
       go (no h) = fails (brace-before s p (Here q)) (not-before (omega arith)) ∙ sym (le-ltb c q (omega arith))
 
 module _ (x : Edition) (s : List ℕ) (p : ℕ) where
-  none-left : last-close s ≤ p → extern-end x (last-close s) s p ≡ to-either x s p
-  unfolding extern-end to-either
-  none-left h = rw (le-ltb p (last-close s) h, last-close-none s p h)
+  module _ (h : last-close s ≤ p) where
+    pub either-none : to-either x s p ≡ to-brace x s p
+    unfolding to-either
+    either-none = rw (last-close-none s p h)
 
-  one-left : p < last-close s → (c : ℕ) → first-from closes s p ≡ Here c → (f : Found) → first-from (is semicolon) s p ≡ f
-      → extern-end x (last-close s) s p ≡ to-either x s p
-  unfolding extern-end to-either
-  one-left h c e (Here q) g =
-      rw (lt-ltb p (last-close s) h, e, g, same-end s p c q (first-within closes s p c e) (first-within (is semicolon) s p q g))
-  one-left h c e Nowhere g = rw (lt-ltb p (last-close s) h, e, g)
+    pub bare-none : bare-extern-end x s p ≡ to-semicolon x s p
+    unfolding bare-extern-end
+    bare-none = rw (last-close-none s p h)
 
-  pub extern-end-01 : extern-end x (last-close s) s p ≡ to-either x s p
-  extern-end-01 = go (decLt p (last-close s))
-    where
-      go : Dec (p < last-close s) → extern-end x (last-close s) s p ≡ to-either x s p
-      go (yes h) =
-          let c = last-close-some s p h in
-          one-left h (c .0) (c .1) (first-from (is semicolon) s p) refl
-      go (no h) = none-left (omega arith)
+  module _ (h : p < last-close s) where
+    -- c is the first `};` from p on, and f the first `;`
+    by-semicolon : (c : ℕ) → first-from closes s p ≡ Here c → (f : Found) → first-from (is semicolon) s p ≡ f
+        → to-either x s p ≡ cond (brace-before s p f) (to-brace x s p) (to-semicolon x s p)
+    unfolding to-either
+    by-semicolon c e (Here q) g = rw (e, g, same-end s p c q (first-within closes s p c e) (first-within (is semicolon) s p q g))
+    by-semicolon c e Nowhere g = rw (e, g)
 
--- "An extern block there differs in one point: with no `};` left, tokens go to `;`": f is the first `};` from p on
-abbrev pub bare-either : Edition → List ℕ → ℕ → Found → TokenEnd
-bare-either x s p (Here c) = to-either x s p
-bare-either x s p Nowhere = to-semicolon x s p
-
-pub bare-extern-01 : (x : Edition) (s : List ℕ) (p : ℕ) → bare-extern-end x (last-close s) s p ≡ bare-either x s p (first-from closes s p)
-unfolding bare-extern-end
-bare-extern-01 x s p = go (decLt p (last-close s))
-  where
-    go : Dec (p < last-close s) → bare-extern-end x (last-close s) s p ≡ bare-either x s p (first-from closes s p)
-    go (yes h) =
+    pub either-left : (f : Found) → first-from (is semicolon) s p ≡ f → to-either x s p ≡ cond (brace-before s p f) (to-brace x s p) (to-semicolon x s p)
+    either-left f g =
         let c = last-close-some s p h in
-        rw (lt-ltb p (last-close s) h, c .1) (extern-end-01 x s p)
-    go (no h) =
-        let l : last-close s ≤ p = omega arith in
-        rw (le-ltb p (last-close s) l, last-close-none s p l)
+        by-semicolon (c .0) (c .1) f g
+
+    pub bare-left : bare-extern-end x s p ≡ to-either x s p
+    unfolding bare-extern-end
+    bare-left = rw (last-close-some s p h .1)

@@ -3,13 +3,13 @@ use Prim.Native.Nat.{ℕ, _+_, _-_}
 use mathlib.Core.List.{List, [], _∷_}
 use mathlib.Core.Bool.{Bool, true, false, not, cond, _&&_, _||_}
 use lib.Dec.{eqb, ltb}
-use lib.ListN.{length, getD, drop}
+use lib.ListN.{length, drop}
 use Rattle.numbers.specs.declared.Edition.{Edition}
 use Rattle.numbers.specs.Refusals.{unclosed, unreadable}
 use Rattle.numbers.specs.Signs.{closing-brace, closing-paren, line-feed, opening-brace, opening-paren, semicolon, space, tab}
 use Rattle.linker_script.specs.declared.Found.{Found}
 use Rattle.linker_script.specs.declared.Found.the-variants.{Here, Nowhere}
-use Rattle.linker_script.specs.Finding.{closes, first-from, is}
+use Rattle.linker_script.specs.Finding.{closes, first-from, found-any, is}
 use Rattle.linker_script.specs.Parts.{part}
 use Rattle.linker_script.specs.Trim.{trim-end}
 use Rattle.reading_tokens.specs.declared.TokenEnd.{TokenEnd}
@@ -66,24 +66,13 @@ no-semicolon-before Nowhere q = true
 abbrev pub brace-next : Edition → List ℕ → ℕ → Bool
 brace-next e s p = no-semicolon-before (first-from closes s p) (first-from (is semicolon) s p)
 
--- (what `next` asks instead, and why the two are the same, stands below)
+-- "In an extern block a token goes instead to the first `}` … when"
 unfoldable pub to-either : Edition → List ℕ → ℕ → TokenEnd
 to-either e s p = cond (brace-next e s p) (to-brace e s p) (to-semicolon e s p)
 
--- whether the first `;` from the place p on is that of a `};`, or there is none
-abbrev pub brace-before : List ℕ → ℕ → Found → Bool
-brace-before s p (Here q) = ltb p q && eqb (getD s (q - 1) 0) closing-brace
-brace-before s p Nowhere = true
-
--- the same as `to-either`, by `last`, behind which no `};` is left: asked once of the text, and not anew at each token. The two are the same where `last` is
--- that of the text (proofs/Ends.antt)
-unfoldable pub extern-end : Edition → ℕ → List ℕ → ℕ → TokenEnd
-extern-end e last s p =
-    cond (ltb p last) (cond (brace-before s p (first-from (is semicolon) s p)) (to-brace e s p) (to-semicolon e s p)) (to-brace e s p)
-
 -- "An extern block there differs in one point: with no `};` left, tokens go to `;`."
-unfoldable pub bare-extern-end : Edition → ℕ → List ℕ → ℕ → TokenEnd
-bare-extern-end e last s p = cond (ltb p last) (extern-end e last s p) (to-semicolon e s p)
+unfoldable pub bare-extern-end : Edition → List ℕ → ℕ → TokenEnd
+bare-extern-end e s p = cond (found-any (first-from closes s p)) (to-either e s p) (to-semicolon e s p)
 
 -- "a bare token goes to the first `}` (at least one byte); where there is none it is all the text, empty too"
 unfoldable pub bare-end : Edition → List ℕ → TokenEnd

@@ -2,7 +2,8 @@
 // 'Reading'.
 ghost use mathlib.Core.Path.{_≡_};
 ghost use Prim.Native.Nat.{_+_, _<_};
-ghost use Rattle.reading_tokens.specs.Tokens.{stands-at, name-end, to-semicolon, to-brace, extern-end, bare-extern-end, bare-end, bare-skip};
+ghost use Rattle.linker_script.specs.Finding.{last-close};
+ghost use Rattle.reading_tokens.specs.Tokens.{stands-at, name-end, to-semicolon, to-brace, to-either, bare-extern-end, bare-end, bare-skip};
 use crate::names::is_named;
 use linker_script::Found;
 use linker_script::byte_at;
@@ -82,9 +83,11 @@ fn to_brace(edition: Edition, s: &[u8], at: usize) -> TokenEnd
     }
 }
 
-// In an extern block: up to `}` where no `};` is left, or none with a `;` before it. `last` is the place from which on the text has no `};`.
+// In an extern block: up to `}` where no `};` is left, or one with no `;` before it. `last` is the place from which on the text has no `};`: so that is not
+// looked for anew at each token; and one that is left has no `;` before it where the first `;` has a `}` before it.
 pub fn extern_end(edition: Edition, last: usize, s: &[u8], at: usize) -> TokenEnd
-    ensures { λ r. ⌜ r ≡ extern-end edition last (now (s .entry)) at ⌝ }
+    requires { ⌜ last ≡ last-close (now s) ⌝ }
+    ensures { λ r. ⌜ r ≡ to-either edition (now (s .entry)) at ⌝ }
 {
     if last <= at {
         return to_brace(edition, s, at);
@@ -93,19 +96,20 @@ pub fn extern_end(edition: Edition, last: usize, s: &[u8], at: usize) -> TokenEn
         Found::Nowhere => to_brace(edition, s, at),
         Found::Here(q) => {
             if q <= at {
-                return to_semicolon(edition, s, at);
+                return TokenEnd::Refused(UNREADABLE);
             }
             if byte_at(s, q - 1) == b'}' {
                 return to_brace(edition, s, at);
             }
-            to_semicolon(edition, s, at)
+            TokenEnd::To(q)
         }
     }
 }
 
 // In an extern block of an `add_symbol` text without semicolon.
 pub fn bare_extern_end(edition: Edition, last: usize, s: &[u8], at: usize) -> TokenEnd
-    ensures { λ r. ⌜ r ≡ bare-extern-end edition last (now (s .entry)) at ⌝ }
+    requires { ⌜ last ≡ last-close (now s) ⌝ }
+    ensures { λ r. ⌜ r ≡ bare-extern-end edition (now (s .entry)) at ⌝ }
 {
     if last <= at {
         return to_semicolon(edition, s, at);

@@ -16,7 +16,8 @@ use Rattle.reading_cursors.specs.declared.Step.the-variants.{Go, End, Refused}
 use Rattle.reading_cursors.specs.Moves.{start}
 use Rattle.reading.specs.Scripts.{next}
 use Rattle.reading.specs.Events.{on-step, reading, reading-from}
-use Rattle.reading.proofs.Onward.{Standing, next-onward, next-stands, reading-step, start-stands}
+use Rattle.reading.specs.Standing.{Standing}
+use Rattle.reading.proofs.Onward.{next-onward, next-stands, reading-step, start-stands}
 use Rattle.reading.proofs.Parts.{Marked, next-parts, start-marked}
 use Rattle.book.specs.declared.Counts.{Counts}
 use Rattle.book.specs.Books.{Book, Node, export, rust}
@@ -64,12 +65,12 @@ pub record Going (c : Counts) (place : ℕ) (s n m l q j l′ q′ j′ : List �
   pub whole : add-reading (five n m l q j) s (book-of c (five n m l q j)) (reading reld place s) ≡ add-reading (five n m l q j) s book (reading-from s x)
 
 pub going-starts : {c : Counts} {place : ℕ} {s n m l q j : List ℕ} → (laid c (five n m l q j) ≡ true) × (0 < c .nodes) × (c .kind ≡ export)
-    → {x : Cursor} → x ≡ start reld place s → Going c place s n m l q j l q j x c
+    → {x : Cursor} → x ≡ start reld place → Going c place s n m l q j l q j x c
 unfolding reading
 going-starts {c} {place} {s} {n} {m} {l} {q} {j} pre z = record {
   asked = pre;
   stands = rw z (start-stands reld place s);
-  marked = rw z (start-marked reld place s);
+  marked = rw z (start-marked reld place);
   book = book-of c (five n m l q j);
   layout = laid-packs c (five n m l q j) (pre .0);
   rooms = record { nodes = refl; names = refl; lines = refl; pool = refl; journal = refl };

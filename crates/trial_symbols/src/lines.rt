@@ -15,6 +15,7 @@ use crate::events::add_event;
 use book::Counts;
 use book::EDIT_WIDTH;
 use book::LINE_WIDTH;
+use linker_script::last_close;
 use numbers::RELD;
 use packing::clear_bytes;
 use packing::clear_numbers;
@@ -56,10 +57,11 @@ pub fn add_lines(
         (λ b w. add-reading b (now (s .entry)) w (reading reld place (now (s .entry))))
         r (five (now (nodes .entry)) (now (names .entry)) (now (lines .exit)) (now (pool .exit)) (now (journal .exit))) ⌝ }
 {
-    let mut at = start_at(RELD, place, s);
+    let last = last_close(s);
+    let mut at = start_at(RELD, place);
     let mut k = c;
     loop {
-        match next_event(s, at) {
+        match next_event(s, last, at) {
             Step::End => {
                 return Edited::Done(k);
             }

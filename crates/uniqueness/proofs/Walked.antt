@@ -2,8 +2,6 @@
 -- written out here and shown to be what the clauses say. Assumes nothing.
 use mathlib.Core.Path.{_≡_, refl}
 use denote.Ref.{now}
-use Rattle.numbers.specs.Editions.{reld}
-use Rattle.reading_cursors.specs.Moves.{start}
 use Rattle.reading.specs.Scripts.{next as next-of}
 use Rattle.book.specs.Layout.{five}
 use Rattle.book.specs.View.{view}
@@ -13,19 +11,19 @@ use Rattle.uniqueness.specs.Unique.{Promise, Says, Unique}
 use Rattle.uniqueness.proofs.Same.{_▹_, same}
 use Rattle.reader.proofs.new
 use Rattle.reader.proofs.next
-use Rattle.reader.proofs.moved
-use Rattle.reader.proofs.first
+use Rattle.reader.proofs.step
 use Rattle.trial_undo.proofs.undo
 
 -- ---- reader
 abbrev New : Promise new.ended
-New κs a r e = (r .text ≡ a .0) × (r .cursor ≡ a .1 .0)
+New κs a r e = (r .text ≡ a .0) × (r .last ≡ a .1 .0) × (r .cursor ≡ a .1 .1 .0)
 
 pub new-says : Says new.ended (λ w. new.clauses (w .𝓤) (w .H) (w .𝓖 .A) (w .𝓜 .mem) (w .𝓡 .run)) New
 new-says w κs a g x e = refl
 
 pub new-unique : Unique new.ended New
-new-unique κs a x y v w p q = (λ i. record { text = same (p .0) (q .0) i; cursor = same (p .1) (q .1) i }, refl)
+new-unique κs a x y v w p q =
+    (λ i. record { text = same (p .0) (q .0) i; last = same (p .1) (q .1) i; cursor = same (p .2) (q .2) i }, refl)
 
 abbrev Next : Promise next.ended
 Next κs a r e = r ≡ next-of (now (a .0 .text)) (a .0 .cursor)
@@ -36,23 +34,14 @@ next-says w κs a g x e = refl
 pub next-unique : Unique next.ended Next
 next-unique κs a x y v w p q = (same p q, refl)
 
-abbrev Moved : Promise moved.ended
-Moved κs a r e = (r .text ≡ a .0 .text) × (r .cursor ≡ a .1 .0)
+abbrev Step : Promise step.ended
+Step κs a r e = r ≡ next-of (now (a .0)) (a .1 .1 .0)
 
-pub moved-says : Says moved.ended (λ w. moved.clauses (w .𝓤) (w .H) (w .𝓖 .A) (w .𝓜 .mem) (w .𝓡 .run)) Moved
-moved-says w κs a g x e = refl
+pub step-says : Says step.ended (λ w. step.clauses (w .𝓤) (w .H) (w .𝓖 .A) (w .𝓜 .mem) (w .𝓡 .run)) Step
+step-says w κs a g x e = refl
 
-pub moved-unique : Unique moved.ended Moved
-moved-unique κs a x y v w p q = (λ i. record { text = same (p .0) (q .0) i; cursor = same (p .1) (q .1) i }, refl)
-
-abbrev First : Promise first.ended
-First κs a r e = r ≡ next-of (now (a .1 .0)) (start reld (a .0) (now (a .1 .0)))
-
-pub first-says : Says first.ended (λ w. first.clauses (w .𝓤) (w .H) (w .𝓖 .A) (w .𝓜 .mem) (w .𝓡 .run)) First
-first-says w κs a g x e = refl
-
-pub first-unique : Unique first.ended First
-first-unique κs a x y v w p q = (same p q, refl)
+pub step-unique : Unique step.ended Step
+step-unique κs a x y v w p q = (same p q, refl)
 
 -- ---- trial_undo
 abbrev pub Undo : Promise undo.ended

@@ -6,6 +6,9 @@ use Rattle.reading_matchers.proofs.Stepping.{steps}
 use Rattle.reading_matchers.proofs.in_extern.Statement.{statement}
 use Rattle.reading_matchers.proofs.in_extern.Tie as tie
 
+extern-end-requires : tie.Need-extern-end-requires
+extern-end-requires c κs = search needs
+
 returns : tie.Need-returns
 unfolding in-extern
 returns c = search steps
@@ -18,7 +21,8 @@ pub in-extern-spec : {M : Type 1} → statement M
 in-extern-spec =
     tie.close
     (tie.spec
-    (λ c κs. search needs) (λ c. search needs) (λ c. search needs) (λ c κs. search needs) (λ c κs. search needs)
+    (λ c κs. search needs) (λ c. search needs) (λ c. search needs) (λ c κs. search needs)
+    extern-end-requires
     (λ c κs. search needs)
     returns
     returns-2)

@@ -8,10 +8,10 @@ use Rattle.reading_rows.proofs.write_events.Statement.{statement}
 use Rattle.reading_rows.proofs.write_events.Tie as tie
 
 abbrev Inv-loop : tie.InvT-loop
-Inv-loop place text rows₀ c₀ n₀ rows c n = Tabled place text rows₀ rows n c
+Inv-loop place text rows₀ last c₀ n₀ rows c n = Tabled place text rows₀ rows n c
 
 abbrev μ-loop : tie.MeasureT-loop
-μ-loop place text rows₀ c₀ n₀ rows c n = length text + 2 - c .at
+μ-loop place text rows₀ last c₀ n₀ rows c n = length text + 2 - c .at
 
 returns : tie.Need-returns Inv-loop μ-loop
 returns c = (search end-told, search end-rows)
@@ -25,7 +25,7 @@ write-events-spec =
     (tie.spec
     Inv-loop
     μ-loop
-    (λ c κs. search needs)
+    (λ c κs. search needs) (λ c κs. search needs)
     (λ c. search tabled-start)
     (λ c κs. search needs) (λ c. search needs)
     (λ c. search end-fits)

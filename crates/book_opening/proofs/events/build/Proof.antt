@@ -8,16 +8,16 @@ use Rattle.book_opening.proofs.events.build.Statement.{statement}
 use Rattle.book_opening.proofs.events.build.Tie as tie
 
 abbrev Inv-loop : tie.InvT-loop
-Inv-loop place s nodes₀ names₀ lines₀ pool₀ c₀ g₀ nodes names lines pool c g =
+Inv-loop place s nodes₀ names₀ lines₀ pool₀ last c₀ g₀ nodes names lines pool c g =
     Going place s nodes₀ names₀ lines₀ pool₀ nodes names lines pool c g
 
 abbrev μ-loop : tie.MeasureT-loop
-μ-loop place s nodes₀ names₀ lines₀ pool₀ c₀ g₀ nodes names lines pool c g = length s + 2 - c .at
+μ-loop place s nodes₀ names₀ lines₀ pool₀ last c₀ g₀ nodes names lines pool c g = length s + 2 - c .at
 
 loop-holds : tie.Need-loop-holds Inv-loop μ-loop
 loop-holds c =
-    let a = c .before .before .before .before .before .before .args in
-    let p = c .before .before .before .before .before .before .pre in
+    let a = c .before .before .before .before .before .before .before .args in
+    let p = c .before .before .before .before .before .before .before .pre in
     going-starts (a .place) (a .s .now) (a .nodes .now) (a .names .now) (a .lines .now) (a .pool .now) _ (c .start-at .ensures) (p .1) (p .2)
 
 finished-requires : tie.Need-finished-requires Inv-loop μ-loop
@@ -42,7 +42,7 @@ take-event-requires : tie.Need-take-event-requires Inv-loop μ-loop
 take-event-requires c κs =
     let x = c .before .before .before .before .before .before .before in
     let o = x .before .loop in
-    (o .inv .holds, x .before .before .before .before .before .before .before .before .pre .0, event-lies _ _ _ _ _ _ _ _ _ _ _ _ (o .inv) (x .next-event .result) (x .next-event .ensures) _ _ (c .before .before .before .before .before .e .given .1))
+    (o .inv .holds, x .before .before .before .before .before .before .before .before .before .pre .0, event-lies _ _ _ _ _ _ _ _ _ _ _ _ (o .inv) (x .next-event .result) (x .next-event .ensures) _ _ (c .before .before .before .before .before .e .given .1))
 
 returns-3 : tie.Need-returns-3 Inv-loop μ-loop
 returns-3 c =
@@ -80,7 +80,7 @@ build-spec =
     (tie.spec
     Inv-loop
     μ-loop
-    (λ c κs. search needs)
+    (λ c κs. search needs) (λ c κs. search needs)
     loop-holds
     (λ c κs. search needs) (λ c. search needs)
     finished-requires

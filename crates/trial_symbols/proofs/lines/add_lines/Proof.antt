@@ -20,11 +20,11 @@ use Rattle.trial_symbols.proofs.lines.add_lines.Statement.{statement}
 use Rattle.trial_symbols.proofs.lines.add_lines.Tie as tie
 
 abbrev Inv-loop : tie.InvT-loop
-Inv-loop c nodes names lines₀ pool₀ journal₀ s place at₀ k₀ lines pool journal at k =
+Inv-loop c nodes names lines₀ pool₀ journal₀ s place last at₀ k₀ lines pool journal at k =
     Going c place s nodes names lines₀ pool₀ journal₀ lines pool journal at k
 
 abbrev μ-loop : tie.MeasureT-loop
-μ-loop c nodes names lines₀ pool₀ journal₀ s place at₀ k₀ lines pool journal at k = length s + 2 - at .at
+μ-loop c nodes names lines₀ pool₀ journal₀ s place last at₀ k₀ lines pool journal at k = length s + 2 - at .at
 
 -- where an event was told, from where it was added; and where that was, from where it was refused
 abbrev event : tie.After-add-event Inv-loop μ-loop → tie.After-e Inv-loop μ-loop
@@ -34,7 +34,7 @@ abbrev adding : tie.After-n2 Inv-loop μ-loop → tie.After-add-event Inv-loop �
 adding n = n .before .before .before .before .before .before .before .before
 
 loop-holds : tie.Need-loop-holds Inv-loop μ-loop
-loop-holds c = going-starts (c .before .before .before .before .before .before .before .pre) (c .start-at .ensures)
+loop-holds c = going-starts (c .before .before .before .before .before .before .before .before .pre) (c .start-at .ensures)
 
 returns : tie.Need-returns Inv-loop μ-loop
 returns c =
@@ -123,7 +123,7 @@ add-lines-spec =
     (tie.spec
     Inv-loop
     μ-loop
-    (λ c κs. search needs)
+    (λ c κs. search needs) (λ c κs. search needs)
     loop-holds
     (λ c κs. search needs) (λ c. search needs) (λ c. search needs) (λ c. search needs) (λ c. search needs)
     returns
