@@ -1,7 +1,10 @@
 -- What checks a book, opens a text into one and asks it leaves one answer and one end state: book, book_check, book_building, book_opening, version_script,
 -- ranking, lookups, counting, export_list. Assumes nothing.
+use Prim.Native.Nat.{ℕ}
 use mathlib.Core.Path.{refl}
-use Rattle.uniqueness.specs.Unique.{Unique}
+use mathlib.Core.List.{List}
+use denote.Ref.{now}
+use Rattle.uniqueness.specs.Unique.{Unique, Unique-as}
 use Rattle.uniqueness.proofs.Same.{_▹_, same}
 use Rattle.book.proofs.codes.code_of
 use Rattle.book.proofs.codes.class_of
@@ -9,6 +12,8 @@ use Rattle.book.proofs.codes.section_of
 use Rattle.book.proofs.codes.language_of
 use Rattle.book.proofs.codes.is_struck
 use Rattle.book.proofs.rows.put_line
+use Rattle.book.proofs.rows.line_bytes
+use Rattle.book.proofs.rows.node_name
 use Rattle.book.proofs.frame_of
 use Rattle.book.proofs.no_counts
 use Rattle.book.proofs.counts_with
@@ -60,6 +65,12 @@ is-struck-unique κs a x y v w p q = (same p q, refl)
 
 pub put-line-unique : Unique put_line.ended put_line.Reads.Post
 put-line-unique κs a x y v w p q = (refl, λ i. same p q i ▹ tt ▹ tt ▹ tt ▹ tt ▹ tt ▹ tt)
+
+pub line-bytes-unique : Unique-as line_bytes.ended (λ κs. List ℕ) (λ κs r. now r) line_bytes.Reads.Post
+line-bytes-unique κs a x y v w p q = (same p q, refl)
+
+pub node-name-unique : Unique-as node_name.ended (λ κs. List ℕ) (λ κs r. now r) node_name.Reads.Post
+node-name-unique κs a x y v w p q = (same p q, refl)
 
 pub frame-of-unique : Unique frame_of.ended frame_of.Reads.Post
 frame-of-unique κs a x y v w p q = (same p q, refl)

@@ -1,7 +1,6 @@
 -- `is_listed` meets its contract. The loop's invariant: the lines from i on decide. Assumes nothing.
 use Prim.Native.Nat.{_-_}
 use borrow.Author.Needs.{needs}
-use native.Mathlib.Omega.{arith}
 use Rattle.lookups.proofs.Listing.{Listing, listing-starts, listing-lies, listing-local, listing-found, listing-other, listing-none}
 use Rattle.lookups.proofs.locality_lookup.is_listed.Statement.{statement}
 use Rattle.lookups.proofs.locality_lookup.is_listed.Tie as tie

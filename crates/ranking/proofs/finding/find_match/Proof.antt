@@ -1,7 +1,6 @@
 -- `find_match` meets its contract. The loop's invariant: `line` leads among the lines that are passed, and `best` is its rank. Assumes nothing.
 use Prim.Native.Nat.{_-_}
 use borrow.Author.Needs.{needs}
-use native.Mathlib.Omega.{arith}
 use Rattle.book.proofs.LineRows.{row-code, row-node}
 use Rattle.ranking.proofs.Leading.{Seeking, seek-starts, seek-row, seek-lies, seek-short, seek-behind, seek-better, seek-other, seek-nothing, seek-line}
 use Rattle.ranking.proofs.finding.find_match.Statement.{statement}
