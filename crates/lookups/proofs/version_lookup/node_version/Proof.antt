@@ -1,6 +1,8 @@
 -- `node_version` meets its contract. Assumes nothing.
+use mathlib.Core.Path.{ap}
 use borrow.Author.Needs.{needs}
 use borrow.Author.Tests.{eq-eqb, ne-eqb}
+use Rattle.lookups.specs.declared.answers.Version.the-variants as version
 use Rattle.lookups.specs.Lookups.{node-version}
 use Rattle.lookups.proofs.version_lookup.node_version.Statement.{statement}
 use Rattle.lookups.proofs.version_lookup.node_version.Tie as tie
@@ -13,7 +15,7 @@ from-node-requires c κs = search needs
 
 returns : tie.Need-returns
 unfolding node-version
-returns c = rw (ne-eqb _ _ (c .before .if1 .taken), c .from-node .ensures)
+returns c = rw (ne-eqb _ _ (c .before .if1 .taken)) (ap version.Index (c .from-node .ensures))
 
 returns-2 : tie.Need-returns-2
 unfolding node-version
