@@ -14,7 +14,7 @@ use Rattle.lookups.specs.Lookups.{wanted-of}
 use Rattle.trial.specs.declared.Edited.{Edited}
 use Rattle.trial.specs.declared.Edited.the-variants.{Done, Refused}
 use Rattle.trial.specs.Changes.{edit-refusal}
-use Rattle.uniqueness.proofs.Walked.{Undo}
+use Rattle.uniqueness.specs.Promises.{Undo}
 use Rattle.histories.specs.Histories.{Call, adds, adds-symbol, settles, strikes, undoes, Lent}
 use Rattle.histories_calls.specs.Interfaces.{Interface, Run-of, Seen-edit, Seen-opening, Seen-question, exit}
 use Rattle.version_script.proofs.open as script-open

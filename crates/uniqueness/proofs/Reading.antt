@@ -1,13 +1,14 @@
 -- What reads a text leaves one answer and one end state: numbers, linker_script, utf8, reading_tokens, reading_cursors, reading_matchers, reading_bodies,
 -- reading, reading_rows, input, desk_commands. Assumes nothing.
-use Prim.Native.Nat.{ℕ, _≤_}
+use Prim.Native.Nat.{ℕ}
 use mathlib.Core.Path.{_≡_, refl, sym, ap, _∙_}
 use mathlib.Core.List.{List}
-use lib.ListN.{length, take}
+use lib.ListN.{length}
 use lib.Seq.{length-take-le}
 use denote.Ref.{now}
 use Rattle.linker_script.specs.Trim.{trim-end}
 use Rattle.uniqueness.specs.Unique.{Unique, Unique-as}
+use Rattle.uniqueness.specs.Promises.{Trimmed}
 use Rattle.uniqueness.proofs.Same.{_▹_, same}
 use Rattle.numbers.proofs.edition_by
 use Rattle.linker_script.proofs.byte_at
@@ -63,7 +64,7 @@ pub last-close-unique : Unique last_close.ended last_close.Reads.Post
 last-close-unique κs a x y v w p q = (same p q, refl)
 
 -- its promise is of the part of the text that it leaves, which is as long as it says
-trimmed-long : (s : List ℕ) (r : ℕ) → (r ≤ length s) × (take r s ≡ trim-end s) → r ≡ length (trim-end s)
+trimmed-long : (s : List ℕ) (r : ℕ) → Trimmed s r → r ≡ length (trim-end s)
 trimmed-long s r e = sym (length-take-le r s (e .0)) ∙ ap length (e .1)
 
 pub trimmed-length-unique : Unique trimmed_length.ended trimmed_length.Reads.Post

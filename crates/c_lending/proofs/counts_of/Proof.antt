@@ -4,11 +4,17 @@ use Rattle.c_lending.proofs.Lending.{other-counts, six-counts}
 use Rattle.c_lending.proofs.counts_of.Statement.{statement}
 use Rattle.c_lending.proofs.counts_of.Tie as tie
 
+returns : tie.Need-returns
+returns c = search other-counts
+
+returns-2 : tie.Need-returns-2
+returns-2 c = search six-counts
+
 pub counts-of-spec : {M : Type 1} → statement M
 counts-of-spec =
     tie.close
     (tie.spec
-    (λ c. search other-counts)
+    returns
     (λ c. search needs) (λ c. search needs) (λ c. search needs) (λ c. search needs) (λ c. search needs)
     (λ c. search needs)
-    (λ c. search six-counts))
+    returns-2)

@@ -6,13 +6,19 @@ use Rattle.c_lending.proofs.Lending.{other-put, six-put}
 use Rattle.c_lending.proofs.put_counts.Statement.{statement}
 use Rattle.c_lending.proofs.put_counts.Tie as tie
 
+returns : tie.Need-returns
+returns c = search other-put
+
+returns-2 : tie.Need-returns-2
+returns-2 c = search six-put
+
 pub put-counts-spec : {M : Type 1} → statement M
 put-counts-spec =
     tie.close
     (tie.spec
-    (λ c. search other-put)
+    returns
     (λ c. search needs) (λ c. search needs) (λ c. search needs) (λ c. search needs)
     (λ c. simp length-set (omega arith))
     (λ c. simp length-set (omega arith))
     (λ c. search needs)
-    (λ c. search six-put))
+    returns-2)

@@ -1,9 +1,12 @@
 -- `take_line` meets its contract: the token is refused, no row is left, or the line is there. Assumes nothing.
 use borrow.Author.Needs.{needs}
 use native.Mathlib.Omega.{arith}
+use Prim.Native.Nat.{_-_, _*_}
 use mathlib.Core.List.{[]}
-use mathlib.Core.Path.{sym, _∙_}
+use mathlib.Core.Path.{_≡_, sym, _∙_}
 use borrow.Author.Tests.{not-true, not-false}
+use lib.Seq.{paste}
+use Rattle.book.specs.Layout.{line-width, row-of-line, standing-code}
 use Rattle.book_rooms.proofs.Putting.{room-limit}
 use Rattle.book_rooms.proofs.Rows.{row-number, row-within}
 use Rattle.book_building.proofs.LineEvents.{line-added, line-ends, line-refused, line-rowless}
@@ -23,7 +26,7 @@ returns c =
 code-of-requires : tie.Need-code-of-requires
 code-of-requires c κs =
     let p = c .before .before .before .before .before .before .before .before .before .before .before .before .before .before .before .before .before .pre in
-    (omega (arith, c .before .class-number .ensures, class-few (c .before .before .before .before .before .before .class .given .0 .0)), p .3, p .4)
+    (omega (arith, c .before .class-number .ensures, class-few (c .before .before .before .before .before .before .class .given .0 .0)), omega (arith, p .3), omega (arith, p .4))
 
 cast-put-line : tie.Need-cast-put-line
 cast-put-line c =
@@ -79,6 +82,26 @@ returns-2 c =
     (x .before .before .edition-of .result) (x .before .before .edition-of .ensures) (x .put-token .result) _
     (x .before .before .before .before .before .before .before .pre .0) (x .put-token .ensures) _ [] [] (c .before .no .given .1)
 
+-- the code has the section and the language of the line
+abbrev entry : tie.After-code-of → tie.Start
+entry c = c .before .before .before .before .before .before .before .before .before .before .before .before .before .before .before .before .before .before
+
+coded : (c : tie.After-code-of)
+    → let a = entry c .args in c .code-of .result ≡ standing-code (c .before .before .class-number .result) (a .section) (a .language)
+coded c = c .code-of .ensures
+
+-- the row stands behind the others
+abbrev told : tie.After-put-line → tie.After-code-of
+told c = c .before .before
+
+placed : (c : tie.After-put-line)
+    → let f = told c in
+    let a = entry f .args in
+    c .put-line .last .0
+    ≡ paste (a .lines .now) (line-width * a .g .lines)
+    (row-of-line (a .g .nodes - 1) (f .code-of .result) (a .g .pool) (f .before .before .before .before .before .before .before .class .given .0 .1 .0)) line-width
+placed c = c .put-line .ensures
+
 returns-3 : tie.Need-returns-3
 returns-3 c =
     let x = c .before .before .before .before .before .before .before .before .before .before .before .before .before .before .before .before .before in
@@ -90,8 +113,8 @@ returns-3 c =
     _ _ _ _ _ _ _ (i .before .before .before .before .class .given .1) (sym (i .before .has-row .ensures) ∙ not-false _ (i .if1 .left)) (omega arith)
     (omega arith)
     (c .before .before .before .before .before .before .before .before .class-number .ensures)
-    (c .before .before .before .before .before .before .code-of .ensures) (c .before .mixed-behind .ensures) (c .starred-behind .ensures)
-    (c .before .before .before .before .put-line .ensures)
+    (coded (c .before .before .before .before .before .before)) (c .before .mixed-behind .ensures) (c .starred-behind .ensures)
+    (placed (c .before .before .before .before))
 
 pub take-line-spec : {M : Type 1} → statement M
 take-line-spec =

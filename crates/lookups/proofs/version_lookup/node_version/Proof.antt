@@ -1,13 +1,16 @@
 -- `node_version` meets its contract. Assumes nothing.
+use mathlib.Core.Path.{ap, _∙_}
 use borrow.Author.Needs.{needs}
 use borrow.Author.Tests.{eq-eqb, ne-eqb}
-use Rattle.lookups.specs.Lookups.{node-version}
+use Rattle.lookups.specs.declared.answers.Version.the-variants as version
+use Rattle.lookups.specs.Lookups.{index-of, node-version}
 use Rattle.lookups.proofs.version_lookup.node_version.Statement.{statement}
 use Rattle.lookups.proofs.version_lookup.node_version.Tie as tie
 
 returns : tie.Need-returns
 unfolding node-version
-returns c = rw (ne-eqb _ _ (c .before .before .if1 .taken), c .from-node .ensures, c .before .of-row .ensures)
+returns c =
+    rw (ne-eqb _ _ (c .before .before .if1 .taken)) (ap version.Index (c .from-node .ensures ∙ ap index-of (c .before .of-row .ensures)))
 
 returns-2 : tie.Need-returns-2
 unfolding node-version

@@ -1,13 +1,16 @@
 -- `append` meets its contract: no row or no edit is left, the token is refused, or the line is there with its edit. Assumes nothing.
 use borrow.Author.Needs.{needs}
 use native.Mathlib.Omega.{arith}
-use Prim.Native.Nat.{_+_, _≤_}
+use Prim.Native.Nat.{_+_, _*_, _≤_}
 use mathlib.Core.Path.{_≡_, sym, _∙_}
+use mathlib.Core.List.{[], _∷_}
 use mathlib.Core.Bool.{true}
 use borrow.Author.Tests.{not-true, not-false}
+use lib.Seq.{paste}
 use Rattle.numbers.specs.Limits.{pool-limit}
 use Rattle.storing.specs.Keeping.{keep}
-use Rattle.book.specs.Layout.{Buffers, five}
+use Rattle.book.specs.Books.{add}
+use Rattle.book.specs.Layout.{Buffers, counts-with, edit-width, five, line-width, row-of-line, standing-code}
 use Rattle.book.specs.View.{book-of}
 use Rattle.book.proofs.Views.{Layout, laid-packs}
 use Rattle.book_rooms.specs.Rooms.{edit-row, fits-row}
@@ -70,7 +73,7 @@ returns-2 c =
 code-of-requires : tie.Need-code-of-requires
 code-of-requires c κs =
     let s = edited (roomy (put (c .before .before))) in
-    (omega (arith, c .class-number .ensures, class-few (c .before .before .class .given .0 .0)), s .pre .2, s .pre .3)
+    (omega (arith, c .class-number .ensures, class-few (c .before .before .class .given .0 .0)), omega (arith, s .pre .2), omega (arith, s .pre .3))
 
 put-line-requires : tie.Need-put-line-requires
 put-line-requires c κs =
@@ -115,16 +118,57 @@ same-length-8 c =
     let p = k .before .before .before .pool in
     search needs
 
+-- the code has the section and the language that are asked for
+abbrev classed : tie.After-code-of → tie.After-class
+classed c = c .before .before .before
+
+abbrev asked : tie.After-code-of → tie.Start
+asked c = edited (roomy (put (classed c)))
+
+coded : (c : tie.After-code-of) → let a = asked c .args in c .code-of .result ≡ standing-code (c .before .class-number .result) (a .section) (a .language)
+coded c = c .code-of .ensures
+
+-- the row stands behind the others
+abbrev told : tie.After-put-line → tie.After-code-of
+told c = c .before .before
+
+placed : (c : tie.After-put-line)
+    → let f = told c in
+    let a = asked f .args in
+    c .put-line .last .0
+    ≡ paste (a .lines .now) (line-width * a .c .lines) (row-of-line (a .node) (f .code-of .result) (a .c .pool) (classed f .class .given .0 .1 .0)) line-width
+placed c = c .put-line .ensures
+
+-- and its edit is an add of this line
+abbrev lined : tie.After-put-two → tie.After-put-line
+lined c = c .before .before .before .before
+
+noted : (c : tie.After-put-two)
+    → let a = asked (told (lined c)) .args in
+    c .put-two .last .0 ≡ paste (a .journal .now) (edit-width * a .c .edits) (add ∷ a .c .lines ∷ []) edit-width
+noted c = c .put-two .ensures
+
+-- both are counted, and so are the bytes
+abbrev journaled : tie.After-counts-with → tie.After-put-two
+journaled c = c .before .before .before .before .before .before
+
+counted : (c : tie.After-counts-with)
+    → let f = told (lined (journaled c)) in
+    let b = asked f .args .c in
+    c .counts-with .result ≡ counts-with b (b .lines + 1) (b .pool + classed f .class .given .0 .1 .0) (b .edits + 1)
+counted c = c .counts-with .ensures
+
 returns-4 : tie.Need-returns-4
 returns-4 c =
-    let d = c .before .before .before .before .before .before .before .before .before .before in
-    let k = d .before .before .before .before .before in
+    let j = journaled c in
+    let d = lined j in
+    let f = told d in
+    let k = classed f in
     let p = put k in
     append-made (layout (edited (roomy p))) _ _ _ _
     (p .before .before .before .edition-of .result) (p .before .before .before .edition-of .ensures) (p .put-token .result) _ (p .put-token .ensures)
     (row (rowed (roomy p))) (edit (roomy p)) _ _ _ _ _ _
-    (k .class .given .1) (d .before .before .before .class-number .ensures) (d .before .before .code-of .ensures) (d .put-line .ensures)
-    (c .before .before .before .before .before .before .put-two .ensures) _ (c .counts-with .ensures)
+    (k .class .given .1) (f .before .class-number .ensures) (coded f) (placed d) (noted j) _ (counted c)
 
 pub append-spec : {M : Type 1} → statement M
 append-spec =

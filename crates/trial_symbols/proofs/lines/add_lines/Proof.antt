@@ -2,6 +2,7 @@
 -- moves on in the text. Assumes nothing.
 use Prim.Native.Nat.{_+_, _-_}
 use borrow.Author.Needs.{needs}
+use native.Mathlib.Omega.{arith}
 use lib.ListN.{length}
 use Rattle.trial_symbols.proofs.AddedTexts.{
   Going,
@@ -44,7 +45,8 @@ returns c =
 clear-added-requires : tie.Need-clear-added-requires Inv-loop μ-loop
 clear-added-requires c κs =
     let x = c .before .before .before .before .before .before in
-    going-back (x .before .loop .inv) (x .next-event .ensures)
+    let h = going-back (x .before .loop .inv) (x .next-event .ensures) in
+    (omega (arith, h .0), omega (arith, h .1), omega (arith, h .2), omega (arith, h .3), omega (arith, h .4), omega (arith, h .5))
 
 returns-2 : tie.Need-returns-2 Inv-loop μ-loop
 returns-2 c =
@@ -65,7 +67,8 @@ clear-added-requires-2 c κs =
     let v = adding n in
     let e = event v in
     let x = e .before .before in
-    event-back (x .before .loop .inv) (x .next-event .ensures) (e .e .given .1) (v .add-event .ensures) (n .n2 .given .1)
+    let h = event-back (x .before .loop .inv) (x .next-event .ensures) (e .e .given .1) (v .add-event .ensures) (n .n2 .given .1) in
+    (omega (arith, h .0), omega (arith, h .1), omega (arith, h .2), omega (arith, h .3), omega (arith, h .4), omega (arith, h .5))
 
 same-length-7 : tie.Need-same-length-7 Inv-loop μ-loop
 same-length-7 c =
