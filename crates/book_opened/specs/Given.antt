@@ -46,7 +46,8 @@ pub record Names-given (t : List ℕ) : Type 0 where
   pub accepted : name-good t ≡ true → Name-given t
   pub given : Name-given t → name-good t ≡ true
 
--- ---- a parent p of node i that 14 accepts, and one that a reading gives, are the same: "it equals an earlier node's name, the first such"
+-- ---- a parent p of node i that 14 accepts is an earlier node, the first of its name, of a name that a reading gives a node of node i's name as its
+-- parent's, and each such one is accepted: "it equals an earlier node's name, the first such". Of the other nodes nothing is asked, as of names
 pub record Parent-stands (all : List book.Node) (i p : ℕ) : Type 0 where
   pub earlier : p < i
   pub first : first-named all 0 (name-at all p) ≡ some p

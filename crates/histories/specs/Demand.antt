@@ -78,7 +78,7 @@ pub record Holds (b : Buffers) (w : Book) (y : Lent) (d : Desk) : Type 0 where
   -- "and undoing every edit since the opening, or since the last settle that dropped a line, brings back each lent byte of that moment", and each count:
   -- `Undone-all` and `Brought-back` say it of the lent counts and buffers at both times
   pub undone : run y (undos (length (d .earlier))) ≡ lent-book b (with-lines w (d .moment))
-  -- an add is done wherever the lines and the journal leave room
+  -- an add that may stand, of a token that is kept, is done wherever the lines and the journal leave room
   pub added : (node section language : ℕ) (t bs : List ℕ) (k : Class)
       → may-stand w node section language ≡ true → keep (edition-of (book-frame w)) (trim-end t) ≡ kept k bs
       → line-room b (d .lines) bs ≡ true → edit-room b edits ≡ true
@@ -107,8 +107,8 @@ Demand-3 =
 
 -- ---- what follows of it
 -- "A settle frees every struck line's room for later adds": behind one the lines are those that stood, and where it dropped a line there is no edit. So
--- `Demand-3` says of `ks ++ settles ∷ []` that these lines are held, and that an add is done wherever they and the journal leave room; and of what goes on
--- behind it, the same of later adds
+-- `Demand-3` says of `ks ++ settles ∷ []` that these lines are held, and that an add (of a token that is kept, in its place) is done wherever they and the
+-- journal leave room; and of what goes on behind it, the same of later adds
 abbrev pub Freed : Type 0
 Freed =
     (how : How) (b : Buffers) (s : List ℕ) (w : Book) (ks : List Call)

@@ -69,7 +69,8 @@ Demand-3-of I =
     → (fs : List (I .Edit-run)) (y : I .Holding) → In-turn I (I .opens o .left) fs y
     → Demanded I o (a .book) fs y
 
--- "A settle frees every struck line's room for later adds": behind one the desk's lines are those that stood, and where it dropped a line there is no edit
+-- "A settle frees every struck line's room for later adds": behind one the desk's lines are those that stood, and where it dropped a line there is no edit.
+-- What room they then leave, and that an add is done there, `Demand-3-of` says of the same edits: `added` of `holds`, and `answers`
 abbrev pub Freed-of : Interface → Type 0
 Freed-of I =
     (o : I .Opening-run) (a : Accepted I o) → eqb (a .book .kind) rust ≡ false

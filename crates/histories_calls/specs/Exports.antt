@@ -1,5 +1,5 @@
--- The exported functions, as a C, C++ or Rust program calls them (include/tunoyaket.h): the counts are six numbers in a buffer like the other five, an edit
--- writes them, and a question writes its value into a buffer. Assumes nothing.
+-- The exported functions that open, edit and look up, as a C, C++ or Rust program calls them (include/tunoyaket.h): the counts are six numbers in a buffer
+-- like the other five, an edit writes them, and a question writes its value into a buffer. Assumes nothing.
 use Prim.Native.Nat.{ℕ}
 use mathlib.Core.List.{List}
 use denote.Ref.{now}

@@ -15,8 +15,9 @@ use Rattle.export_list.specs.declared.Membership.{Membership}
 use Rattle.uniqueness.specs.Unique.{Promise}
 use Rattle.histories.specs.Histories.{Call, Lent, Told}
 
--- a run that keeps the promise P: what it is given, what it answers, and what its parameters last are. Each function is proved to keep its own promise and has
--- no `requires`, so each of its runs is such a one
+-- a run that keeps the promise P: what it is given, what it answers, and what its parameters last are. Each function has no `requires` and is proved, in its
+-- own crate and of every run of its code, to keep its promise: so each of its runs is such a one. That step is the meaning of a proved function, and no
+-- theorem here
 pub record Run-of (T : Ended) (P : Promise T) : Type 0 where
   pub lifetimes : Lfts (T .signature .lifetimes)
   pub given : Args (T .signature) lifetimes

@@ -1,2 +1,2 @@
-// Demand 3 of the functions themselves, those of the library and those that it exports: theorems from what each of them promises, and no code. Statements:
-// specs/Functions.antt, specs/Exports.antt.
+// Demand 3 of the functions themselves, of the library's and of the exported ones those that open, edit and look up: theorems from what each of them promises,
+// and no code. Statements: specs/Demands.antt, of the functions in specs/Functions.antt and specs/Exports.antt.

@@ -52,8 +52,8 @@ pub data Token : Type 0 where
   bare-token : Token
   bare-extern-token : Token
 
--- whether the token at p goes to `}`, else to `;`: "when the remaining text has no `};`, or has one with no `;` before it"; "An extern block there differs in
--- one point: with no `};` left, tokens go to `;`."
+-- whether the token at p goes to `}`, or with `without_semicolon` to the text's end where there is none; else to `;`: "when the remaining text has no `};`,
+-- or has one with no `;` before it"; "An extern block there differs in one point: with no `};` left, tokens go to `;`."
 abbrev pub to-closing : Edition → Token → List ℕ → ℕ → Bool
 to-closing x plain-token s p = false
 to-closing x extern-token s p = brace-next x s p
