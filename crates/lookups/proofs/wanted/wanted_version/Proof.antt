@@ -4,10 +4,13 @@ use Rattle.lookups.proofs.LastNamed.{wanted-empty, wanted-known}
 use Rattle.lookups.proofs.wanted.wanted_version.Statement.{statement}
 use Rattle.lookups.proofs.wanted.wanted_version.Tie as tie
 
+returns : tie.Need-returns
+returns c = search wanted-empty
+
 pub wanted-version-spec : {M : Type 1} → statement M
 wanted-version-spec =
     tie.close
     (tie.spec
-    (λ c. search wanted-empty)
+    returns
     (λ c κs. search needs)
     (λ c. search wanted-known))

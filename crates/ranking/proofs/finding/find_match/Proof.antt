@@ -15,6 +15,9 @@ abbrev μ-loop : tie.MeasureT-loop
 loop-again-2 : tie.Need-loop-again-2 Inv-loop μ-loop
 loop-again-2 c = search seek-better
 
+returns : tie.Need-returns Inv-loop μ-loop
+returns c = search seek-nothing
+
 returns-2 : tie.Need-returns-2 Inv-loop μ-loop
 returns-2 c = search seek-line
 
@@ -36,5 +39,5 @@ find-match-spec =
     loop-again-2
     (λ c. search needs)
     (λ c. search seek-other)
-    (λ c. search seek-nothing)
+    returns
     returns-2)
