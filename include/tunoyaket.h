@@ -172,8 +172,8 @@ extern "C" {
  * 2 * counts[5] numbers of `journal`. Copy at least these, zeros among them too, and fill what is
  * longer with zeros. */
 
-/* Enough for every book within the limits. Names have no limit of their own: those of a script are
- * shorter than it. */
+/* Enough for every book that a text opens as, and what edits make of it. Names have no limit of
+ * their own: those of a script are shorter than it. */
 #define TUNO_NODES_ROOM (TUNO_NODE_WIDTH * TUNO_NODE_LIMIT)
 #define TUNO_NAMES_ROOM TUNO_SCRIPT_LIMIT
 #define TUNO_LINES_ROOM (TUNO_LINE_WIDTH * TUNO_LINE_LIMIT)
