@@ -37,7 +37,7 @@ use Rattle.histories.specs.Demand.{Brought-back, Demand-3, Freed, Holds,
 use Rattle.histories.specs.Demand.{all-room, desk-behind, lent-behind, lent-book, lent-opening, lines-kept}
 use Rattle.trial.proofs.Standing.{standing-same}
 use Rattle.histories.proofs.Asked.{asked-locality, asked-member, asked-version, book-with}
-use Rattle.histories.proofs.Trails.{Trail, begins, goes, trail-length}
+use Rattle.histories.proofs.Trails.{Trail, begins, goes, trail-desk, trail-length}
 use Rattle.histories.proofs.Calls.{Held, rooms, seen, undo-is}
 use Rattle.histories.proofs.EachCall.{held-run}
 use Rattle.histories.proofs.SymbolRooms.{events-done}
@@ -158,11 +158,12 @@ module _ (b : Buffers) (w : Book) (k : eqb (w .kind) rust ≡ false) (d : Desk) 
   settled-empty e = rw e
 
   -- ---- the demand, of what is held
-  holds : Holds b w x d
+  pub holds : Holds b w x d
   holds = record {
     edits = h .edits;
     held = seen b w d x h;
     undoable = trail-length (h .sound .trail);
+    same-desk = trail-desk (h .sound .trail);
     version = λ n v. rw (seen b w d x h) (asked-version w (d .lines) (h .edits) n k v);
     locality = λ n. rw (seen b w d x h) (asked-locality w (d .lines) (h .edits) n k);
     member = λ n. rw (seen b w d x h) (asked-member w (d .lines) (h .edits) n);

@@ -9,4 +9,5 @@ pub mod EachCall
 pub mod SymbolRooms
 pub mod Counted
 pub mod Demand
+pub mod Resumed
 pub mod KnownHistories

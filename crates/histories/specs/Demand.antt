@@ -33,7 +33,7 @@ use Rattle.export_list.specs.Membership.{contains-asked}
 use Rattle.trial.specs.Trial.{may-stand, standing}
 use Rattle.trial.specs.Symbols.{symbol-place}
 use Rattle.histories.specs.Histories.{Call, adds, adds-symbol, settles, strikes, Lent, Desk, answer, desk-at, history, leads, run, undos}
-use Rattle.histories.specs.Histories.{edits-left, nothing-dropped, on-line}
+use Rattle.histories.specs.Histories.{desk-of-book, edits-left, nothing-dropped, on-line}
 
 -- a book laid out in buffers with the rooms of b, with its counts
 abbrev pub lent-book : Buffers → Book → Lent
@@ -64,12 +64,13 @@ all-room b ls es [] = true
 all-room b ls es (x ∷ xs) =
     line-room b ls (x .bytes) && (edit-room b es && all-room b (ls ++ x ∷ []) (es ++ record { what = add; line = length ls } ∷ []) xs)
 
--- ---- the book w as it was opened in buffers with the rooms of b, and what a history leaves: the lent counts and buffers y, and the desk d
+-- ---- the book w as it was opened or lent in buffers with the rooms of b, and what a history leaves: the lent counts and buffers y, and the desk d
 pub record Holds (b : Buffers) (w : Book) (y : Lent) (d : Desk) : Type 0 where
-  -- they hold the opened book's kind and nodes with the desk's lines, and one edit for each undo that there can be
+  -- they hold that book's kind and nodes with the desk's lines, one edit for each undo that there can be, and the desk is the one that this book has
   pub edits : List Edit
   pub held : view (y .counts) (y .buffers) ≡ some (record { kind = w .kind; nodes = w .nodes; lines = d .lines; edits = edits })
   pub undoable : length edits ≡ length (d .earlier)
+  pub same-desk : desk-of-book (record { kind = w .kind; nodes = w .nodes; lines = d .lines; edits = edits }) ≡ d
   -- "each lookup answers by demand 2's ranking over exactly the lines that the history leaves standing"
   pub version : (n : Name) (v : Option (List ℕ))
       → version-asked (view (y .counts) (y .buffers)) n v ≡ version-asked (some (with-lines w (standing (d .lines)))) n v

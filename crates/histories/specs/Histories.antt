@@ -3,6 +3,7 @@
 use Prim.Native.Nat.{ℕ, zero, suc, _+_, _-_}
 use mathlib.Core.List.{List, [], _∷_, _++_}
 use mathlib.Core.Bool.{Bool, true, false, cond, not, _&&_}
+use mathlib.Core.Option.{Option, some, none}
 use lib.Dec.{eqb}
 use Rattle.linker_script.specs.Parts.{part}
 use Rattle.numbers.specs.Editions.{reld}
@@ -16,8 +17,8 @@ use Rattle.reading_cursors.specs.declared.Event.{Event}
 use Rattle.reading_cursors.specs.declared.Event.the-variants as event
 use Rattle.reading.specs.Events.{reading}
 use Rattle.book.specs.declared.Counts.{Counts}
-use Rattle.book.specs.Books.{Line, new-line}
-use Rattle.book.specs.Edits.{marked-at, stands}
+use Rattle.book.specs.Books.{Book, Edit, Line, new-line}
+use Rattle.book.specs.Edits.{all-back, marked-at, stands}
 use Rattle.book.specs.Layout.{Buffers}
 use Rattle.book.specs.View.{view}
 use Rattle.trial.specs.Changes.{Change, after, counts-after, edit-refusal, edited}
@@ -75,6 +76,20 @@ pub record Desk : Type 0 where
 -- at an opening, and behind a settle that dropped a line
 abbrev pub desk-at : List Line → Desk
 desk-at ls = record { moment = ls; earlier = []; lines = ls }
+
+-- the lines that edits taken back lead to. A book's journal leads to some: one that does not is refused with 14 (`journal-fits`)
+abbrev pub led-back : Option (List Line) → List Line
+led-back (some ls) = ls
+led-back none = []
+
+-- the lines before each of these edits, the latest first
+unfoldable pub earlier-lines : List Edit → List Line → List (List Line)
+earlier-lines [] ls = []
+earlier-lines (e ∷ es) ls = earlier-lines es ls ++ led-back (all-back (e ∷ es) ls) ∷ []
+
+-- at any book, by its journal. It depends on the book alone, so in other rooms the same book has the same desk
+unfoldable pub desk-of-book : Book → Desk
+desk-of-book w = record { moment = led-back (all-back (w .edits) (w .lines)); earlier = earlier-lines (w .edits) (w .lines); lines = w .lines }
 
 abbrev pub edited-to : Desk → List Line → Desk
 edited-to d ls = record { moment = d .moment; earlier = d .lines ∷ d .earlier; lines = ls }

@@ -1,3 +1,4 @@
 pub mod Histories
 pub mod Demand
+pub mod Resumed
 pub mod KnownHistories

@@ -22,12 +22,12 @@ use Rattle.c_lending.specs.Calls as calls
 use Rattle.histories.specs.Histories.{Lent, answer, change, lent-after}
 use Rattle.histories.specs.Demand.{lent-book}
 use Rattle.histories_calls.specs.Interfaces.{Seen-edit}
-use Rattle.histories_calls.specs.Demands.{Accepted, As-said, Brought-back-of, Demand-3-of, Freed-of, Runs-as-said, Undone-all-of}
+use Rattle.histories_calls.specs.Demands.{Accepted, As-said, Brought-back-of, Demand-3-of, Freed-of, Moved-on-of, Resumed-of, Runs-as-said, Undone-all-of}
 use Rattle.histories_calls.specs.Exports.{Six, Opening-run, script, list, edits, exports, in-six}
 use Rattle.histories_calls.specs.Exports.{Edit-run, add-run, strike-run, undo-run, settle-run, add-symbol-run}
 use Rattle.histories_calls.specs.Exports as the
 use Rattle.histories_calls.proofs.Openings.{opened-book}
-use Rattle.histories_calls.proofs.Following.{brought-back-of, demand-3-of, freed-of, runs-as-said, undone-all-of}
+use Rattle.histories_calls.proofs.Following.{brought-back-of, demand-3-of, freed-of, moved-on-of, resumed-of, runs-as-said, undone-all-of}
 
 -- ---- an opening that answers 0 was lent six numbers, and leaves the book that it opens
 opened-with : (how : How) (l : List ℕ) (b : Buffers) (s : List ℕ) → opening-told (opening-with how l b s) ≡ 0 → opening-with how l b s ≡ opening how b s
@@ -128,6 +128,12 @@ exports-runs = runs-as-said exports exports-said
 
 pub exports-demand-3 : Demand-3-of exports
 exports-demand-3 = demand-3-of exports exports-said
+
+pub exports-resumed : Resumed-of exports
+exports-resumed = resumed-of exports exports-said
+
+pub exports-moved-on : Moved-on-of exports
+exports-moved-on = moved-on-of exports exports-said
 
 pub exports-freed : Freed-of exports
 exports-freed = freed-of exports exports-said

@@ -10,15 +10,18 @@ use Rattle.numbers.specs.declared.Edition.{Edition}
 use Rattle.lists.specs.Each.{every}
 use Rattle.book.specs.Books.{Book, book-frame, edition-of, rust}
 use Rattle.book.specs.Edits.{stands}
+use Rattle.book.specs.Layout.{Buffers}
 use Rattle.book_opening.specs.Opening.{opens, opening}
 use Rattle.trial.specs.Trial.{standing}
-use Rattle.histories.specs.Histories.{Call, settles, Desk, Lent, desk-at, edits-left, follow, history, leads, lent-after, nothing-dropped, run, undos}
+use Rattle.histories.specs.Histories.{Call, settles, Desk, Lent, Told, desk-at, desk-of-book, edits-left, follow, history, leads, lent-after, nothing-dropped, run, undos}
 use Rattle.histories.specs.Demand.{Holds, desk-behind, lent-behind, lent-opening}
+use Rattle.histories.specs.Resumed.{desk-from, in-rooms}
 use Rattle.histories.proofs.Counted.{leads-on, run-on}
 use Rattle.histories.proofs.Demand.{brought-back, demand-3, freed, lent-opened, undone-all}
+use Rattle.histories.proofs.Resumed.{moved-on, resumed}
 use Rattle.histories_calls.specs.Interfaces.{Interface, In-turn, calls, tellings}
-use Rattle.histories_calls.specs.Demands.{Accepted, As-said, Demanded, Undoing, desk-of}
-use Rattle.histories_calls.specs.Demands.{Brought-back-of, Demand-3-of, Freed-of, Runs-as-said, Undone-all-of}
+use Rattle.histories_calls.specs.Demands.{Accepted, As-said, Demanded, Undoing, desk-after, desk-of}
+use Rattle.histories_calls.specs.Demands.{Brought-back-of, Demand-3-of, Freed-of, Moved-on-of, Resumed-of, Runs-as-said, Undone-all-of}
 
 -- ---- runs behind runs
 module _ (I : Interface) where
@@ -49,6 +52,39 @@ module _ (I : Interface) (said : As-said I) where
       let r = runs-as-said (lent-after x k) fs y (subst (λ (z : I .Holding). In-turn I z fs y) (s .1) (p .1)) in
       (λ i. record { call = k; number = s .0 i } ∷ r .0 i, r .1)
 
+  -- what holds of a history holds of the calls that have it
+  demanded-from : (b : Buffers) (w : Book) (d : Desk) (x : Lent) (fs : List (I .Edit-run)) (y : I .Holding) → In-turn I (I .holding x) fs y
+      → Holds b w (run x (calls I fs)) (leads (edition-of (book-frame w)) d (history x (calls I fs))) → Demanded I b w (desk-after I w d fs) y
+  demanded-from b w d x fs y p g =
+      let r = runs-as-said x fs y p in
+      let l : Lent = run x (calls I fs) in
+      let h : Holds b w l (desk-after I w d fs) = subst (Holds b w l) (sym (ap (leads (edition-of (book-frame w)) d) (r .0))) g in
+      record {
+        lent = l;
+        held = r .1;
+        holds = h;
+        answers = λ f q. said .edit-said f l (q ∙ r .1) .0;
+        version = λ f q. subst (I .version f .answers) (h .version (I .version f .asked .0) (I .version f .asked .1)) (said .version-said f l (q ∙ r .1));
+        locality = λ f q. subst (I .locality f .answers) (h .locality (I .locality f .asked)) (said .locality-said f l (q ∙ r .1));
+        member = λ f q. subst (I .member f .answers) (h .member (I .member f .asked)) (said .member-said f l (q ∙ r .1));
+        undone = λ us v q c. runs-as-said l us v (subst (λ (z : I .Holding). In-turn I z us v) (r .1) q) .1
+            ∙ ap (λ (i : List Call). I .holding (run l i)) c
+            ∙ ap (I .holding) (h .undone);
+      }
+
+  pub resumed-of : Resumed-of I
+  resumed-of x w v k fs y p = demanded-from (x .buffers) w (desk-of-book w) x fs y p (resumed x w (calls I fs) v k)
+
+  pub moved-on-of : Moved-on-of I
+  moved-on-of x w v k fs y p b′ t gs z q =
+      let r = runs-as-said x fs y p in
+      let l : Lent = in-rooms (run x (calls I fs)) b′ in
+      let d : Desk = desk-after I w (desk-of-book w) fs in
+      let h : Holds b′ w (run l (calls I gs)) (desk-from w d l (calls I gs))
+      = subst (λ (i : List Told). Holds b′ w (run l (calls I gs)) (desk-from w (leads (edition-of (book-frame w)) (desk-of-book w) i) l (calls I gs)))
+      (sym (r .0)) (moved-on x w (calls I fs) b′ (calls I gs) v k t) in
+      demanded-from b′ w d l gs z q h
+
   module _ (o : I .Opening-run) (a : Accepted I o) (k : eqb (a .book .kind) rust ≡ false) where
     abbrev w : Book
     w = a .book
@@ -76,21 +112,11 @@ module _ (I : Interface) (said : As-said I) where
       desk-same : desk-of I w fs ≡ desk (calls I fs)
       desk-same = ap (leads e (desk-at (w .lines))) (runs .0)
 
-      demanded : Demanded I o w fs y
+      demanded : Demanded I (I .opens o .buffers) w (desk-of I w fs) y
       demanded =
-          let d = demand-3 (I .opens o .how) (I .opens o .buffers) (I .opens o .text) w (calls I fs) (a .placed) (a .opened) k in
-          let h : Holds (I .opens o .buffers) w (behind (calls I fs)) (desk-of I w fs)
-          = subst (Holds (I .opens o .buffers) w (behind (calls I fs))) (sym desk-same) d in
-          record {
-            lent = behind (calls I fs);
-            held = runs .1;
-            holds = h;
-            answers = λ f q. said .edit-said f (behind (calls I fs)) (q ∙ runs .1) .0;
-            version = λ f q. subst (I .version f .answers) (h .version (I .version f .asked .0) (I .version f .asked .1))
-                (said .version-said f (behind (calls I fs)) (q ∙ runs .1));
-            locality = λ f q. subst (I .locality f .answers) (h .locality (I .locality f .asked)) (said .locality-said f (behind (calls I fs)) (q ∙ runs .1));
-            member = λ f q. subst (I .member f .answers) (h .member (I .member f .asked)) (said .member-said f (behind (calls I fs)) (q ∙ runs .1));
-          }
+          let p′ = subst (λ (z : I .Holding). In-turn I z fs y) opened-left p in
+          demanded-from (I .opens o .buffers) w (desk-at (w .lines)) x fs y p′
+          (demand-3 (I .opens o .how) (I .opens o .buffers) (I .opens o .text) w (calls I fs) (a .placed) (a .opened) k)
 
     -- edits, edits behind them, and undos
     module _ (fs gs us : List (I .Edit-run)) (y z v : I .Holding) (u : Undoing I o w fs gs us y z v) where

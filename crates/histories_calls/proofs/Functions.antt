@@ -17,12 +17,12 @@ use Rattle.trial.specs.Changes.{Change, to, no, Leaves, after, counts-after, ed
 use Rattle.histories.specs.Histories.{Call, settles, undoes, Lent, answer, change, lent-after}
 use Rattle.histories.specs.Demand.{lent-book}
 use Rattle.histories_calls.specs.Interfaces.{Seen-edit}
-use Rattle.histories_calls.specs.Demands.{Accepted, As-said, Brought-back-of, Demand-3-of, Freed-of, Runs-as-said, Undone-all-of}
+use Rattle.histories_calls.specs.Demands.{Accepted, As-said, Brought-back-of, Demand-3-of, Freed-of, Moved-on-of, Resumed-of, Runs-as-said, Undone-all-of}
 use Rattle.histories_calls.specs.Functions.{Opening-run, script, list, counts-behind, edits, library, edit-seen}
 use Rattle.histories_calls.specs.Functions.{Edit-run, add-run, strike-run, undo-run, undo-latest-run, settle-run, add-symbol-run}
 use Rattle.histories_calls.specs.Functions as functions
 use Rattle.histories_calls.proofs.Openings.{opened-book}
-use Rattle.histories_calls.proofs.Following.{brought-back-of, demand-3-of, freed-of, runs-as-said, undone-all-of}
+use Rattle.histories_calls.proofs.Following.{brought-back-of, demand-3-of, freed-of, moved-on-of, resumed-of, runs-as-said, undone-all-of}
 
 -- ---- an opening that answers 0 leaves the book that it opens
 opened-left : (b : Buffers) (o : Opening) (w : Book) → o ≡ opens w → (r : Opened) (b′ : Buffers) → r ≡ told o → b′ ≡ left b o
@@ -91,6 +91,12 @@ library-runs = runs-as-said library library-said
 
 pub library-demand-3 : Demand-3-of library
 library-demand-3 = demand-3-of library library-said
+
+pub library-resumed : Resumed-of library
+library-resumed = resumed-of library library-said
+
+pub library-moved-on : Moved-on-of library
+library-moved-on = moved-on-of library library-said
 
 pub library-freed : Freed-of library
 library-freed = freed-of library library-said
