@@ -1,3 +1,4 @@
 pub mod Bytes
 pub mod Places
 pub mod BracketExits
+pub mod Runs

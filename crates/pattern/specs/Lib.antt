@@ -1,3 +1,4 @@
 pub mod Patterns
 pub mod Storing
+pub mod Runs
 pub mod Post
