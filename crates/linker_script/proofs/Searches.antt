@@ -88,8 +88,8 @@ module _ (t : Test) (s : List ℕ) (q : ℕ) where
   first-search zero p h e = absurd (omega (arith, found-within p e))
   first-search (suc n) p h e = first-turn p e (first-search n (p + 1) (omega arith)) (passes t s p) refl
 
-pub first-within : (t : Test) (s : List ℕ) (p q : ℕ) → first-from t s p ≡ Here q → First t s p q
-first-within t s p q e = first-search t s q (length s - p) p (omega arith) e
+pub first-within : {t : Test} {s : List ℕ} {p q : ℕ} → first-from t s p ≡ Here q → First t s p q
+first-within {t} {s} {p} {q} e = first-search t s q (length s - p) p (omega arith) e
 
 -- ---- the loops of `find` and `find_pair`: what is found from i on decides
 module _ (s : List ℕ) (x at i : ℕ) (inv : first-from (is x) s at ≡ first-from (is x) s i) where

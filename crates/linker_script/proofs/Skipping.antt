@@ -70,7 +70,7 @@ and-right false u e = let z : _≡_ {A = ℕ} 0 1 = cc in absurd (omega arith)
 
 pair-within : (s : List ℕ) (p q x y : ℕ) → 0 < y → first-from (are x y) s p ≡ Here q → (p ≤ q) × (q + 1 < length s)
 pair-within s p q x y h e =
-    let f = first-within (are x y) s p q e in
+    let f = first-within e in
     let z = eqb-true (getD s (q + 1) 0) y (and-right (eqb (getD s q 0) x) (eqb (getD s (q + 1) 0) y) (f .holds)) in
     (f .onward, byte-within s (q + 1) (omega arith))
 
@@ -96,7 +96,7 @@ module _ (x : Edition) (s : List ℕ) (at i : ℕ) (inv : skip x s at ≡ skip x
       module _ (k : getD s i 0 ≡ hash) (f : Found) (g : f ≡ first-from (is line-feed) s (i + 1)) where
         pub past-line : (q : ℕ) → f ≡ Here q → skip x s at ≡ skip x s (q + 1)
         past-line q m =
-            let r = first-within (is line-feed) s (i + 1) q (sym g ∙ m) in
+            let r = first-within (sym g ∙ m) in
             let a = line-move x s i (sym e ∙ n) k in
             inv ∙ skip-to x s i h (q + 0 - i) (q + 1) (a ∙ rw (← g, m)) (omega (arith, r .onward)) (omega (arith, r .within))
 
@@ -122,7 +122,7 @@ module _ (x : Edition) (s : List ℕ) (at i : ℕ) (inv : skip x s at ≡ skip x
 module _ (s : List ℕ) (i q : ℕ) (f : Found) (m : f ≡ Here q) where
   module _ (t : Test) (d : ℕ) (g : f ≡ first-from t s (i + d)) where
     line-found : First t s (i + d) q
-    line-found = first-within t s (i + d) q (sym g ∙ m)
+    line-found = first-within (sym g ∙ m)
 
     pub line-fits : Fits w64 (length s) → Fits w64 (q + 1)
     line-fits n = omega (arith, line-found .within)
@@ -162,7 +162,7 @@ module _ (x : Edition) (s : List ℕ) (p : ℕ) (h : p < length s) where
   module _ (n : false ≡ blank (getD s p 0)) where
     step-line : getD s p 0 ≡ hash → (f : Found) → f ≡ first-from (is line-feed) s (p + 1) → Step x s p
     step-line k (Here q) g =
-        let r = first-within (is line-feed) s (p + 1) q (sym g) in
+        let r = first-within (sym g) in
         goes (q + 1) (omega (arith, r .onward)) (omega (arith, r .within)) (past-line x s p p refl h false n refl k (Here q) g q refl)
     step-line k Nowhere g = opens (sym (line-opens x s p p refl h false n refl k Nowhere g refl))
 
