@@ -195,41 +195,28 @@ step : (x : Edition) (s : List ℕ) (p : ℕ) → Dec (p < length s) → Step x 
 step x s p (yes h) = step-inside x s p h (blank (getD s p 0)) refl
 step x s p (no h) = step-outside x s p (omega arith)
 
-record Ended (x : Edition) (s : List ℕ) (p q : ℕ) : Type 0 where
-  onward : p ≤ q
-  within : p ≤ length s → q ≤ length s
-  again : skip x s q ≡ At q
-  stopped : Stopped s q
+-- a skip from p ends at q
+pub record Ended (x : Edition) (s : List ℕ) (p q : ℕ) : Type 0 where
+  pub onward : p ≤ q
+  pub within : p ≤ length s → q ≤ length s
+  pub again : skip x s q ≡ At q
+  pub stopped : Stopped s q
 
 module _ (x : Edition) (s : List ℕ) (q : ℕ) where
-  turn : (p : ℕ) → skip x s p ≡ At q → ((r : ℕ) → p < r → r ≤ length s → skip x s r ≡ At q → Ended x s r q) → Step x s p
-      → Ended x s p q
-  turn p e on (stays f g) =
+  turn : {p : ℕ} → skip x s p ≡ At q → ((r : ℕ) → p < r → r ≤ length s → skip x s r ≡ At q → Ended x s r q) → Step x s p → Ended x s p q
+  turn {p} e on (stays f g) =
       let z : p ≡ q = cc in
       record { onward = omega arith; within = λ l. omega arith; again = rw z at e; stopped = rw z at g }
-  turn p e on (goes r a b f) =
+  turn e on (goes r a b f) =
       let n = on r a b (sym f ∙ e) in
       record { onward = omega (arith, n .onward); within = λ l. n .within b; again = n .again; stopped = n .stopped }
-  turn p e on (opens f) =
+  turn e on (opens f) =
       let z : _≡_ {A = ℕ} 0 1 = cc in
       absurd (omega arith)
 
   ended-in : (n p : ℕ) → length s - p ≤ n → skip x s p ≡ At q → Ended x s p q
-  ended-in zero p h e = turn p e (λ r a b f. absurd (omega arith)) (step x s p (decLt p (length s)))
-  ended-in (suc n) p h e = turn p e (λ r a b f. ended-in n r (omega arith) f) (step x s p (decLt p (length s)))
+  ended-in zero p h e = turn e (λ r a b f. absurd (omega arith)) (step x s p (decLt p (length s)))
+  ended-in (suc n) p h e = turn e (λ r a b f. ended-in n r (omega arith) f) (step x s p (decLt p (length s)))
 
-module _ (x : Edition) (s : List ℕ) (p q : ℕ) (e : skip x s p ≡ At q) where
-  ended : Ended x s p q
-  ended = ended-in x s q (length s - p) p (omega arith) e
-
-  pub skip-onward : p ≤ q
-  skip-onward = ended .onward
-
-  pub skip-within : p ≤ length s → q ≤ length s
-  skip-within = ended .within
-
-  pub skip-again : skip x s q ≡ At q
-  skip-again = ended .again
-
-  pub skip-stops : Stopped s q
-  skip-stops = ended .stopped
+pub skip-ended : {x : Edition} {s : List ℕ} {p q : ℕ} → skip x s p ≡ At q → Ended x s p q
+skip-ended {x} {s} {p} {q} e = ended-in x s q (length s - p) p (omega arith) e
