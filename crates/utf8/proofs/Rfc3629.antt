@@ -51,9 +51,9 @@ encode-first : (c : ℕ) (s : List ℕ) → scalar c ≡ true → First c (encod
 unfolding encode read
 encode-first c s i =
     below Is c 0x80 (λ h. first c 0 c s (starts-one c _ _ _ h))
-    (λ k. below Is c 0x800 (λ h. first c 1 _ _ (starts-two _ _ _ _ c (to-two c k h)))
-    (λ l. below Is c 0x10000 (λ h. first c 2 _ _ (starts-three _ _ _ _ c (to-three c l h i)))
-    (λ m. first c 3 _ _ (starts-four _ _ _ _ c (to-four c m (scalar-high c i))))))
+    (λ k. below Is c 0x800 (λ h. first c 1 _ _ (starts-two _ _ (to-two c k h)))
+    (λ l. below Is c 0x10000 (λ h. first c 2 _ _ (starts-three _ (to-three c l h i)))
+    (λ m. first c 3 _ _ (starts-four (to-four c m (scalar-high c i))))))
   where
     Is : List ℕ → Type 0
     Is t = First c (t ++ s) s
@@ -83,18 +83,18 @@ from-one : (c : ℕ) → c < 0x80 → encode c ≡ c ∷ []
 unfolding encode
 from-one c h = rw (lt-ltb c 0x80 h)
 
-from-two : (a b v : ℕ) → Two a b v → encode v ≡ a ∷ b ∷ []
+from-two : {a b v : ℕ} → Two a b v → encode v ≡ a ∷ b ∷ []
 unfolding encode
-from-two a b v t =
+from-two {a} {b} {v} t =
     let l : 0x80 ≤ v = omega arith in
     let h : v < 0x800 = omega arith in
     let p : 0xC0 + v / 0x40 ≡ a = omega arith in
     let q : 0x80 + v % 0x40 ≡ b = omega arith in
     simp (le-ltb, lt-ltb, p, q)
 
-from-three : (a b c v : ℕ) → Three a b c v → encode v ≡ a ∷ b ∷ c ∷ []
+from-three : {a b c v : ℕ} → Three a b c v → encode v ≡ a ∷ b ∷ c ∷ []
 unfolding encode
-from-three a b c v t =
+from-three {a} {b} {c} {v} t =
     let k : 0x80 ≤ v = omega arith in
     let l : 0x800 ≤ v = omega arith in
     let h : v < 0x10000 = omega arith in
@@ -103,9 +103,9 @@ from-three a b c v t =
     let r : 0x80 + v % 0x40 ≡ c = omega arith in
     simp (le-ltb, lt-ltb, p, q, r)
 
-from-four : (a b c d v : ℕ) → Four a b c d v → encode v ≡ a ∷ b ∷ c ∷ d ∷ []
+from-four : {a b c d v : ℕ} → Four a b c d v → encode v ≡ a ∷ b ∷ c ∷ d ∷ []
 unfolding encode
-from-four a b c d v t =
+from-four {a} {b} {c} {d} {v} t =
     let k : 0x80 ≤ v = omega arith in
     let l : 0x800 ≤ v = omega arith in
     let h : 0x10000 ≤ v = omega arith in
@@ -145,11 +145,11 @@ scalar-far c l h =
 read-back : (a : ℕ) (s : List ℕ) → read a s .good ≡ true → Back a s (read a s)
 unfolding read character none
 read-back a s =
-    starts-each (λ (p : Piece ℕ). p .good ≡ true → Back a s p) (λ h. absurd (false≢true h)) a (getD s 0 0) (getD s 1 0) (getD s 2 0)
+    starts-each (λ (p : Piece ℕ). p .good ≡ true → Back a s p) (λ h. absurd (false≢true h))
     (λ l _. record { same = rw (from-one a l); is = scalar-low a (omega arith) })
-    (λ v t _. record { same = rw (from-two _ _ v t) (with-one a s (t .second)); is = scalar-low v (omega arith) })
-    (λ v t _. record { same = rw (from-three _ _ _ v t) (with-two a s (t .second) (t .third)); is = t .is })
-    (λ v t _. record { same = rw (from-four _ _ _ _ v t) (with-three a s (t .second) (t .third) (t .fourth)); is = scalar-far v (t .low) (t .high) })
+    (λ v t _. record { same = rw (from-two t) (with-one a s (t .second)); is = scalar-low _ (omega arith) })
+    (λ v t _. record { same = rw (from-three t) (with-two a s (t .second) (t .third)); is = t .is })
+    (λ v t _. record { same = rw (from-four t) (with-three a s (t .second) (t .third) (t .fourth)); is = scalar-far _ (t .low) (t .high) })
 
 -- ---- what is UTF-8 is the encoding of what it reads as
 record Whole (s : List ℕ) : Type 0 where
