@@ -33,8 +33,8 @@ pub tails-none : (b : ℕ) (s : List ℕ) → tail b ≡ false → tails (b ∷ 
 unfolding tails
 tails-none b s t = rw t
 
-pub tail-high : (b : ℕ) → tail b ≡ true → 128 ≤ b
-tail-high b t = tail-is b t .from
+pub tail-high : {b : ℕ} → tail b ≡ true → 128 ≤ b
+tail-high {b} t = tail-is b t .from
 
 -- ---- a character is read from the tails behind its first byte
 tail-zero : tail 0 ≡ false

@@ -22,9 +22,9 @@ record First (c : ℕ) (t s : List ℕ) : Type 0 where
   is : chars t ≡ c ∷ chars s
   good : utf8 t ≡ utf8 s
 
-first : (c m a : ℕ) (t : List ℕ) → read a t ≡ character c m → First c (a ∷ t) (drop m t)
+first : {c : ℕ} (m : ℕ) {a : ℕ} {t : List ℕ} → read a t ≡ character c m → First c (a ∷ t) (drop m t)
 unfolding chars utf8 character
-first c m a t e = record { is = pieces-cons read a t ∙ rw e; good = sound-cons read a t ∙ rw e }
+first m {a} {t} e = record { is = pieces-cons read a t ∙ rw e; good = sound-cons read a t ∙ rw e }
 
 -- the number from its four digits
 join-four : (x y z w p q c : ℕ) → p ≡ x * 0x40 + y → q ≡ p * 0x40 + z → c ≡ q * 0x40 + w → c ≡ x * 0x40000 + y * 0x1000 + z * 0x40 + w
@@ -50,10 +50,10 @@ scalar-high c s = leb-true c 0x10FFFF (and-both (leb c 0x10FFFF) (ltb c 0xD800 |
 encode-first : (c : ℕ) (s : List ℕ) → scalar c ≡ true → First c (encode c ++ s) s
 unfolding encode read
 encode-first c s i =
-    below Is c 0x80 (λ h. first c 0 c s (starts-one c _ _ _ h))
-    (λ k. below Is c 0x800 (λ h. first c 1 _ _ (starts-two _ _ (to-two c k h)))
-    (λ l. below Is c 0x10000 (λ h. first c 2 _ _ (starts-three _ (to-three c l h i)))
-    (λ m. first c 3 _ _ (starts-four (to-four c m (scalar-high c i))))))
+    below Is c 0x80 (λ h. first 0 (starts-one c _ _ _ h))
+    (λ k. below Is c 0x800 (λ h. first 1 (starts-two _ _ (to-two c k h)))
+    (λ l. below Is c 0x10000 (λ h. first 2 (starts-three _ (to-three c l h i)))
+    (λ m. first 3 (starts-four (to-four c m (scalar-high c i))))))
   where
     Is : List ℕ → Type 0
     Is t = First c (t ++ s) s
@@ -116,18 +116,18 @@ from-four {a} {b} {c} {d} {v} t =
     simp (le-ltb, p, q, r, s)
 
 -- a byte that is a tail is there
-with-one : (a : ℕ) (s : List ℕ) → Tail (getD s 0 0) → a ∷ s ≡ a ∷ getD s 0 0 ∷ drop 1 s
-with-one a [] t = absurd (omega arith)
-with-one a (b ∷ s) t = refl
+with-one : {a : ℕ} {s : List ℕ} → Tail (getD s 0 0) → a ∷ s ≡ a ∷ getD s 0 0 ∷ drop 1 s
+with-one {s = []} t = absurd (omega arith)
+with-one {s = b ∷ s} t = refl
 
-with-two : (a : ℕ) (s : List ℕ) → Tail (getD s 0 0) → Tail (getD s 1 0) → a ∷ s ≡ a ∷ getD s 0 0 ∷ getD s 1 0 ∷ drop 2 s
-with-two a [] t u = absurd (omega arith)
-with-two a (b ∷ s) t u = ap (λ (l : List ℕ). a ∷ l) (with-one b s u)
+with-two : {a : ℕ} {s : List ℕ} → Tail (getD s 0 0) → Tail (getD s 1 0) → a ∷ s ≡ a ∷ getD s 0 0 ∷ getD s 1 0 ∷ drop 2 s
+with-two {s = []} t u = absurd (omega arith)
+with-two {a} {s = b ∷ s} t u = ap (λ (l : List ℕ). a ∷ l) (with-one u)
 
-with-three : (a : ℕ) (s : List ℕ) → Tail (getD s 0 0) → Tail (getD s 1 0) → Tail (getD s 2 0)
+with-three : {a : ℕ} {s : List ℕ} → Tail (getD s 0 0) → Tail (getD s 1 0) → Tail (getD s 2 0)
     → a ∷ s ≡ a ∷ getD s 0 0 ∷ getD s 1 0 ∷ getD s 2 0 ∷ drop 3 s
-with-three a [] t u v = absurd (omega arith)
-with-three a (b ∷ s) t u v = ap (λ (l : List ℕ). a ∷ l) (with-two b s u v)
+with-three {s = []} t u v = absurd (omega arith)
+with-three {a} {s = b ∷ s} t u v = ap (λ (l : List ℕ). a ∷ l) (with-two u v)
 
 scalar-low : (c : ℕ) → c < 0xD800 → scalar c ≡ true
 unfolding scalar
@@ -142,14 +142,14 @@ scalar-far c l h =
     let m : 0xDFFF < c = omega arith in
     simp (le-leb, le-ltb)
 
-read-back : (a : ℕ) (s : List ℕ) → read a s .good ≡ true → Back a s (read a s)
+read-back : {a : ℕ} {s : List ℕ} → read a s .good ≡ true → Back a s (read a s)
 unfolding read character none
-read-back a s =
+read-back {a} {s} =
     starts-each (λ (p : Piece ℕ). p .good ≡ true → Back a s p) (λ h. absurd (false≢true h))
     (λ l _. record { same = rw (from-one a l); is = scalar-low a (omega arith) })
-    (λ v t _. record { same = rw (from-two t) (with-one a s (t .second)); is = scalar-low _ (omega arith) })
-    (λ v t _. record { same = rw (from-three t) (with-two a s (t .second) (t .third)); is = t .is })
-    (λ v t _. record { same = rw (from-four t) (with-three a s (t .second) (t .third) (t .fourth)); is = scalar-far _ (t .low) (t .high) })
+    (λ v t _. record { same = rw (from-two t) (with-one (t .second)); is = scalar-low _ (omega arith) })
+    (λ v t _. record { same = rw (from-three t) (with-two (t .second) (t .third)); is = t .is })
+    (λ v t _. record { same = rw (from-four t) (with-three (t .second) (t .third) (t .fourth)); is = scalar-far _ (t .low) (t .high) })
 
 -- ---- what is UTF-8 is the encoding of what it reads as
 record Whole (s : List ℕ) : Type 0 where
@@ -161,19 +161,19 @@ unfolding scalars every encoding
 whole-nil = record { are = rw chars-nil; same = rw chars-nil }
 
 -- by a bound of the length
-whole : (n : ℕ) (s : List ℕ) → length s ≤ n → utf8 s ≡ true → Whole s
+whole : (n : ℕ) {s : List ℕ} → length s ≤ n → utf8 s ≡ true → Whole s
 unfolding chars utf8 scalars every encoding
-whole zero [] l h = whole-nil
-whole zero (a ∷ s) l h = absurd (omega arith)
-whole (suc n) [] l h = whole-nil
-whole (suc n) (a ∷ s) l h =
+whole zero {s = []} l h = whole-nil
+whole zero {s = a ∷ s} l h = absurd (omega arith)
+whole (suc n) {s = []} l h = whole-nil
+whole (suc n) {s = a ∷ s} l h =
     let g = and-both (read a s .good) (utf8 (drop (read a s .more) s)) (sym (sound-cons read a s) ∙ h) in
-    let b : Back a s (read a s) = read-back a s (g .0) in
-    let r : Whole (drop (read a s .more) s) = whole n (drop (read a s .more) s) (rw length-drop (omega arith)) (g .1) in
+    let b : Back a s (read a s) = read-back (g .0) in
+    let r : Whole (drop (read a s .more) s) = whole n (rw length-drop (omega arith)) (g .1) in
     record { are = rw (pieces-cons, b .is) (r .are); same = rw (pieces-cons, r .same) (sym (b .same)) }
 
 pub chars-scalars : (s : List ℕ) → utf8 s ≡ true → scalars (chars s) ≡ true
-chars-scalars s h = whole (length s) s (le-refl (length s)) h .are
+chars-scalars s h = whole (length s) (le-refl (length s)) h .are
 
 pub chars-encoding : (s : List ℕ) → utf8 s ≡ true → encoding (chars s) ≡ s
-chars-encoding s h = whole (length s) s (le-refl (length s)) h .same
+chars-encoding s h = whole (length s) (le-refl (length s)) h .same
