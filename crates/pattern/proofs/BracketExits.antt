@@ -99,7 +99,8 @@ module _ (e : Edition) (a : ℕ) where
   unfolding member
   member-range d s = refl
 
-module _ (e : Edition) (body : List ℕ) (at x : ℕ) (f g : Character) (p : f ≡ character-at body at) (q : g ≡ character-at body (f .next)) (h : at < length body) where
+module _ (e : Edition) (body : List ℕ) (at x : ℕ) (f g : Character)
+    (p : f ≡ character-at body at) (q : g ≡ character-at body (f .next)) (h : at < length body) where
   abbrev Single-ok : Type 0
   Single-ok = Member-ok e body at x (record { holds = eqb (f .number) x; next = f .next })
 

@@ -83,7 +83,7 @@ first a s = go (decLt a 128)
           closes = λ h. absurd (omega arith);
         }
 
--- f cuts a text before a `]`: the bytes up to there are those of the characters up to there, so is what follows the `]`, and one text has it where the other has
+-- f cuts a text before a `]`: the bytes up to there are those of the characters up to there, so is what follows the `]`, and one has it where the other has
 record Cut (f : List ℕ → List ℕ) (s : List ℕ) : Type 0 where
   same : f (chars s) ≡ chars (f s)
   behind : drop (length (f (chars s)) + 1) (chars s) ≡ chars (drop (length (f s) + 1) s)

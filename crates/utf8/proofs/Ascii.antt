@@ -138,13 +138,7 @@ module _ {f : List ℕ → List ℕ} (k : Tail-blind f) where
       go false e d = absurd (omega (arith, rw (tails-none b s e) at h))
 
   pub blind-length : (n : ℕ) (s : List ℕ) → n ≤ length (tails s) → length (f s) ≡ n + length (f (drop n s))
-  blind-length zero s h = omega arith
-  blind-length (suc n) [] h = absurd (omega (arith, rw tails-nil at h))
-  blind-length (suc n) (b ∷ s) h = go (tail b) refl (blind-length n s)
-    where
-      go : (t : Bool) → tail b ≡ t → (n ≤ length (tails s) → length (f s) ≡ n + length (f (drop n s))) → length (f (b ∷ s)) ≡ suc n + length (f (drop (suc n) (b ∷ s)))
-      go true e d = rw (k .keeps b s e) (omega (arith, d (omega (arith, rw (tails-cons b s e) at h))))
-      go false e d = absurd (omega (arith, rw (tails-none b s e) at h))
+  blind-length n s h = omega (arith, length-drop n (f s), ap length (blind-drop n s h), tails-few (f s), ap length (k .same s))
 
   pub blind-read : (a : ℕ) (s : List ℕ) → read a (f s) ≡ read a s
   blind-read a s = read-tails a (f s) ∙ rw (k .same s) (sym (read-tails a s))

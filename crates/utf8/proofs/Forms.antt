@@ -2,12 +2,13 @@
 -- Assumes nothing.
 use Prim.Native.Nat.{ℕ, _<_, _≤_}
 use mathlib.Core.Path.{_≡_, refl}
-use mathlib.Core.Bool.{Bool, true, false, cond, _&&_, false≢true}
+use mathlib.Core.Bool.{Bool, true, false, cond, _&&_}
 use native.Mathlib.Decide.{decLt}
 use native.Mathlib.Omega.{arith}
 use borrow.Author.Tests.{lt-ltb, le-ltb, le-leb, ltb-true, leb-true}
 use lib.Dec.{ltb, leb}
 use Rattle.lists.specs.Pieces.{Piece}
+use Rattle.lists.proofs.Tests.{both}
 use Rattle.utf8.specs.Utf8.{scalar, character, none, when, tail, bits-two, bits-three, bits-four, two, three, four, starts}
 
 pub record Tail (b : ℕ) : Type 0 where
@@ -71,10 +72,6 @@ starts-four {a} t =
     search (le-ltb, lt-ltb, tail-true, le-leb, ← t .bits)
 
 -- ---- and the other way: what holds of `none` and of each character in a form holds of what is read
-pub and-both : (t u : Bool) → (t && u) ≡ true → (t ≡ true) × (u ≡ true)
-and-both true u h = (refl, h)
-and-both false u h = absurd (false≢true h)
-
 pub below : {A : Type 0} (P : A → Type 0) (a k : ℕ) {p q : A} → (a < k → P p) → (k ≤ a → P q) → P (cond (ltb a k) p q)
 below P a k {p} {q} f g = go (decLt a k)
   where
@@ -87,7 +84,7 @@ below P a k {p} {q} f g = go (decLt a k)
 pub tail-is : (b : ℕ) → tail b ≡ true → Tail b
 unfolding tail
 tail-is b h =
-    let t = and-both (leb 0x80 b) (ltb b 0xC0) h in
+    let t = both (leb 0x80 b) (ltb b 0xC0) h in
     record { from = leb-true 0x80 b (t .0); to = ltb-true b 0xC0 (t .1) }
 
 module _ (P : Piece ℕ → Type 0) (otherwise : P none) where

@@ -12,9 +12,10 @@ use lib.Dec.{ltb, leb}
 use Rattle.lists.specs.Each.{every}
 use Rattle.lists.specs.Pieces.{Piece}
 use Rattle.lists.proofs.PiecesLaws.{pieces-cons, sound-cons}
+use Rattle.lists.proofs.Tests.{both}
 use Rattle.utf8.specs.Utf8.{scalar, scalars, encode, encoding, character, none, bits-four, read, chars, utf8}
 use Rattle.utf8.proofs.Walk.{chars-nil, utf8-nil}
-use Rattle.utf8.proofs.Forms.{Tail, Two, Three, Four, starts-one, starts-two, starts-three, starts-four, starts-each, below, and-both}
+use Rattle.utf8.proofs.Forms.{Tail, Two, Three, Four, starts-one, starts-two, starts-three, starts-four, starts-each, below}
 
 -- ---- a character's encoding
 -- t is the character c, and s behind it
@@ -45,7 +46,7 @@ module _ (c : ℕ) where
 
 scalar-high : (c : ℕ) → scalar c ≡ true → c ≤ 0x10FFFF
 unfolding scalar
-scalar-high c s = leb-true c 0x10FFFF (and-both (leb c 0x10FFFF) (ltb c 0xD800 || ltb 0xDFFF c) s .0)
+scalar-high c s = leb-true c 0x10FFFF (both (leb c 0x10FFFF) (ltb c 0xD800 || ltb 0xDFFF c) s .0)
 
 encode-first : (c : ℕ) (s : List ℕ) → scalar c ≡ true → First c (encode c ++ s) s
 unfolding encode read
@@ -63,14 +64,14 @@ pub encoding-utf8 : (cs : List ℕ) → scalars cs ≡ true → utf8 (encoding c
 unfolding scalars every encoding
 encoding-utf8 [] h = utf8-nil
 encoding-utf8 (c ∷ cs) h =
-    let s = and-both (scalar c) (scalars cs) h in
+    let s = both (scalar c) (scalars cs) h in
     encode-first c (encoding cs) (s .0) .good ∙ encoding-utf8 cs (s .1)
 
 pub encoding-chars : (cs : List ℕ) → scalars cs ≡ true → chars (encoding cs) ≡ cs
 unfolding scalars every encoding
 encoding-chars [] h = chars-nil
 encoding-chars (c ∷ cs) h =
-    let s = and-both (scalar c) (scalars cs) h in
+    let s = both (scalar c) (scalars cs) h in
     encode-first c (encoding cs) (s .0) .is ∙ ap (λ (l : List ℕ). c ∷ l) (encoding-chars cs (s .1))
 
 -- ---- a character that is read
@@ -167,7 +168,7 @@ whole zero {s = []} l h = whole-nil
 whole zero {s = a ∷ s} l h = absurd (omega arith)
 whole (suc n) {s = []} l h = whole-nil
 whole (suc n) {s = a ∷ s} l h =
-    let g = and-both (read a s .good) (utf8 (drop (read a s .more) s)) (sym (sound-cons read a s) ∙ h) in
+    let g = both (read a s .good) (utf8 (drop (read a s .more) s)) (sym (sound-cons read a s) ∙ h) in
     let b : Back a s (read a s) = read-back (g .0) in
     let r : Whole (drop (read a s .more) s) = whole n (rw length-drop (omega arith)) (g .1) in
     record { are = rw (pieces-cons, b .is) (r .are); same = rw (pieces-cons, r .same) (sym (b .same)) }

@@ -9,7 +9,7 @@ use native.Mathlib.Omega.{arith}
 use borrow.Author.Tests.{lt-ltb}
 use lib.ListN.{length, getD, drop}
 use lib.Seq.{drop-cons}
-use Rattle.lists.specs.Pieces.{Piece, piece-at}
+use Rattle.lists.specs.Pieces.{piece-at}
 use Rattle.lists.proofs.PiecesLaws.{pieces-nil, sound-nil, pieces-cons, sound-cons, pieces-at, sound-at, pieces-end, sound-end, pieces-few}
 use Rattle.utf8.specs.Utf8.{character, read, chars, utf8}
 use Rattle.utf8.specs.At.{placed, character-at}
