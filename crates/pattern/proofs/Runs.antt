@@ -470,10 +470,10 @@ module _ (e : Edition) (s : List ℕ) where
   squeezed-changed t = squeezed-walk e t ∙ walk-changed (outside false) t
 
   pub chars-squeezed : chars (squeezed e s) ≡ squeezed e (chars s)
-  chars-squeezed = rw (squeezed-changed s, squeezed-changed (chars s)) (chars-changed squeeze squeeze-ascii (outside false) s)
+  chars-squeezed = rw (squeezed-changed s, squeezed-changed (chars s)) (chars-changed squeeze-ascii (outside false) s)
 
   pub utf8-squeezed : utf8 (squeezed e s) ≡ utf8 s
-  utf8-squeezed = rw (squeezed-changed s) (utf8-changed squeeze squeeze-ascii (outside false) s)
+  utf8-squeezed = rw (squeezed-changed s) (utf8-changed squeeze-ascii (outside false) s)
 
   -- the elements of what is kept are those of the bytes, without the stars behind a star
   pub elements-squeezed : elements e (squeezed e s) ≡ runless false (elements e s)

@@ -50,10 +50,10 @@ negated-changed b (c ∷ s) = rw (negated-changed (eqb c 91) s)
 
 module _ (b : Bool) (s : List ℕ) where
   pub chars-stored : chars (negated-from b s) ≡ negated-from b (chars s)
-  chars-stored = rw (negated-changed b s, negated-changed b (chars s)) (chars-changed negation negation-ascii b s)
+  chars-stored = rw (negated-changed b s, negated-changed b (chars s)) (chars-changed negation-ascii b s)
 
   pub utf8-stored : utf8 (negated-from b s) ≡ utf8 s
-  utf8-stored = rw (negated-changed b s) (utf8-changed negation negation-ascii b s)
+  utf8-stored = rw (negated-changed b s) (utf8-changed negation-ascii b s)
 
 -- ---- of a token that is still to be stored, and of what is stored
 module _ (e : Edition) where

@@ -52,7 +52,7 @@ module _ (b : ℕ) (s : List ℕ) (p : ℕ) where
     where
       go : (f : Found) → first-from (is b) s p ≡ f → first-from (is b) s p ≡ Nowhere
       go (Here q) e =
-          let f = first-within (is b) s p q e in
+          let f = first-within e in
           absurd (h q (f .onward) (eqb-true (getD s q 0) b (f .holds)))
       go Nowhere e = e
 
@@ -62,7 +62,7 @@ module _ (b : ℕ) (s : List ℕ) (p : ℕ) where
 module _ (a b : ℕ) (s : List ℕ) (p : ℕ) where
   pub pair-found : (q : ℕ) → first-from (are a b) s p ≡ Here q → (p ≤ q) × (Byte a s q × Byte b s (q + 1))
   pair-found q e =
-      let f = first-within (are a b) s p q e in
+      let f = first-within e in
       let k = and-both (eqb (getD s q 0) a) (eqb (getD s (q + 1) 0) b) (f .holds) in
       (f .onward, (eqb-true (getD s q 0) a (k .0), eqb-true (getD s (q + 1) 0) b (k .1)))
 
@@ -168,7 +168,7 @@ pub data Turn (x : Edition) (s : List ℕ) (p : ℕ) : Type 0 where
 module _ (x : Edition) (s : List ℕ) (p : ℕ) where
   turn-line : Byte hash s p → (f : Found) → first-from (is line-feed) s (p + 1) ≡ f → Turn x s p
   turn-line k (Here q) e =
-      let f = first-within (is line-feed) s (p + 1) q e in
+      let f = first-within e in
       at-line {q = q} (omega (arith, f .onward)) (f .within) k e
   turn-line k Nowhere e = in-line k (λ q l b. on q l b (decLe (p + 1) q))
     where
@@ -180,7 +180,7 @@ module _ (x : Edition) (s : List ℕ) (p : ℕ) where
 
   turn-comment : Byte slash s p → Byte asterisk s (p + 1) → (f : Found) → comment-end x s p ≡ f → Turn x s p
   turn-comment j k (Here q) e =
-      let f = first-within (are asterisk slash) s (p + closes-after x) q (sym (comment-from x s p) ∙ e) in
+      let f = first-within (sym (comment-from x s p) ∙ e) in
       at-comment {q = q} (omega (arith, f .onward)) (f .within) j k e
   turn-comment j k Nowhere e = in-comment j k (nowhere-pair asterisk slash s (p + closes-after x) (omega arith) (sym (comment-from x s p) ∙ e))
 

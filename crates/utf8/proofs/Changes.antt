@@ -36,10 +36,10 @@ not-tail : (c : ℕ) → c < 128 → tail c ≡ false
 not-tail c l = go (tail c) refl
   where
     go : (t : Bool) → tail c ≡ t → tail c ≡ false
-    go true e = absurd (omega (arith, tail-high c e))
+    go true e = absurd (omega (arith, tail-high e))
     go false e = e
 
-module _ {Q : Type 0} (C : Change Q) (A : Ascii-only C) where
+module _ {Q : Type 0} {C : Change Q} (A : Ascii-only C) where
   -- what is no ASCII is kept
   changed-high : (q : Q) (c : ℕ) (s : List ℕ) → 128 ≤ c → changed C q (c ∷ s) ≡ c ∷ changed C (C .next q c) s
   unfolding changed
@@ -62,7 +62,7 @@ module _ {Q : Type 0} (C : Change Q) (A : Ascii-only C) where
 
     changed-blind : Tail-blind (changed C (C .next q a))
     changed-blind = record {
-      keeps = λ b s t. changed-high (C .next q a) b s (tail-high b t) ∙ rw (A .steady q a b h (tail-high b t));
+      keeps = λ b s t. changed-high (C .next q a) b s (tail-high t) ∙ rw (A .steady q a b h (tail-high t));
       same = changed-tails;
     }
 
@@ -98,9 +98,9 @@ module _ {Q : Type 0} (C : Change Q) (A : Ascii-only C) where
           let n : C .next q (read a s .what) ≡ C .next q a = A .alike q (read a s .what) a l h in
           let b : Tail-blind (changed C (C .next q a)) = changed-blind q a h in
           record {
-            are = rw (changed-high q a s h) (blind-chars (changed C (C .next q a)) b a s
+            are = rw (changed-high q a s h) (blind-chars b a s
                 ∙ rw (k .are, chars-cons a s, changed-high q (read a s .what) (chars (drop (read a s .more) s)) l, n));
-            good = rw (changed-high q a s h) (blind-utf8 (changed C (C .next q a)) b a s ∙ rw (k .good, utf8-cons a s));
+            good = rw (changed-high q a s h) (blind-utf8 b a s ∙ rw (k .good, utf8-cons a s));
           }
 
   -- by a bound of the length
