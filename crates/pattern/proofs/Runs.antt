@@ -55,15 +55,15 @@ walk q (c ∷ s) = cond (drops q c) (walk (next q c) s) (c ∷ walk (next q c) s
 
 -- ---- the element at a place: of a star, of a `[`, and of another
 module _ (e : Edition) (c : ℕ) (s : List ℕ) where
-  element-star : eqb c 42 ≡ true → element e c s ≡ piece star 0
+  pub element-star : eqb c 42 ≡ true → element e c s ≡ piece star 0
   unfolding element
   element-star h = rw h
 
-  element-bracket : eqb c 91 ≡ true → element e c s ≡ opened e s
+  pub element-bracket : eqb c 91 ≡ true → element e c s ≡ opened e s
   unfolding element
   element-bracket h = ap (λ (x : ℕ). element e x s) (eqb-true c 91 h)
 
-  element-other : eqb c 42 ≡ false → eqb c 91 ≡ false → element e c s ≡ piece (one (cond (eqb c 63) any-one (literal c))) 0
+  pub element-other : eqb c 42 ≡ false → eqb c 91 ≡ false → element e c s ≡ piece (one (cond (eqb c 63) any-one (literal c))) 0
   unfolding element
   element-other h k = rw (h, k) (go (eqb c 63))
     where

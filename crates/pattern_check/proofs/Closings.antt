@@ -42,7 +42,7 @@ mark-chars token (a ∷ s) = go (decLt a 128)
     go (yes h) = rw (chars-cons-ascii a s h) (ascii h (eqb a 33 || token && eqb a 94))
     go (no n) = rw (mark-high token a (omega arith), chars-cons, mark-high token (read a s .what) (read-high a s (omega arith)))
 
-mark-few : (token : Bool) (s : List ℕ) → mark-as token s ≤ length s
+pub mark-few : (token : Bool) (s : List ℕ) → mark-as token s ≤ length s
 mark-few token [] = omega arith
 mark-few token (c ∷ s) = go (eqb c 33 || token && eqb c 94)
   where

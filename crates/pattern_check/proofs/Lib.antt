@@ -1,4 +1,4 @@
 mod Stored
-mod Negations
-mod Closings
+pub mod Negations
+pub mod Closings
 mod Refusals

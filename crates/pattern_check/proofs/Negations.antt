@@ -75,6 +75,16 @@ mark-stored true (c ∷ s) = go (ℕ-discrete c 94) (ℕ-discrete c 33)
     go (no n) (yes h) = rw h
     go (no n) (no k) = simp (ne-eqb c 94 n, ne-eqb c 33 k)
 
+mark-same : (s : List ℕ) → mark-as false (negated-from true s) ≡ mark-as true s
+unfolding negated-from stored-byte
+mark-same [] = refl
+mark-same (c ∷ s) = go (ℕ-discrete c 94) (ℕ-discrete c 33)
+  where
+    go : Dec (c ≡ 94) → Dec (c ≡ 33) → mark-as false (negated-from true (c ∷ s)) ≡ mark-as true (c ∷ s)
+    go (yes h) k = rw h
+    go (no n) (yes h) = rw h
+    go (no n) (no k) = simp (ne-eqb c 94 n, ne-eqb c 33 k)
+
 -- ---- what stands between is as long, and behind the `]` no `[` stands just before
 closes-stored : (b : Bool) (c : ℕ) → eqb (stored-byte b c) 93 ≡ eqb c 93
 unfolding stored-byte
@@ -136,3 +146,17 @@ module _ (e : Edition) (token : Bool) (s : List ℕ) where
 
   pub token-behind : drop (opened e (chars-as token true s) .more) (chars-as token true s) ≡ chars-as token false (behind e (behind-mark token s))
   token-behind = opened-behind e (chars-as token true s) ∙ rw (mark-stored, behind-stored)
+
+-- a stored bracket has as many bytes, or characters, as the token's
+module _ (e : Edition) where
+  opened-more : (s : List ℕ) → opened e s .more ≡ mark-as false s + length (between e (behind-mark false s)) + 1
+  unfolding opened bracketed between
+  opened-more [] = refl
+  opened-more (c ∷ s) = go (ℕ-discrete c 33)
+    where
+      go : Dec (c ≡ 33) → opened e (c ∷ s) .more ≡ mark-as false (c ∷ s) + length (between e (behind-mark false (c ∷ s))) + 1
+      go (yes h) = rw (eq-eqb c 33 h)
+      go (no n) = rw (ne-eqb c 33 n)
+
+  pub token-more : (s : List ℕ) → opened e (negated-from true s) .more ≡ mark-as true s + length (between e (behind-mark true s)) + 1
+  token-more s = opened-more (negated-from true s) ∙ rw (mark-stored true s, between-stored e (unmarked true s) (behind-mark true s), mark-same s)

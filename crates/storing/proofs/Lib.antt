@@ -1,2 +1,3 @@
 pub mod Keeping
 mod Answers
+mod Squeezing

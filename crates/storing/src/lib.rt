@@ -17,6 +17,8 @@ use numbers::NO_ROOM;
 use numbers::TOKEN_LIMIT;
 use numbers::TOO_LONG;
 
+pub mod runs;
+
 // A token's class and how many bytes of a lent buffer hold what is stored of it, or the number that
 // refused it; then nothing was written.
 pub enum Stored {
