@@ -1,7 +1,7 @@
 -- A walk over a glob token's bytes, where `[^` becomes `[!` and runs of stars are squeezed: what one step puts, how many bytes are kept, and that they
 -- stand at a buffer's front. Assumes nothing.
 use Prim.Native.Nat.{ℕ, zero, suc, _+_, _-_, _<_, _≤_}
-use mathlib.Core.Path.{_≡_, refl, sym, ap, _∙_}
+use mathlib.Core.Path.{_≡_, refl, ap, _∙_}
 use mathlib.Core.List.{List, [], _∷_}
 use mathlib.Core.Bool.{Bool, true, false, cond}
 use native.Mathlib.Decide.{ℕ-discrete}

@@ -1,6 +1,6 @@
 -- What is kept of a glob token where runs of stars are squeezed (02, request 01), and a walk over its bytes. Nothing is stored so yet. Assumes nothing.
 use Prim.Native.Nat.{ℕ, _+_}
-use mathlib.Core.List.{List, [], _∷_}
+use mathlib.Core.List.{List, _∷_}
 use mathlib.Core.Bool.{true, false, cond}
 use lib.ListN.{length, drop}
 use Rattle.numbers.specs.declared.Edition.{Edition}

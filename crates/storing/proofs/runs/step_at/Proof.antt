@@ -1,5 +1,4 @@
 -- `step_at` meets its contract. Assumes nothing.
-use native.Mathlib.Omega.{arith}
 use borrow.Author.Needs.{needs}
 use Rattle.storing.proofs.Squeezing.{step-within, step-star, step-bracket, step-other}
 use Rattle.storing.proofs.runs.step_at.Statement.{statement}
