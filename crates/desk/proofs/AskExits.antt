@@ -75,7 +75,7 @@ module _ (t : List ℕ) (x : Found) (e : x ≡ first-from (is at-sign) t 0) wher
 
   module _ (p : ℕ) (f : x ≡ Here p) where
     pub name-count : p ≡ length (take p t)
-    name-count = sym (length-take-le p t (omega (arith, first-within (is at-sign) t 0 p (sym e ∙ f) .within)))
+    name-count = sym (length-take-le p t (omega (arith, first-within (sym e ∙ f) .within)))
 
     pub split-name : take p t ≡ name-part t
     unfolding name-part

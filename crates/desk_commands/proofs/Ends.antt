@@ -26,6 +26,6 @@ module _ (s : List ℕ) (at : ℕ) where
     where
       go : (f : Found) → first-from (is line-feed) s at ≡ f → (at ≤ end-by s f) × (end-by s f ≤ length s)
       go (Here p) e =
-          let w = first-within (is line-feed) s at p e in
+          let w = first-within e in
           (w .onward, omega (arith, w .within))
       go Nowhere e = (h, omega arith)

@@ -79,11 +79,11 @@ pub record Place (x : ℕ) (s : List ℕ) (p n k : ℕ) : Type 0 where
   pub here : k < n → first-from (is x) s p ≡ Here (p + k)
   pub none : n ≤ k → first-from (is x) s p ≡ first-from (is x) s (p + n)
 
-module _ (x : ℕ) (s : List ℕ) where
+module _ {x : ℕ} {s : List ℕ} where
   -- one byte more before
-  place-on : (n k p : ℕ) → p < length s → (b : Bool) → eqb (getD s p 0) x ≡ b → Place x s (p + 1) n k → Place x s p (suc n) (under (cond b 1 0) k)
-  place-on n k p h true e next = record { here = λ q. rw add-zero (first-here (is x) s p h e); none = λ q. absurd (omega arith) }
-  place-on n k p h false e next =
+  place-on : {n k p : ℕ} → p < length s → (b : Bool) → eqb (getD s p 0) x ≡ b → Place x s (p + 1) n k → Place x s p (suc n) (under (cond b 1 0) k)
+  place-on {p = p} h true e next = record { here = λ q. rw add-zero (first-here (is x) s p h e); none = λ q. absurd (omega arith) }
+  place-on {n} {k} {p} h false e next =
       let z : p + suc k ≡ p + 1 + k = omega arith in
       let w : p + suc n ≡ p + 1 + n = omega arith in
       let on = first-on (is x) s p h e in
@@ -97,11 +97,11 @@ module _ (x : ℕ) (s : List ℕ) where
   lowest-place (suc n) (suc f) c p g h =
       let b = eqb (getD s p 0) x in
       rw (zeros-below f (bits x s c n (p + 1)) (cond b 1 0) (mark-few b))
-      (place-on n (trailingZeros f (bits x s c n (p + 1))) p (omega arith) b refl (lowest-place n f c (p + 1) (omega arith) (omega arith)))
+      (place-on (omega arith) b refl (lowest-place n f c (p + 1) (omega arith) (omega arith)))
 
-  pub block-place : (p : ℕ) → p + 16 ≤ length s → (a b : ℕ) → a ≡ bits x s 0 8 p → b ≡ bits x s 0 8 (p + 8)
+  pub block-place : {p : ℕ} → p + 16 ≤ length s → {a b : ℕ} → a ≡ bits x s 0 8 p → b ≡ bits x s 0 8 (p + 8)
       → Place x s p 16 (trailingZeros 32 (a + 256 * b + 65536))
-  block-place p h a b d e = rw (d, e, bits-block x s p) (lowest-place 16 32 1 p (omega arith) h)
+  block-place {p} h d e = rw (d, e, bits-block x s p) (lowest-place 16 32 1 p (omega arith) h)
 
 -- ---- the loop of `eight_bits`: the bits of the bytes from i on
 pub record Eight (x : ℕ) (s : List ℕ) (at low i : ℕ) : Type 0 where
@@ -110,12 +110,12 @@ pub record Eight (x : ℕ) (s : List ℕ) (at low i : ℕ) : Type 0 where
   pub few : 2 ^ (8 - i) ≤ 256
   pub same : low ≡ bits x s 0 (8 - i) (at + i)
 
-module _ (x : ℕ) (s : List ℕ) (at : ℕ) where
+module _ {x : ℕ} {s : List ℕ} {at : ℕ} where
   pub eight-none : Eight x s at 0 8
   unfolding bits
   eight-none = record { within = omega arith; small = omega arith; few = omega arith; same = refl }
 
-  module _ (low i : ℕ) (known : Eight x s at low i) where
+  module _ {low i : ℕ} (known : Eight x s at low i) where
     pub eight-on : 0 < i → (m : ℕ) → m ≤ 1 → m ≡ cond (eqb (getD s (at + (i - 1)) 0) x) 1 0 → Eight x s at (2 * low + m) (i - 1)
     unfolding bits
     eight-on h m few e =

@@ -88,8 +88,8 @@ module _ (t : Test) (s : List ℕ) (q : ℕ) where
   first-search zero p h e = absurd (omega (arith, found-within p e))
   first-search (suc n) p h e = first-turn p e (first-search n (p + 1) (omega arith)) (passes t s p) refl
 
-pub first-within : (t : Test) (s : List ℕ) (p q : ℕ) → first-from t s p ≡ Here q → First t s p q
-first-within t s p q e = first-search t s q (length s - p) p (omega arith) e
+pub first-within : {t : Test} {s : List ℕ} {p q : ℕ} → first-from t s p ≡ Here q → First t s p q
+first-within {t} {s} {p} {q} e = first-search t s q (length s - p) p (omega arith) e
 
 -- ---- the loops of `find` and `find_pair`: what is found from i on decides
 module _ (s : List ℕ) (x at i : ℕ) (inv : first-from (is x) s at ≡ first-from (is x) s i) where
@@ -141,9 +141,9 @@ data Ahead (p n : ℕ) (f : Found) : Type 0 where
   none-left : f ≡ Nowhere → n ≤ p → Ahead p n f
   one-left : (c : ℕ) → f ≡ Here c → p < n → Ahead p n f
 
-ahead-now : (p r : ℕ) (l : List ℕ) → r ≤ p → Left p r l → Ahead p (last-in p r l) (first-in closes p l)
-ahead-now p r l h (none f e) = none-left f (omega arith)
-ahead-now p r l h (some c f e) = one-left c f e
+ahead-now : {p r : ℕ} {l : List ℕ} → r ≤ p → Left p r l → Ahead p (last-in p r l) (first-in closes p l)
+ahead-now h (none f e) = none-left f (omega arith)
+ahead-now h (some c f e) = one-left c f e
 
 later-few : (v : Bool) (p r : ℕ) → r ≤ p → later v p r ≤ p + 1
 later-few true p r h = omega arith
@@ -151,7 +151,7 @@ later-few false p r h = omega arith
 
 ahead : (j p r : ℕ) (l : List ℕ) → r ≤ p → Ahead (p + j) (last-in p r l) (first-in closes (p + j) (drop j l))
 unfolding first-in last-in
-ahead zero p r l h = rw add-zero (ahead-now p r l h (left p r l h))
+ahead zero p r l h = rw add-zero (ahead-now h (left p r l h))
 ahead (suc j) p r [] h = none-left refl (omega arith)
 ahead (suc j) p r (b ∷ l) h =
     let z : p + suc j ≡ p + 1 + j = omega arith in
@@ -228,7 +228,7 @@ module _ (s : List ℕ) where
           let f : getD s (length s - 1 + 1) 0 ≡ semicolon → ⊥ = λ e. absurd (omega (arith, byte-within s (length s - 1 + 1) (omega arith))) in
           not-here (length s - 1) (omega arith) (omega arith) (no-semicolon (getD s (length s - 1) 0) (getD s (length s - 1 + 1) 0) f)
 
-  module _ (i : ℕ) (inv : Behind s i) where
+  module _ {i : ℕ} (inv : Behind s i) where
     -- at the start there is none
     pub behind-none : i ≤ 1 → 0 ≡ last-close s
     behind-none h = omega (arith, inv .last)

@@ -2,7 +2,7 @@
 use Prim.Native.Nat.{ℕ, zero, suc, _+_, _-_, _<_, _≤_}
 use mathlib.Core.Path.{_≡_, refl, sym, _∙_}
 use mathlib.Core.List.{List, [], _∷_}
-use mathlib.Core.Bool.{Bool, true, false, not, _&&_}
+use mathlib.Core.Bool.{Bool, true, false, not, and-eq-true-iff}
 use native.Mathlib.Decide.{decLt}
 use native.Mathlib.Nat.{add-zero}
 use native.Mathlib.Omega.{arith}
@@ -64,22 +64,18 @@ module _ (x : Edition) (s : List ℕ) (i : ℕ) (n : blank (getD s i 0) ≡ fals
     stop-move c = rw (n, ne-eqb (getD s i 0) hash k, next-byte, c)
 
 -- ---- where a comment ends
-and-right : (t u : Bool) → t && u ≡ true → u ≡ true
-and-right true u e = e
-and-right false u e = let z : _≡_ {A = ℕ} 0 1 = cc in absurd (omega arith)
-
-pair-within : (s : List ℕ) (p q x y : ℕ) → 0 < y → first-from (are x y) s p ≡ Here q → (p ≤ q) × (q + 1 < length s)
-pair-within s p q x y h e =
-    let f = first-within (are x y) s p q e in
-    let z = eqb-true (getD s (q + 1) 0) y (and-right (eqb (getD s q 0) x) (eqb (getD s (q + 1) 0) y) (f .holds)) in
+pair-within : (s : List ℕ) (p x y : ℕ) {q : ℕ} → 0 < y → first-from (are x y) s p ≡ Here q → (p ≤ q) × (q + 1 < length s)
+pair-within s p x y {q} h e =
+    let f = first-within e in
+    let z = eqb-true (getD s (q + 1) 0) y (and-eq-true-iff (eqb (getD s q 0) x) (eqb (getD s (q + 1) 0) y) .0 (f .holds) .1) in
     (f .onward, byte-within s (q + 1) (omega arith))
 
 pub comment-from : (x : Edition) (s : List ℕ) (p : ℕ) → comment-end x s p ≡ first-from (are asterisk slash) s (p + closes-after x)
 unfolding first-from
 comment-from x s p = rw drop-drop
 
-comment-within : (x : Edition) (s : List ℕ) (p q : ℕ) → comment-end x s p ≡ Here q → (p + closes-after x ≤ q) × (q + 1 < length s)
-comment-within x s p q e = pair-within s (p + closes-after x) q asterisk slash (omega arith) (sym (comment-from x s p) ∙ e)
+comment-within : (x : Edition) (s : List ℕ) (p : ℕ) {q : ℕ} → comment-end x s p ≡ Here q → (p + closes-after x ≤ q) × (q + 1 < length s)
+comment-within x s p e = pair-within s (p + closes-after x) asterisk slash (omega arith) (sym (comment-from x s p) ∙ e)
 
 -- ---- the loop of `skip_comments_and_whitespace`: the skip from i on decides
 module _ (x : Edition) (s : List ℕ) (at i : ℕ) (inv : skip x s at ≡ skip x s i) where
@@ -87,31 +83,31 @@ module _ (x : Edition) (s : List ℕ) (at i : ℕ) (inv : skip x s at ≡ skip x
   unfolding skip skip-past
   skip-ends h = sym (inv ∙ rw (drop-of-length-le s h))
 
-  module _ (h : i < length s) (v : Bool) (e : v ≡ blank (getD s i 0)) where
+  module _ (h : i < length s) {v : Bool} (e : v ≡ blank (getD s i 0)) where
     pub past-blank : v ≡ true → skip x s at ≡ skip x s (i + 1)
     past-blank k = inv ∙ skip-to x s i h 0 (i + 1) (blank-move x s i (sym e ∙ k)) (omega arith) (omega arith)
 
     module _ (n : v ≡ false) where
       -- at `#`
-      module _ (k : getD s i 0 ≡ hash) (f : Found) (g : f ≡ first-from (is line-feed) s (i + 1)) where
-        pub past-line : (q : ℕ) → f ≡ Here q → skip x s at ≡ skip x s (q + 1)
-        past-line q m =
-            let r = first-within (is line-feed) s (i + 1) q (sym g ∙ m) in
+      module _ (k : getD s i 0 ≡ hash) {f : Found} (g : f ≡ first-from (is line-feed) s (i + 1)) where
+        pub past-line : {q : ℕ} → f ≡ Here q → skip x s at ≡ skip x s (q + 1)
+        past-line {q} m =
+            let r = first-within (sym g ∙ m) in
             let a = line-move x s i (sym e ∙ n) k in
             inv ∙ skip-to x s i h (q + 0 - i) (q + 1) (a ∙ rw (← g, m)) (omega (arith, r .onward)) (omega (arith, r .within))
 
         pub line-opens : f ≡ Nowhere → Open i ≡ skip x s at
         line-opens m = sym (inv ∙ skip-step x s i h ∙ rw (line-move x s i (sym e ∙ n) k, ← g, m))
 
-      module _ (k : getD s i 0 ≡ hash → ⊥) (w : Bool) (c : w ≡ passes (are slash asterisk) s i) where
+      module _ (k : getD s i 0 ≡ hash → ⊥) {w : Bool} (c : w ≡ passes (are slash asterisk) s i) where
         pub stops : not w ≡ true → At i ≡ skip x s at
         stops o = sym (inv ∙ skip-step x s i h ∙ rw (stop-move x s i (sym e ∙ n) k (sym c ∙ not-true w o)))
 
         -- at `/*`
-        module _ (o : not w ≡ false) (f : Found) (g : f ≡ comment-end x s i) where
-          pub past-comment : (q : ℕ) → f ≡ Here q → skip x s at ≡ skip x s (q + 2)
-          past-comment q m =
-              let r = comment-within x s i q (sym g ∙ m) in
+        module _ (o : not w ≡ false) {f : Found} (g : f ≡ comment-end x s i) where
+          pub past-comment : {q : ℕ} → f ≡ Here q → skip x s at ≡ skip x s (q + 2)
+          past-comment {q} m =
+              let r = comment-within x s i (sym g ∙ m) in
               let a = comment-move x s i (sym e ∙ n) k h (sym c ∙ not-false w o) in
               inv ∙ skip-to x s i h (q + 1 - i) (q + 2) (a ∙ rw (← g, m)) (omega (arith, r .0)) (omega (arith, r .1))
 
@@ -122,7 +118,7 @@ module _ (x : Edition) (s : List ℕ) (at i : ℕ) (inv : skip x s at ≡ skip x
 module _ (s : List ℕ) (i q : ℕ) (f : Found) (m : f ≡ Here q) where
   module _ (t : Test) (d : ℕ) (g : f ≡ first-from t s (i + d)) where
     line-found : First t s (i + d) q
-    line-found = first-within t s (i + d) q (sym g ∙ m)
+    line-found = first-within (sym g ∙ m)
 
     pub line-fits : Fits w64 (length s) → Fits w64 (q + 1)
     line-fits n = omega (arith, line-found .within)
@@ -132,7 +128,7 @@ module _ (s : List ℕ) (i q : ℕ) (f : Found) (m : f ≡ Here q) where
 
   module _ (x : Edition) (g : f ≡ comment-end x s i) where
     comment-found : (i + closes-after x ≤ q) × (q + 1 < length s)
-    comment-found = comment-within x s i q (sym g ∙ m)
+    comment-found = comment-within x s i (sym g ∙ m)
 
     pub comment-fits : Fits w64 (length s) → Fits w64 (q + 2)
     comment-fits n = omega (arith, comment-found .1)
@@ -162,9 +158,9 @@ module _ (x : Edition) (s : List ℕ) (p : ℕ) (h : p < length s) where
   module _ (n : false ≡ blank (getD s p 0)) where
     step-line : getD s p 0 ≡ hash → (f : Found) → f ≡ first-from (is line-feed) s (p + 1) → Step x s p
     step-line k (Here q) g =
-        let r = first-within (is line-feed) s (p + 1) q (sym g) in
-        goes (q + 1) (omega (arith, r .onward)) (omega (arith, r .within)) (past-line x s p p refl h false n refl k (Here q) g q refl)
-    step-line k Nowhere g = opens (sym (line-opens x s p p refl h false n refl k Nowhere g refl))
+        let r = first-within (sym g) in
+        goes (q + 1) (omega (arith, r .onward)) (omega (arith, r .within)) (past-line x s p p refl h n refl k g refl)
+    step-line k Nowhere g = opens (sym (line-opens x s p p refl h n refl k g refl))
 
     module _ (k : eqb (getD s p 0) hash ≡ false) where
       other : getD s p 0 ≡ hash → ⊥
@@ -172,64 +168,49 @@ module _ (x : Edition) (s : List ℕ) (p : ℕ) (h : p < length s) where
 
       step-comment : true ≡ passes (are slash asterisk) s p → (f : Found) → f ≡ comment-end x s p → Step x s p
       step-comment c (Here q) g =
-          let r = comment-within x s p q (sym g) in
-          goes (q + 2) (omega (arith, r .0)) (omega (arith, r .1)) (past-comment x s p p refl h false n refl other true c refl (Here q) g q refl)
-      step-comment c Nowhere g = opens (sym (comment-opens x s p p refl h false n refl other true c refl Nowhere g refl))
+          let r = comment-within x s p (sym g) in
+          goes (q + 2) (omega (arith, r .0)) (omega (arith, r .1)) (past-comment x s p p refl h n refl other c refl g refl)
+      step-comment c Nowhere g = opens (sym (comment-opens x s p p refl h n refl other c refl g refl))
 
       step-pair : (w : Bool) → w ≡ passes (are slash asterisk) s p → Step x s p
       step-pair true c = step-comment c (comment-end x s p) refl
       step-pair false c =
-          stays
-          (sym (stops x s p p refl h false n refl other false c refl))
-          (record { no-blank = sym n; no-hash = k; no-comment = sym c })
+          stays (sym (stops x s p p refl h n refl other c refl)) (record { no-blank = sym n; no-hash = k; no-comment = sym c })
 
     step-byte : (w : Bool) → eqb (getD s p 0) hash ≡ w → Step x s p
     step-byte true k = step-line (eqb-true (getD s p 0) hash k) (first-from (is line-feed) s (p + 1)) refl
     step-byte false k = step-pair k (passes (are slash asterisk) s p) refl
 
   step-inside : (v : Bool) → v ≡ blank (getD s p 0) → Step x s p
-  step-inside true e = goes (p + 1) (omega arith) (omega arith) (past-blank x s p p refl h true e refl)
+  step-inside true e = goes (p + 1) (omega arith) (omega arith) (past-blank x s p p refl h e refl)
   step-inside false e = step-byte e (eqb (getD s p 0) hash) refl
 
 step : (x : Edition) (s : List ℕ) (p : ℕ) → Dec (p < length s) → Step x s p
 step x s p (yes h) = step-inside x s p h (blank (getD s p 0)) refl
 step x s p (no h) = step-outside x s p (omega arith)
 
-record Ended (x : Edition) (s : List ℕ) (p q : ℕ) : Type 0 where
-  onward : p ≤ q
-  within : p ≤ length s → q ≤ length s
-  again : skip x s q ≡ At q
-  stopped : Stopped s q
+-- a skip from p ends at q
+pub record Ended (x : Edition) (s : List ℕ) (p q : ℕ) : Type 0 where
+  pub onward : p ≤ q
+  pub within : p ≤ length s → q ≤ length s
+  pub again : skip x s q ≡ At q
+  pub stopped : Stopped s q
 
 module _ (x : Edition) (s : List ℕ) (q : ℕ) where
-  turn : (p : ℕ) → skip x s p ≡ At q → ((r : ℕ) → p < r → r ≤ length s → skip x s r ≡ At q → Ended x s r q) → Step x s p
-      → Ended x s p q
-  turn p e on (stays f g) =
+  turn : {p : ℕ} → skip x s p ≡ At q → ((r : ℕ) → p < r → r ≤ length s → skip x s r ≡ At q → Ended x s r q) → Step x s p → Ended x s p q
+  turn {p} e on (stays f g) =
       let z : p ≡ q = cc in
       record { onward = omega arith; within = λ l. omega arith; again = rw z at e; stopped = rw z at g }
-  turn p e on (goes r a b f) =
+  turn e on (goes r a b f) =
       let n = on r a b (sym f ∙ e) in
       record { onward = omega (arith, n .onward); within = λ l. n .within b; again = n .again; stopped = n .stopped }
-  turn p e on (opens f) =
+  turn e on (opens f) =
       let z : _≡_ {A = ℕ} 0 1 = cc in
       absurd (omega arith)
 
   ended-in : (n p : ℕ) → length s - p ≤ n → skip x s p ≡ At q → Ended x s p q
-  ended-in zero p h e = turn p e (λ r a b f. absurd (omega arith)) (step x s p (decLt p (length s)))
-  ended-in (suc n) p h e = turn p e (λ r a b f. ended-in n r (omega arith) f) (step x s p (decLt p (length s)))
+  ended-in zero p h e = turn e (λ r a b f. absurd (omega arith)) (step x s p (decLt p (length s)))
+  ended-in (suc n) p h e = turn e (λ r a b f. ended-in n r (omega arith) f) (step x s p (decLt p (length s)))
 
-module _ (x : Edition) (s : List ℕ) (p q : ℕ) (e : skip x s p ≡ At q) where
-  ended : Ended x s p q
-  ended = ended-in x s q (length s - p) p (omega arith) e
-
-  pub skip-onward : p ≤ q
-  skip-onward = ended .onward
-
-  pub skip-within : p ≤ length s → q ≤ length s
-  skip-within = ended .within
-
-  pub skip-again : skip x s q ≡ At q
-  skip-again = ended .again
-
-  pub skip-stops : Stopped s q
-  skip-stops = ended .stopped
+pub skip-ended : {x : Edition} {s : List ℕ} {p q : ℕ} → skip x s p ≡ At q → Ended x s p q
+skip-ended {x} {s} {p} {q} e = ended-in x s q (length s - p) p (omega arith) e

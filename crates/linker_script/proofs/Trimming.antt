@@ -45,7 +45,7 @@ pub record Kept (s : List ℕ) (e : ℕ) : Type 0 where
 pub kept-all : (s : List ℕ) → Kept s (length s)
 kept-all s = record { within = le-refl (length s); same = rw take-length }
 
-module _ (s : List ℕ) (e : ℕ) (inv : Kept s e) where
+module _ {s : List ℕ} {e : ℕ} (inv : Kept s e) where
   pub kept-none : e ≤ 0 → take e s ≡ trim-end s
   unfolding trim-end
   kept-none h =

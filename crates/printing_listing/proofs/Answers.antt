@@ -113,7 +113,7 @@ module _ (w : Option Book) (s d : List ℕ) (from : ℕ) (l : List ℕ) (at end 
 
     module _ (x : Found) (e : x ≡ first-from (is line-feed) s at) (p : ℕ) (f : x ≡ Here p) where
       line-found : First (is line-feed) s at p
-      line-found = first-within (is line-feed) s at p (sym e ∙ f)
+      line-found = first-within (sym e ∙ f)
 
       pub line-starts : at ≤ p
       line-starts = line-found .onward

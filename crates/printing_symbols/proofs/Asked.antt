@@ -36,7 +36,7 @@ module _ (line d : List ℕ) (x : Found) (e : x ≡ first-from (is at-sign) line
 
   module _ (p : ℕ) (f : x ≡ Here p) where
     at-within : p + 1 ≤ length line
-    at-within = omega (arith, first-within (is at-sign) line 0 p (sym e ∙ f) .within)
+    at-within = omega (arith, first-within (sym e ∙ f) .within)
 
     pub version-fits : Fits w64 (length line) → Fits w64 (p + 1)
     version-fits n = omega (arith, at-within)

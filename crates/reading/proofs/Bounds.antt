@@ -81,7 +81,7 @@ module _ (s : List ℕ) (p : ℕ) where
   ends-found t n h (Here q) e = go (ltb p q) refl
     where
       go : (v : Bool) → ltb p q ≡ v → Ends s p (cond v (To q) (Refused unreadable))
-      go true l = ends (ltb-true p q l) (first-within t s p q e .within)
+      go true l = ends (ltb-true p q l) (first-within e .within)
       go false l = refuses refl
   ends-found t n h Nowhere e = refuses h
 
@@ -107,7 +107,7 @@ unfolding bare-skip
 bare-skip-within x s = go (first-from (is closing-brace) s 0) refl
   where
     go : (f : Found) → first-from (is closing-brace) s 0 ≡ f → bare-skip x s ≤ length s
-    go (Here q) e = rw e (omega (arith, first-within (is closing-brace) s 0 q e .within))
+    go (Here q) e = rw e (omega (arith, first-within e .within))
     go Nowhere e = rw e (omega arith)
 
 pub bare-refuses : (x : Edition) (s : List ℕ) (n : ℕ) → bare-end x s ≡ Refused n → of-grammar n ≡ true

@@ -103,12 +103,12 @@ module _ (s : List ℕ) (c : Cursor) where
   ended-found k p b n z empty none (Here q) e = go (ltb p q) refl
     where
       stands-there : Byte b s q
-      stands-there = eqb-true (getD s q 0) b (first-within (is b) s p q e .holds)
+      stands-there = eqb-true (getD s q 0) b (first-within e .holds)
 
       go : (v : Bool) → ltb p q ≡ v → Ended k p (cond v (To q) (no.Refused unreadable))
       go true h = to (z q stands-there)
       go false h =
-          let y : q ≡ p = omega (arith, ltb-false p q h, first-within (is b) s p q e .onward) in
+          let y : q ≡ p = omega (arith, ltb-false p q h, first-within e .onward) in
           not (empty (rw y at stands-there))
   ended-found k p b n z empty none Nowhere e = not (none e)
 
@@ -164,7 +164,7 @@ module _ (s : List ℕ) (c : Cursor) where
       go (Here q) e = rw e (here (ltb 0 q) refl)
         where
           stands-there : Byte closing-brace s q
-          stands-there = eqb-true (getD s q 0) closing-brace (first-within (is closing-brace) s 0 q e .holds)
+          stands-there = eqb-true (getD s q 0) closing-brace (first-within e .holds)
 
           here : (v : Bool) → ltb 0 q ≡ v → Says (bare-line c s place (cond v (To q) (no.Refused unreadable)))
           here true h = rw (e, closing-stays (edition-at c) s q stands-there) goes

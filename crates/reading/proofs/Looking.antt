@@ -35,7 +35,7 @@ first-later t s p q r f a b = go (first-from t s r) refl
 
     go : (w : Found) → first-from t s r ≡ w → first-from t s r ≡ Here q
     go (Here x) e =
-        let z = at x (first-within t s r x e) (decLt x q) (decLt q x) in
+        let z = at x (first-within e) (decLt x q) (decLt q x) in
         e ∙ rw z
     go Nowhere e = absurd (true≢false (sym (f .holds) ∙ nowhere-in t s q (f .within) (q - r) r (omega arith) b e))
 
@@ -62,7 +62,7 @@ pub data Looked (x : Edition) (s : List ℕ) (q r : ℕ) : Type 0 where
 -- a `};` is left from p on, so the first `;` from there is looked for
 module _ (x : Edition) (s : List ℕ) (p q r : ℕ) (h : p < last-close s) (e : first-from (is semicolon) s p ≡ Here q) where
   found : First (is semicolon) s p q
-  found = first-within (is semicolon) s p q e
+  found = first-within e
 
   ends-at-semicolon : to-semicolon x s p ≡ To r → Looked x s q r
   unfolding to-semicolon
@@ -82,7 +82,7 @@ module _ (x : Edition) (s : List ℕ) (p q r : ℕ) (h : p < last-close s) (e : 
       before = eqb-true (getD s (q - 1) 0) closing-brace (and-both (ltb p q) (eqb (getD s (q - 1) 0) closing-brace) b .1)
 
       here : Byte closing-brace s r
-      here = eqb-true (getD s r 0) closing-brace (first-within (is closing-brace) s p r (brace .0) .holds)
+      here = eqb-true (getD s r 0) closing-brace (first-within (brace .0) .holds)
 
       -- the `};` before q is left from r on
       left : r + 1 < q → r < last-close s

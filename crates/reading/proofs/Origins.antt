@@ -17,7 +17,7 @@ use Rattle.linker_script.specs.declared.Skipped.{Skipped}
 use Rattle.linker_script.specs.declared.Skipped.the-variants.{At, Open}
 use Rattle.linker_script.specs.Finding.{first-from, is}
 use Rattle.linker_script.proofs.Searches.{first-within}
-use Rattle.linker_script.proofs.Skipping.{Stopped, skip-stops}
+use Rattle.linker_script.proofs.Skipping.{Stopped, skip-ended}
 use Rattle.reading_tokens.specs.declared.TokenEnd.{TokenEnd}
 use Rattle.reading_tokens.specs.declared.TokenEnd.the-variants.{To}
 use Rattle.reading_tokens.specs.declared.TokenEnd.the-variants as token
@@ -93,7 +93,7 @@ module _ (s : List ℕ) (c : Cursor) where
   on-skipping p {on} f = go (skip-at c s p) refl
     where
       go : (k : Skipped) → skip-at c s p ≡ k → Comes s c (on-skip k on)
-      go (At q) e = f q (skip-stops (edition-at c) s p q e)
+      go (At q) e = f q (skip-ended e .stopped)
       go (Open q) e = refused
 
   on-expecting : (b p : ℕ) {a : Step} → Comes s c a → Comes s c (expecting b s p (λ _. a))
@@ -181,7 +181,7 @@ module _ (s : List ℕ) (c : Cursor) where
       parent-to-comes : (p : ℕ) (f : Found) → first-from (is semicolon) s p ≡ f → Comes s c (parent-to (in-section c 0) p f)
       unfolding parent-to
       parent-to-comes p (Here q) e =
-          let w = first-within (is semicolon) s p q e in
+          let w = first-within e in
           let g : (i : ℕ) → i < q - p → eqb (getD s (p + i) 0) semicolon ≡ false = λ i j. w .before (p + i) (omega arith) (omega arith) in
           goes (parent l h g) (in-script at-node (omega arith))
       parent-to-comes p Nowhere e = refused

@@ -150,7 +150,7 @@ module _ (s : List ℕ) where
   parent-to-keeps : (c : Cursor) (p : ℕ) → Marked c → (f : Found) → first-from (is semicolon) s p ≡ f → Keeps s (parent-to c p f)
   unfolding parent-to
   parent-to-keeps c p m (Here q) e =
-      let w = first-within (is semicolon) s p q e in
+      let w = first-within e in
       goes (parent {p = p} {n = q - p} (omega (arith, w .onward, w .within))) m
   parent-to-keeps c p m Nowhere e = refused
 

@@ -17,7 +17,7 @@ use Rattle.linker_script.specs.declared.Skipped.{Skipped}
 use Rattle.linker_script.specs.declared.Skipped.the-variants.{At, Open}
 use Rattle.linker_script.specs.Finding.{first-from, is}
 use Rattle.linker_script.proofs.Searches.{first-within}
-use Rattle.linker_script.proofs.Skipping.{skip-onward}
+use Rattle.linker_script.proofs.Skipping.{skip-ended}
 use Rattle.reading_tokens.specs.declared.TokenEnd.{TokenEnd}
 use Rattle.reading_tokens.specs.declared.TokenEnd.the-variants.{To}
 use Rattle.reading_tokens.specs.declared.TokenEnd.the-variants as token
@@ -93,7 +93,7 @@ module _ (s : List ℕ) (c : Cursor) where
   on-skipping p {on} f = go (skip-at c s p) refl
     where
       go : (k : Skipped) → skip-at c s p ≡ k → Comes c (on-skip k on)
-      go (At q) e = f q (skip-onward (edition-at c) s p q e)
+      go (At q) e = f q (skip-ended e .onward)
       go (Open q) e = refused
 
   on-expecting : (b p : ℕ) {a : Step} → Comes c a → Comes c (expecting b s p (λ _. a))
@@ -189,7 +189,7 @@ module _ (s : List ℕ) (c : Cursor) where
     parent-to-comes : (p : ℕ) → c .at < p → (f : Found) → first-from (is semicolon) s p ≡ f → Comes c (parent-to (in-section c 0) p f)
     unfolding parent-to
     parent-to-comes p k (Here q) e =
-        let w = first-within (is semicolon) s p q e in
+        let w = first-within e in
         let o : Closes c p (q - p) (moved (in-section c 0) at-node (q + 1)) =
         record { before = h; from = k; to = omega (arith, w .onward); behind = refl } in
         goes _ _ o

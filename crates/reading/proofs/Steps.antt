@@ -19,7 +19,7 @@ use Rattle.linker_script.specs.declared.Skipped.{Skipped}
 use Rattle.linker_script.specs.declared.Skipped.the-variants.{At, Open}
 use Rattle.linker_script.specs.Finding.{first-from, is}
 use Rattle.linker_script.proofs.Searches.{first-within}
-use Rattle.linker_script.proofs.Skipping.{skip-onward, skip-within}
+use Rattle.linker_script.proofs.Skipping.{skip-ended}
 use Rattle.linker_script.proofs.Unclosed.{unclosed-within}
 use Rattle.reading_tokens.specs.declared.TokenEnd.{TokenEnd}
 use Rattle.reading_tokens.specs.declared.TokenEnd.the-variants.{To}
@@ -89,7 +89,7 @@ module _ (s : List ℕ) (c : Cursor) where
     where
       go : (k : Skipped) → skip-at c s p ≡ k → Fits s c (on-skip k on)
       go (At q) e =
-          let w : Past s p q = record { onward = skip-onward (edition-at c) s p q e; within = skip-within (edition-at c) s p q e } in
+          let w : Past s p q = record { onward = skip-ended e .onward; within = skip-ended e .within } in
           f q w (further p q r (w .onward) (w .within))
       go (Open q) e = refused (grammar {p = q} refl (λ h. omega (arith, unclosed-within (edition-at c) s p q (r .inside h) e)))
 
@@ -203,7 +203,7 @@ module _ (s : List ℕ) (c : Cursor) where
     parent-to-fits : (d : Cursor) → (f : Found) → first-from (is semicolon) s p ≡ f → Fits s c (parent-to d p f)
     unfolding parent-to
     parent-to-fits d (Here q) e =
-        let h = first-within (is semicolon) s p q e in
+        let h = first-within e in
         go-on p r (omega (arith, h .onward)) (omega (arith, h .within)) refl
     parent-to-fits d Nowhere e = refuse unreadable p refl r
 

@@ -70,7 +70,7 @@ module _ (c : Cursor) (s : List ℕ) (p : ℕ) (f : Found) (e : f ≡ first-from
     parent-goes d m = rw (← e, k, m)
 
     found : First (is semicolon) s p q
-    found = first-within (is semicolon) s p q (sym e ∙ k)
+    found = first-within (sym e ∙ k)
 
     pub parent-long : p ≤ q
     parent-long = found .onward

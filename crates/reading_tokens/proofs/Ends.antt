@@ -76,7 +76,7 @@ module _ (x : Edition) (s : List ℕ) (p : ℕ) where
     by-semicolon : (c : ℕ) → first-from closes s p ≡ Here c → (f : Found) → first-from (is semicolon) s p ≡ f
         → to-either x s p ≡ cond (brace-before s p f) (to-brace x s p) (to-semicolon x s p)
     unfolding to-either
-    by-semicolon c e (Here q) g = rw (e, g, same-end s p c q (first-within closes s p c e) (first-within (is semicolon) s p q g))
+    by-semicolon c e (Here q) g = rw (e, g, same-end s p c q (first-within e) (first-within g))
     by-semicolon c e Nowhere g = rw (e, g)
 
     pub either-left : (f : Found) → first-from (is semicolon) s p ≡ f → to-either x s p ≡ cond (brace-before s p f) (to-brace x s p) (to-semicolon x s p)

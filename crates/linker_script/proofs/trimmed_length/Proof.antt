@@ -10,29 +10,8 @@ Inv-loop s e₀ e = Kept s e
 abbrev μ-loop : tie.MeasureT-loop
 μ-loop s e₀ e = e
 
-loop-holds : tie.Need-loop-holds Inv-loop μ-loop
-loop-holds c = search kept-all
-
-sub-k : tie.Need-sub-k Inv-loop μ-loop
-sub-k c = search needs
-
-shared-slice-read-is-white : tie.Need-shared-slice-read-is-white Inv-loop μ-loop
-shared-slice-read-is-white c = search needs
-
-is-white-requires : tie.Need-is-white-requires Inv-loop μ-loop
-is-white-requires c κs = search needs
-
 returns : tie.Need-returns Inv-loop μ-loop
 returns c = search kept-ends
-
-loop-less : tie.Need-loop-less Inv-loop μ-loop
-loop-less c = search needs
-
-loop-again : tie.Need-loop-again Inv-loop μ-loop
-loop-again c = search kept-less
-
-returns-2 : tie.Need-returns-2 Inv-loop μ-loop
-returns-2 c = search kept-none
 
 pub trimmed-length-spec : {M : Type 1} → statement M
 trimmed-length-spec =
@@ -40,11 +19,9 @@ trimmed-length-spec =
     (tie.spec
     Inv-loop
     μ-loop
-    loop-holds
-    sub-k
-    shared-slice-read-is-white
-    is-white-requires
+    (λ c. search kept-all)
+    (λ c. search needs) (λ c. search needs) (λ c κs. search needs)
     returns
-    loop-less
-    loop-again
-    returns-2)
+    (λ c. search needs)
+    (λ c. search kept-less)
+    (λ c. search kept-none))

@@ -7,10 +7,7 @@ use Rattle.linker_script.proofs.searching.block_place.Tie as tie
 
 returns : tie.Need-returns
 returns c =
-    let a = c .before .before .before .args in
-    let low = c .before .eight-bits in
-    let high = c .eight-bits2 in
-    let place = block-place (a .x) (a .s .now) (a .at) (c .before .before .before .pre) (low .result) (high .result) (low .ensures .1) (high .ensures .1) in
+    let place = block-place (c .before .before .before .pre) (c .before .eight-bits .ensures .1) (c .eight-bits2 .ensures .1) in
     (place .here, place .none)
 
 pub block-place-spec : {M : Type 1} → statement M

@@ -15,9 +15,7 @@ loop-again : tie.Need-loop-again Inv-loop μ-loop
 loop-again c = search eight-on
 
 returns : tie.Need-returns Inv-loop μ-loop
-returns c =
-    let a = c .before .before .before .args in
-    eight-all (a .x) (a .s .now) (a .at) (c .before .loop .low) (c .before .loop .i) (c .before .loop .inv) (c .loop-test .left)
+returns c = eight-all (c .before .loop .inv) (c .loop-test .left)
 
 pub eight-bits-spec : {M : Type 1} → statement M
 eight-bits-spec =

@@ -1,5 +1,5 @@
 -- `find` meets its contract. The loops' invariant: what is found from i on decides. Assumes nothing.
-use Prim.Native.Nat.{_-_}
+use Prim.Native.Nat.{_+_, _-_, _≤_}
 use mathlib.Core.Path.{_≡_, refl}
 use native.Mathlib.Omega.{arith}
 use borrow.Author.Needs.{needs}
@@ -22,29 +22,9 @@ Inv-loop2 s x at i₀ i = first-from (is x) s at ≡ first-from (is x) s i
 abbrev μ-loop2 : tie.MeasureT-loop2
 μ-loop2 s x at i₀ i = length s - i
 
-add-t8 : tie.Need-add-t8 Inv-loop μ-loop Inv-loop2 μ-loop2
-add-t8 c =
-    let b = c .before .before .before in
-    omega (
-      arith,
-      has-within (length (b .before .before .before .args .s .now)) (b .before .loop .i) (b .has-block .result) (b .has-block .ensures) (c .before .before .if1 .taken),
-    )
-
-add-i : tie.Need-add-i Inv-loop μ-loop Inv-loop2 μ-loop2
-add-i c =
-    let b = c .before .before .before in
-    omega (
-      arith,
-      has-within (length (b .before .before .before .args .s .now)) (b .before .loop .i) (b .has-block .result) (b .has-block .ensures) (c .before .before .if1 .taken),
-    )
-
-loop-less : tie.Need-loop-less Inv-loop μ-loop Inv-loop2 μ-loop2
-loop-less c =
-    let b = c .before .before .before in
-    omega (
-      arith,
-      has-within (length (b .before .before .before .args .s .now)) (b .before .loop .i) (b .has-block .result) (b .has-block .ensures) (c .before .before .if1 .taken),
-    )
+-- the loop goes on where 16 bytes stand from i on
+inside : (c : tie.Then1 Inv-loop μ-loop Inv-loop2 μ-loop2) → c .before .before .loop .i + 16 ≤ length (c .before .before .before .before .args .s .now)
+inside c = search has-within
 
 loop-again : tie.Need-loop-again Inv-loop μ-loop Inv-loop2 μ-loop2
 loop-again c = search block-on
@@ -61,11 +41,9 @@ find-spec =
     Inv-loop2
     μ-loop2
     (λ c. refl) (λ c κs. search needs)
-    (λ c κs. search has-within)
-    add-t8
+    (λ c κs. search has-within) (λ c. omega (arith, inside (c .before .before)))
     (λ c. search block-here)
-    add-i
-    loop-less
+    (λ c. omega (arith, inside (c .before .before))) (λ c. omega (arith, inside (c .before .before)))
     loop-again
     (λ c. search needs) (λ c. search needs)
     (λ c. search find-here)

@@ -5,11 +5,5 @@ use Rattle.linker_script.proofs.Blocks.{mark-byte}
 use Rattle.linker_script.proofs.searching.mark.Statement.{statement}
 use Rattle.linker_script.proofs.searching.mark.Tie as tie
 
-cast-result : tie.Need-cast-result
-cast-result c = search needs
-
-returns : tie.Need-returns
-returns c = mark-byte (eqb (c .args .c) (c .args .x))
-
 pub mark-spec : {M : Type 1} → statement M
-mark-spec = tie.close (tie.spec cast-result returns)
+mark-spec = tie.close (tie.spec (λ c. search needs) (λ c. mark-byte (eqb (c .args .c) (c .args .x))))
