@@ -14,7 +14,7 @@ use Rattle.lists.proofs.PiecesLaws.{pieces-nil}
 use Rattle.utf8.specs.Utf8.{chars}
 use Rattle.utf8.specs.At.{character-at}
 use Rattle.utf8.specs.declared.Character.{Character}
-use Rattle.utf8.proofs.Walk.{walk-onward, chars-end}
+use Rattle.utf8.proofs.Walk.{walked, chars-end}
 use Rattle.numbers.specs.declared.Edition.{Edition}
 use Rattle.pattern.specs.declared.bracket.Bracket.{Bracket}
 use Rattle.matching.specs.declared.elements.ElementAt.{ElementAt}
@@ -76,14 +76,14 @@ element-one e c s h =
 module _ (e : Edition) (p : List ℕ) (at x : ℕ) (f : Character) (q : f ≡ character-at p at) (h : at < length p) where
   reads-alone : (m : Element) → element e (f .number) (chars (drop (f .next) p)) ≡ piece m 0 → elements e (drop at p) ≡ m ∷ elements e (drop (f .next) p)
   unfolding elements
-  reads-alone m k = walk-pieces p at f q (element e) h ∙ rw k
+  reads-alone m k = walk-pieces (walked q h) (element e) ∙ rw k
 
   takes-alone : (m : Taker) → element e (f .number) (chars (drop (f .next) p)) ≡ piece (one m) 0 → takes m x ≡ true → Element-takes e p at x (f .next)
-  takes-alone m k t = record { m = m; room = h; onward = walk-onward p at f q h; reads = reads-alone (one m) k; fits = t }
+  takes-alone m k t = record { m = m; room = h; onward = walked q h .onward; reads = reads-alone (one m) k; fits = t }
 
   pub is-star : f .number ≡ 42 → Element-star e p at (f .next)
   unfolding element
-  is-star k = record { room = h; onward = walk-onward p at f q h; reads = reads-alone star (rw k) }
+  is-star k = record { room = h; onward = walked q h .onward; reads = reads-alone star (rw k) }
 
   pub is-any : f .number ≡ 63 → Element-takes e p at x (f .next)
   unfolding element takes
@@ -106,7 +106,7 @@ module _ (e : Edition) (p : List ℕ) (at x : ℕ) (f : Character) (q : f ≡ ch
   module _ (k : f .number ≡ 91) (o : One (opened e (chars (drop (f .next) p)) .what)) where
     reads-bracket : elements e (drop at p) ≡ one (o .single) ∷ pieces (element e) (drop (opened e (chars (drop (f .next) p)) .more) (chars (drop (f .next) p)))
     unfolding element elements
-    reads-bracket = walk-pieces p at f q (element e) h ∙ rw (k, o .is)
+    reads-bracket = walk-pieces (walked q h) (element e) ∙ rw (k, o .is)
 
     bracket-ok : (r : ElementAt) → Bracket-at-ok e p (f .next) x r → Element-ok e p at x r
     unfolding elements taken
@@ -115,7 +115,7 @@ module _ (e : Edition) (p : List ℕ) (at x : ℕ) (f : Character) (q : f ≡ ch
         record {
           m = o .single;
           room = h;
-          onward = omega (arith, b .onward, walk-onward p at f q h);
+          onward = omega (arith, b .onward, walked q h .onward);
           reads = reads-bracket ∙ rw (b .behind);
           fits = rw (o .is) at (b .fits);
         }

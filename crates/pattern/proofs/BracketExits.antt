@@ -17,7 +17,7 @@ use Rattle.lists.proofs.PiecesLaws.{pieces-nil}
 use Rattle.utf8.specs.Utf8.{read, chars}
 use Rattle.utf8.specs.At.{character-at}
 use Rattle.utf8.specs.declared.Character.{Character}
-use Rattle.utf8.proofs.Walk.{walk-onward, walk-chars, chars-nil, chars-end, chars-cons, chars-cons-ascii}
+use Rattle.utf8.proofs.Walk.{walked, chars-nil, chars-end, chars-cons, chars-cons-ascii}
 use Rattle.numbers.specs.declared.Edition.{Edition}
 use Rattle.pattern.specs.declared.bracket.MemberAt.{MemberAt}
 use Rattle.pattern.specs.Patterns.{single, range, holds, some-holds, member, inside, between, takes, bracketed, opened}
@@ -55,11 +55,11 @@ pub record Scanned (s : List ℕ) (from i : ℕ) : Type 0 where
   pub onward : from < i
   pub same : from + 1 + left s (from + 1) ≡ i + left s i
 
-pub scan-starts : (s : List ℕ) (from : ℕ) → Scanned s from (from + 1)
-scan-starts s from = record { onward = omega arith; same = refl }
+pub scan-starts : {s : List ℕ} {from : ℕ} → Scanned s from (from + 1)
+scan-starts = record { onward = omega arith; same = refl }
 
-pub scan-again : (s : List ℕ) (from i : ℕ) → Scanned s from i → i < length s → (getD s i 0 ≡ 93 → ⊥) → Scanned s from (i + 1)
-scan-again s from i inv h n = record { onward = omega arith; same = omega (arith, more) }
+pub scan-again : {s : List ℕ} {from i : ℕ} → Scanned s from i → i < length s → (getD s i 0 ≡ 93 → ⊥) → Scanned s from (i + 1)
+scan-again {s} {i = i} inv h n = record { onward = omega arith; same = omega (arith, more) }
   where
     more : left s i ≡ suc (left s (i + 1))
     more = rw (add-one i, drop-cons s i 0 h, inside-cons (getD s i 0) (drop (suc i) s) n)
@@ -69,7 +69,7 @@ module _ (e : Edition) (s : List ℕ) (from : ℕ) where
   unfolding between
   between-end h = rw (drop-of-length-le s h)
 
-  module _ (i : ℕ) (h : from < length s) (inv : Scanned s from i) where
+  module _ {i : ℕ} (h : from < length s) (inv : Scanned s from i) where
     none-left : left s i ≡ 0 → i - from ≡ length (between e (drop from s))
     unfolding between
     none-left k = rw (drop-cons s from 0 h, ← add-one from) (omega arith)
@@ -99,20 +99,21 @@ module _ (e : Edition) (a : ℕ) where
   unfolding member
   member-range d s = refl
 
-module _ (e : Edition) (body : List ℕ) (at x : ℕ) (f g : Character) (p : f ≡ character-at body at) (q : g ≡ character-at body (f .next)) (h : at < length body) where
+module _ (e : Edition) (body : List ℕ) (at x : ℕ) (f g : Character)
+    (p : f ≡ character-at body at) (q : g ≡ character-at body (f .next)) (h : at < length body) where
   abbrev Single-ok : Type 0
   Single-ok = Member-ok e body at x (record { holds = eqb (f .number) x; next = f .next })
 
   is-single : member e (f .number) (chars (drop (f .next) body)) ≡ piece (single (f .number)) 0 → Single-ok
   unfolding holds
-  is-single r = record { m = single (f .number); onward = walk-onward body at f p h; reads = walk-pieces body at f p (member e) h ∙ rw r; held = refl }
+  is-single r = record { m = single (f .number); onward = walked p h .onward; reads = walk-pieces (walked p h) (member e) ∙ rw r; held = refl }
 
   -- f is the last character of the body, or g stands behind it
   or-last : member e (f .number) (g .number ∷ chars (drop (g .next) body)) ≡ piece (single (f .number)) 0 → Single-ok
   or-last r = is-single (go (decLt (f .next) (length body)))
     where
       go : Dec (f .next < length body) → member e (f .number) (chars (drop (f .next) body)) ≡ piece (single (f .number)) 0
-      go (yes l) = rw (walk-chars body (f .next) g q l) r
+      go (yes l) = rw (walked q l .reads) r
       go (no l) = rw (chars-end body (f .next) (omega arith)) (member-last e (f .number))
 
   pub single-plain : (g .number ≡ 45 → ⊥) → Single-ok
@@ -125,13 +126,13 @@ module _ (e : Edition) (body : List ℕ) (at x : ℕ) (f g : Character) (p : f �
     is-range : (b : Bool) → b ≡ leb (f .number) x && leb x (t .number) → Member-ok e body at x (record { holds = b; next = t .next })
     unfolding holds
     is-range b k =
-        let w : f .next < length body = number-within body (f .next) g q (λ z. omega arith) in
+        let first = walked p h in
+        let second = walked q (number-within body q (λ z. omega arith)) in
+        let third = walked r l in
         record {
           m = range (f .number) (t .number);
-          onward = omega (arith, walk-onward body at f p h, walk-onward body (f .next) g q w, walk-onward body (g .next) t r l);
-          reads =
-              walk-pieces body at f p (member e) h
-              ∙ rw (walk-chars body (f .next) g q w, d, walk-chars body (g .next) t r l, member-range e (f .number) (t .number));
+          onward = omega (arith, first .onward, second .onward, third .onward);
+          reads = walk-pieces first (member e) ∙ rw (second .reads, d, third .reads, member-range e (f .number) (t .number));
           held = k;
         }
 
@@ -151,7 +152,7 @@ module _ (e : Edition) (body : List ℕ) (x at : ℕ) (inv : holds-from e body x
   unfolding some-holds any
   members-end h = sym (inv ∙ rw (chars-end body at h, pieces-nil (member e)))
 
-  module _ (r : MemberAt) (k : Member-ok e body at x r) where
+  module _ {r : MemberAt} (k : Member-ok e body at x r) where
     members-here : holds-from e body x 0 ≡ r .holds || holds-from e body x (r .next)
     unfolding some-holds any
     members-here = inv ∙ rw (k .reads, k .held)
@@ -201,7 +202,7 @@ between-part e (c ∷ s) = rw (inside-part s)
 pub between-few : (e : Edition) (s : List ℕ) → length (between e s) ≤ length s
 between-few e s = omega (arith, simp length-take at (ap length (between-part e s)))
 
-module _ (e : Edition) (rest : List ℕ) (from k : ℕ) (p : from ≡ mark-as false rest) (q : k ≡ length (between e (drop from rest))) where
+module _ (e : Edition) (rest : List ℕ) {from k : ℕ} (p : from ≡ mark-as false rest) (q : k ≡ length (between e (drop from rest))) where
   here : Opens e rest (eqb from 1) from
   here = rw p (opens e rest)
 
@@ -239,8 +240,8 @@ module _ (e : Edition) (rest : List ℕ) (x : ℕ) where
 
   pub told-behind : drop (opened e (chars rest) .more) (chars rest) ≡ chars (drop (bracket-told e rest x .past) rest)
   unfolding bracket-told
-  told-behind = bracket-behind e rest _ _ refl refl
+  told-behind = bracket-behind e rest refl refl
 
   pub told-within : bracket-told e rest x .past ≤ length rest + 1
   unfolding bracket-told
-  told-within = omega (arith, bracket-fits e rest _ _ refl refl)
+  told-within = omega (arith, bracket-fits e rest refl refl)

@@ -40,11 +40,11 @@ inside-tails (c ∷ s) = go (tail c) refl (inside-tails s)
     low false q h = rw (inside-cons c s (eqb-false c 93 q), tails-none c (inside s) h, tails-none c s h)
 
     go : (t : Bool) → tail c ≡ t → tails (inside s) ≡ tails s → tails (inside (c ∷ s)) ≡ tails (c ∷ s)
-    go true h i = rw (inside-cons c s (λ q. omega (arith, tail-high c h)), tails-cons c (inside s) h, tails-cons c s h, i)
+    go true h i = rw (inside-cons c s (λ q. omega (arith, tail-high h)), tails-cons c (inside s) h, tails-cons c s h, i)
     go false h i = low (eqb c 93) refl h
 
 inside-blind : Tail-blind inside
-inside-blind = record { keeps = λ b s h. inside-cons b s (λ q. omega (arith, tail-high b h)); same = inside-tails }
+inside-blind = record { keeps = λ b s h. inside-cons b s (λ q. omega (arith, tail-high h)); same = inside-tails }
 
 -- the first character of a text, c, with n bytes behind its first byte a; also where the text is cut at the first `]` behind it
 record First (a : ℕ) (s : List ℕ) : Type 0 where
@@ -77,13 +77,13 @@ first a s = go (decLt a 128)
           c = read a s .what;
           n = read a s .more;
           whole = chars-cons a s;
-          cut = blind-chars inside inside-blind a s;
-          long = blind-length inside inside-blind (read a s .more) s m;
+          cut = blind-chars inside-blind a s;
+          long = blind-length inside-blind (read a s .more) s m;
           few = omega (arith, tails-few s);
           closes = λ h. absurd (omega arith);
         }
 
--- f cuts a text before a `]`: the bytes up to there are those of the characters up to there, so is what follows the `]`, and one text has it where the other has
+-- f cuts a text before a `]`: the bytes up to there are those of the characters up to there, so is what follows the `]`, and one has it where the other has
 record Cut (f : List ℕ → List ℕ) (s : List ℕ) : Type 0 where
   same : f (chars s) ≡ chars (f s)
   behind : drop (length (f (chars s)) + 1) (chars s) ≡ chars (drop (length (f s) + 1) s)
@@ -106,9 +106,9 @@ below-more l m i j h n = go (ltb l m) refl
         le-ltb (suc l) (suc m) (omega arith) ∙ sym (le-ltb (suc (n + i)) (suc (n + j)) (omega arith))
 
 -- a first character that does not close, in front of a text that is cut
-cut-cons : (f : List ℕ → List ℕ) (a : ℕ) (s : List ℕ) (k : First a s) → f (k .c ∷ chars (drop (k .n) s)) ≡ k .c ∷ inside (chars (drop (k .n) s))
+cut-cons : {f : List ℕ → List ℕ} {a : ℕ} {s : List ℕ} (k : First a s) → f (k .c ∷ chars (drop (k .n) s)) ≡ k .c ∷ inside (chars (drop (k .n) s))
     → f (a ∷ s) ≡ a ∷ inside s → Cut inside (drop (k .n) s) → Cut f (a ∷ s)
-cut-cons f a s k g h t =
+cut-cons {f} {a} {s} k g h t =
     let n = k .n in
     let i : length s ≡ n + length (drop n s) = omega (arith, k .few, length-drop n s) in
     let j : n + (length (inside (drop n s)) + 1) ≡ length (inside s) + 1 = omega (arith, k .long) in
@@ -146,7 +146,7 @@ cut-from (suc n) s h = step s h (cut-from n)
     go a s true q c = rw (eqb-true a 93 q) (cut-close s)
     go a s false q c =
         let o : a ≡ 93 → ⊥ = eqb-false a 93 q in
-        cut-cons inside a s (first a s) (inside-cons _ _ (λ x. o (first a s .closes x))) (inside-cons a s o) c
+        cut-cons (first a s) (inside-cons _ _ (λ x. o (first a s .closes x))) (inside-cons a s o) c
 
     step : (s : List ℕ) → length s ≤ suc n → ((t : List ℕ) → length t ≤ n → Cut inside t) → Cut inside s
     step [] h c = cut-nil
@@ -159,7 +159,7 @@ cut-inside s = cut-from (length s) s (le-refl (length s))
 cut-between : (e : Edition) (s : List ℕ) → Cut (between e) s
 unfolding between
 cut-between e [] = record { same = rw chars-nil; behind = rw chars-nil; closed = rw chars-nil }
-cut-between e (a ∷ s) = cut-cons (between e) a s (first a s) refl refl (cut-inside (drop (first a s .n) s))
+cut-between e (a ∷ s) = cut-cons (first a s) refl refl (cut-inside (drop (first a s .n) s))
 
 module _ (e : Edition) (s : List ℕ) where
   pub between-chars : between e (chars s) ≡ chars (between e s)

@@ -12,25 +12,24 @@ use Rattle.lists.proofs.PiecesLaws.{pieces-cons}
 use Rattle.utf8.specs.Utf8.{character, read, chars}
 use Rattle.utf8.specs.At.{character-at}
 use Rattle.utf8.specs.declared.Character.{Character}
-use Rattle.utf8.proofs.Walk.{walk-chars, read-ascii}
+use Rattle.utf8.proofs.Walk.{Walked, read-ascii}
 use Rattle.utf8.proofs.Ascii.{read-high}
 
-module _ (s : List ℕ) (at : ℕ) (f : Character) (e : f ≡ character-at s at) where
-  -- the piece that starts with f, and those behind it
-  pub walk-pieces : {B : Type 0} (r : Reader ℕ B) → at < length s → pieces r (chars (drop at s))
-      ≡ r (f .number) (chars (drop (f .next) s)) .what ∷ pieces r (drop (r (f .number) (chars (drop (f .next) s)) .more) (chars (drop (f .next) s)))
-  walk-pieces r h = rw (walk-chars s at f e h) (pieces-cons r (f .number) (chars (drop (f .next) s)))
+-- the piece that starts with f, and those behind it
+pub walk-pieces : {s : List ℕ} {at : ℕ} {f : Character} → Walked s at f → {B : Type 0} (r : Reader ℕ B) → pieces r (chars (drop at s))
+    ≡ r (f .number) (chars (drop (f .next) s)) .what ∷ pieces r (drop (r (f .number) (chars (drop (f .next) s)) .more) (chars (drop (f .next) s)))
+walk-pieces {s} {f = f} w r = rw (w .reads) (pieces-cons r (f .number) (chars (drop (f .next) s)))
 
-  -- past the end there is nothing but U+FFFD
-  pub number-within : (f .number ≡ 0xFFFD → ⊥) → at < length s
-  unfolding character-at
-  number-within n = go (decLt at (length s))
-    where
-      go : Dec (at < length s) → at < length s
-      go (yes h) = h
-      go (no h) =
-          let l : length s ≤ at = omega arith in
-          absurd (n (rw (e, le-ltb at (length s) l)))
+-- past the end there is nothing but U+FFFD
+pub number-within : (s : List ℕ) {at : ℕ} {f : Character} → f ≡ character-at s at → (f .number ≡ 0xFFFD → ⊥) → at < length s
+unfolding character-at
+number-within s {at} e n = go (decLt at (length s))
+  where
+    go : Dec (at < length s) → at < length s
+    go (yes h) = h
+    go (no h) =
+        let l : length s ≤ at = omega arith in
+        absurd (n (rw (e, le-ltb at (length s) l)))
 
 pub ascii-byte : (a : ℕ) (s : List ℕ) → read a s .what < 128 → read a s .what ≡ a
 unfolding character

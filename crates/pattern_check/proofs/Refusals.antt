@@ -14,7 +14,7 @@ use Rattle.lists.proofs.PiecesLaws.{pieces-nil, sound-nil, pieces-cons, sound-c
 use Rattle.utf8.specs.Utf8.{chars, utf8}
 use Rattle.utf8.specs.At.{character-at}
 use Rattle.utf8.specs.declared.Character.{Character}
-use Rattle.utf8.proofs.Walk.{walk-onward, walk-chars, chars-end}
+use Rattle.utf8.proofs.Walk.{walked, chars-end}
 use Rattle.numbers.specs.declared.Edition.{Edition}
 use Rattle.pattern_check.specs.declared.Closing.{Closing}
 use Rattle.pattern_check.specs.declared.Closing.the-variants.{Behind, Open}
@@ -93,10 +93,10 @@ module _ (e : Edition) (p : List ℕ) (token : Bool) where
 
   module _ (starred : Bool) (at : ℕ) (d : Decides starred at) (f : Character) (q : f ≡ character-at p at) (h : at < length p) where
     pub walk-less : length p - f .next < length p - at
-    walk-less = omega (arith, walk-onward p at f q h)
+    walk-less = omega (arith, walked q h .onward)
 
     walk-first : shaped ≡ shaped-from e starred (f .number ∷ chars-as token (eqb (f .number) 91) (chars (drop (f .next) p)))
-    walk-first = d ∙ rw (walk-chars p at f q h, first-stored)
+    walk-first = d ∙ rw (walked q h .reads, first-stored)
 
     pub walk-star : f .number ≡ 42 → starred ≡ false → Decides true (f .next)
     walk-star n k = walk-first ∙ rw (n, k, shaped-star)
@@ -119,7 +119,7 @@ module _ (e : Edition) (p : List ℕ) (token : Bool) where
         walk-bracket = walk-first ∙ rw (n, shaped-bracket, closed .good, closed .behind)
 
         pub bracket-less : length p - to < length p - at
-        bracket-less = omega (arith, walk-onward p at f q h, closed .onward)
+        bracket-less = omega (arith, walked q h .onward, closed .onward)
 
 -- ---- 5, or what the walk answers
 module _ (e : Edition) (p : List ℕ) (token good : Bool) (r : ℕ) (k : good ≡ utf8 p) where

@@ -39,23 +39,23 @@ negated-tails [] = refl
 negated-tails (c ∷ s) = go (tail c) refl (negated-tails s)
   where
     go : (t : Bool) → tail c ≡ t → tails (negated-from false s) ≡ tails s → tails (c ∷ negated-from (eqb c 91) s) ≡ tails (c ∷ s)
-    go true h k = simp (ne-eqb c 91 (omega (arith, tail-high c h)), tails-cons, k)
+    go true h k = simp (ne-eqb c 91 (omega (arith, tail-high h)), tails-cons, k)
     go false h k = simp tails-none
 
 negated-blind : Tail-blind (negated-from false)
-negated-blind = record { keeps = λ c s t. negated-high false c s (tail-high c t); same = negated-tails }
+negated-blind = record { keeps = λ c s t. negated-high false c s (tail-high t); same = negated-tails }
 
 -- ---- the characters, and whether they are UTF-8
 record Stored (b : Bool) (s : List ℕ) : Type 0 where
   are : chars (negated-from b s) ≡ negated-from b (chars s)
   good : utf8 (negated-from b s) ≡ utf8 s
 
-module _ (b : Bool) where
+module _ {b : Bool} where
   stored-nil : Stored b []
   unfolding negated-from
   stored-nil = record { are = rw chars-nil; good = refl }
 
-  module _ (a : ℕ) (s : List ℕ) where
+  module _ {a : ℕ} {s : List ℕ} where
     stored-ascii : a < 128 → Stored (eqb a 91) s → Stored b (a ∷ s)
     unfolding negated-from
     stored-ascii h k =
@@ -66,20 +66,20 @@ module _ (b : Bool) where
     stored-high h k =
         let l : 128 ≤ read a s .what = read-high a s h in
         record {
-          are = rw negated-high (blind-chars (negated-from false) negated-blind a s ∙ rw (k .are, chars-cons, negated-high));
-          good = rw negated-high (blind-utf8 (negated-from false) negated-blind a s ∙ rw (k .good, utf8-cons));
+          are = rw negated-high (blind-chars negated-blind a s ∙ rw (k .are, chars-cons, negated-high));
+          good = rw negated-high (blind-utf8 negated-blind a s ∙ rw (k .good, utf8-cons));
         }
 
 -- by a bound of the length
 stored-within : (n : ℕ) (b : Bool) (s : List ℕ) → length s ≤ n → Stored b s
-stored-within zero b [] h = stored-nil b
+stored-within zero b [] h = stored-nil
 stored-within zero b (a ∷ s) h = absurd (omega arith)
-stored-within (suc n) b [] h = stored-nil b
+stored-within (suc n) b [] h = stored-nil
 stored-within (suc n) b (a ∷ s) h = go (decLt a 128) (λ c t. stored-within n c t)
   where
     go : Dec (a < 128) → ((c : Bool) (t : List ℕ) → length t ≤ n → Stored c t) → Stored b (a ∷ s)
-    go (yes l) k = stored-ascii b a s l (k (eqb a 91) s (omega arith))
-    go (no l) k = stored-high b a s (omega arith) (k false (drop (read a s .more) s) (rw length-drop (omega arith)))
+    go (yes l) k = stored-ascii l (k (eqb a 91) s (omega arith))
+    go (no l) k = stored-high (omega arith) (k false (drop (read a s .more) s) (rw length-drop (omega arith)))
 
 module _ (b : Bool) (s : List ℕ) where
   pub chars-stored : chars (negated-from b s) ≡ negated-from b (chars s)

@@ -33,8 +33,8 @@ pub tails-none : (b : ℕ) (s : List ℕ) → tail b ≡ false → tails (b ∷ 
 unfolding tails
 tails-none b s t = rw t
 
-pub tail-high : (b : ℕ) → tail b ≡ true → 128 ≤ b
-tail-high b t = tail-is b t .from
+pub tail-high : {b : ℕ} → tail b ≡ true → 128 ≤ b
+tail-high {b} t = tail-is b t .from
 
 -- ---- a character is read from the tails behind its first byte
 tail-zero : tail 0 ≡ false
@@ -84,26 +84,26 @@ read-tails a (b ∷ s) = go (tail b) refl
 -- ---- it takes tails only, and as a number it is no ASCII
 one-tail : (s : List ℕ) → Tail (getD s 0 0) → 1 ≤ length (tails s)
 one-tail [] t = absurd (omega arith)
-one-tail (b ∷ s) t = rw (tails-cons b s (tail-true b t)) (omega arith)
+one-tail (b ∷ s) t = rw (tails-cons b s (tail-true t)) (omega arith)
 
 two-tails : (s : List ℕ) → Tail (getD s 0 0) → Tail (getD s 1 0) → 2 ≤ length (tails s)
 two-tails [] t u = absurd (omega arith)
-two-tails (b ∷ s) t u = rw (tails-cons b s (tail-true b t)) (omega (arith, one-tail s u))
+two-tails (b ∷ s) t u = rw (tails-cons b s (tail-true t)) (omega (arith, one-tail s u))
 
 three-tails : (s : List ℕ) → Tail (getD s 0 0) → Tail (getD s 1 0) → Tail (getD s 2 0) → 3 ≤ length (tails s)
 three-tails [] t u v = absurd (omega arith)
-three-tails (b ∷ s) t u v = rw (tails-cons b s (tail-true b t)) (omega (arith, two-tails s u v))
+three-tails (b ∷ s) t u v = rw (tails-cons b s (tail-true t)) (omega (arith, two-tails s u v))
 
 pub read-more : (a : ℕ) (s : List ℕ) → read a s .more ≤ length (tails s)
 unfolding read character none
 read-more a s =
-    starts-each (λ (p : Piece ℕ). p .more ≤ length (tails s)) (omega arith) a (getD s 0 0) (getD s 1 0) (getD s 2 0)
+    starts-each (λ (p : Piece ℕ). p .more ≤ length (tails s)) (omega arith)
     (λ h. omega arith) (λ v t. one-tail s (t .second)) (λ v t. two-tails s (t .second) (t .third)) (λ v t. three-tails s (t .second) (t .third) (t .fourth))
 
 pub read-high : (a : ℕ) (s : List ℕ) → 128 ≤ a → 128 ≤ read a s .what
 unfolding read character none
 read-high a s l =
-    starts-each (λ (p : Piece ℕ). 128 ≤ p .what) (omega arith) a (getD s 0 0) (getD s 1 0) (getD s 2 0)
+    starts-each (λ (p : Piece ℕ). 128 ≤ p .what) (omega arith)
     (λ h. omega arith) (λ v t. omega arith) (λ v t. omega arith) (λ v t. omega arith)
 
 pub tails-few : (s : List ℕ) → length (tails s) ≤ length s
@@ -127,7 +127,7 @@ pub record Tail-blind (f : List ℕ → List ℕ) : Type 0 where
   pub keeps : (b : ℕ) (s : List ℕ) → tail b ≡ true → f (b ∷ s) ≡ b ∷ f s
   pub same : (s : List ℕ) → tails (f s) ≡ tails s
 
-module _ (f : List ℕ → List ℕ) (k : Tail-blind f) where
+module _ {f : List ℕ → List ℕ} (k : Tail-blind f) where
   blind-drop : (n : ℕ) (s : List ℕ) → n ≤ length (tails s) → drop n (f s) ≡ f (drop n s)
   blind-drop zero s h = refl
   blind-drop (suc n) [] h = absurd (omega (arith, rw tails-nil at h))
@@ -138,13 +138,7 @@ module _ (f : List ℕ → List ℕ) (k : Tail-blind f) where
       go false e d = absurd (omega (arith, rw (tails-none b s e) at h))
 
   pub blind-length : (n : ℕ) (s : List ℕ) → n ≤ length (tails s) → length (f s) ≡ n + length (f (drop n s))
-  blind-length zero s h = omega arith
-  blind-length (suc n) [] h = absurd (omega (arith, rw tails-nil at h))
-  blind-length (suc n) (b ∷ s) h = go (tail b) refl (blind-length n s)
-    where
-      go : (t : Bool) → tail b ≡ t → (n ≤ length (tails s) → length (f s) ≡ n + length (f (drop n s))) → length (f (b ∷ s)) ≡ suc n + length (f (drop (suc n) (b ∷ s)))
-      go true e d = rw (k .keeps b s e) (omega (arith, d (omega (arith, rw (tails-cons b s e) at h))))
-      go false e d = absurd (omega (arith, rw (tails-none b s e) at h))
+  blind-length n s h = omega (arith, length-drop n (f s), ap length (blind-drop n s h), tails-few (f s), ap length (k .same s))
 
   pub blind-read : (a : ℕ) (s : List ℕ) → read a (f s) ≡ read a s
   blind-read a s = read-tails a (f s) ∙ rw (k .same s) (sym (read-tails a s))

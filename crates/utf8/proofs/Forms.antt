@@ -2,12 +2,13 @@
 -- Assumes nothing.
 use Prim.Native.Nat.{ℕ, _<_, _≤_}
 use mathlib.Core.Path.{_≡_, refl}
-use mathlib.Core.Bool.{Bool, true, false, cond, _&&_, false≢true}
+use mathlib.Core.Bool.{Bool, true, false, cond, _&&_}
 use native.Mathlib.Decide.{decLt}
 use native.Mathlib.Omega.{arith}
 use borrow.Author.Tests.{lt-ltb, le-ltb, le-leb, ltb-true, leb-true}
 use lib.Dec.{ltb, leb}
 use Rattle.lists.specs.Pieces.{Piece}
+use Rattle.lists.proofs.Tests.{both}
 use Rattle.utf8.specs.Utf8.{scalar, character, none, when, tail, bits-two, bits-three, bits-four, two, three, four, starts}
 
 pub record Tail (b : ℕ) : Type 0 where
@@ -41,41 +42,36 @@ pub record Four (a b c d v : ℕ) : Type 0 where
   pub high : v ≤ 0x10FFFF
 
 -- ---- where they have a form, it is read
-pub tail-true : (b : ℕ) → Tail b → tail b ≡ true
+pub starts-one : (a b c d : ℕ) → a < 0x80 → starts a b c d ≡ character a 0
+unfolding starts
+starts-one a b c d h = rw (lt-ltb a 0x80 h)
+
+pub tail-true : {b : ℕ} → Tail b → tail b ≡ true
 unfolding tail
-tail-true b t = rw (le-leb 0x80 b (t .from), lt-ltb b 0xC0 (t .to))
+tail-true {b} t = rw (le-leb 0x80 b (t .from), lt-ltb b 0xC0 (t .to))
 
-module _ (a b c d : ℕ) where
-  pub starts-one : a < 0x80 → starts a b c d ≡ character a 0
-  unfolding starts
-  starts-one h = rw (lt-ltb a 0x80 h)
+pub starts-two : {a b : ℕ} (c d : ℕ) {v : ℕ} → Two a b v → starts a b c d ≡ character v 1
+unfolding starts two when
+starts-two {a} c d t =
+    let p : 0x80 ≤ a = omega arith in
+    search (le-ltb, lt-ltb, tail-true, ← t .bits)
 
-  pub starts-two : (v : ℕ) → Two a b v → starts a b c d ≡ character v 1
-  unfolding starts two when
-  starts-two v t =
-      let p : 0x80 ≤ a = omega arith in
-      search (le-ltb, lt-ltb, tail-true, ← t .bits)
+pub starts-three : {a b c : ℕ} (d : ℕ) {v : ℕ} → Three a b c v → starts a b c d ≡ character v 2
+unfolding starts three when
+starts-three {a} d t =
+    let p : 0x80 ≤ a = omega arith in
+    let q : 0xC2 ≤ a = omega arith in
+    search (le-ltb, lt-ltb, tail-true, le-leb, ← t .bits, t .is)
 
-  pub starts-three : (v : ℕ) → Three a b c v → starts a b c d ≡ character v 2
-  unfolding starts three when
-  starts-three v t =
-      let p : 0x80 ≤ a = omega arith in
-      let q : 0xC2 ≤ a = omega arith in
-      search (le-ltb, lt-ltb, tail-true, le-leb, ← t .bits, t .is)
-
-  pub starts-four : (v : ℕ) → Four a b c d v → starts a b c d ≡ character v 3
-  unfolding starts four when
-  starts-four v t =
-      let p : 0x80 ≤ a = omega arith in
-      let q : 0xC2 ≤ a = omega arith in
-      let r : 0xE0 ≤ a = omega arith in
-      search (le-ltb, lt-ltb, tail-true, le-leb, ← t .bits)
+pub starts-four : {a b c d v : ℕ} → Four a b c d v → starts a b c d ≡ character v 3
+unfolding starts four when
+starts-four {a} t =
+    let p : 0x80 ≤ a = omega arith in
+    let q : 0xC2 ≤ a = omega arith in
+    let r : 0xE0 ≤ a = omega arith in
+    search (le-ltb, lt-ltb, tail-true, le-leb, ← t .bits)
 
 -- ---- and the other way: what holds of `none` and of each character in a form holds of what is read
-pub and-both : (t u : Bool) → (t && u) ≡ true → (t ≡ true) × (u ≡ true)
-and-both true u h = (refl, h)
-and-both false u h = absurd (false≢true h)
-
 pub below : {A : Type 0} (P : A → Type 0) (a k : ℕ) {p q : A} → (a < k → P p) → (k ≤ a → P q) → P (cond (ltb a k) p q)
 below P a k {p} {q} f g = go (decLt a k)
   where
@@ -88,7 +84,7 @@ below P a k {p} {q} f g = go (decLt a k)
 pub tail-is : (b : ℕ) → tail b ≡ true → Tail b
 unfolding tail
 tail-is b h =
-    let t = and-both (leb 0x80 b) (ltb b 0xC0) h in
+    let t = both (leb 0x80 b) (ltb b 0xC0) h in
     record { from = leb-true 0x80 b (t .0); to = ltb-true b 0xC0 (t .1) }
 
 module _ (P : Piece ℕ → Type 0) (otherwise : P none) where
@@ -102,32 +98,31 @@ module _ (P : Piece ℕ → Type 0) (otherwise : P none) where
   each-both true u f = each-when u (f refl)
   each-both false u f = otherwise
 
-  module _ (a b c d : ℕ) where
-    each-two : 0xC2 ≤ a → a < 0xE0 → ((v : ℕ) → Two a b v → P (character v 1)) → P (two a b)
-    unfolding two
-    each-two l h f = each-when (tail b) (λ t. f (bits-two a b) (search tail-is))
+  each-two : {a b : ℕ} → 0xC2 ≤ a → a < 0xE0 → ((v : ℕ) → Two a b v → P (character v 1)) → P (two a b)
+  unfolding two
+  each-two {a} {b} l h f = each-when (tail b) (λ t. f (bits-two a b) (search tail-is))
 
-    each-three : 0xE0 ≤ a → a < 0xF0 → ((v : ℕ) → Three a b c v → P (character v 2)) → P (three a b c)
-    unfolding three
-    each-three l h f =
-        let v = bits-three a b c in
-        each-when (tail b) (λ t. each-when (tail c) (λ u. each-both (leb 0x800 v) (scalar v) (λ m s. f v (search (tail-is, leb-true)))))
+  each-three : {a b c : ℕ} → 0xE0 ≤ a → a < 0xF0 → ((v : ℕ) → Three a b c v → P (character v 2)) → P (three a b c)
+  unfolding three
+  each-three {a} {b} {c} l h f =
+      let v = bits-three a b c in
+      each-when (tail b) (λ t. each-when (tail c) (λ u. each-both (leb 0x800 v) (scalar v) (λ m s. f v (search (tail-is, leb-true)))))
 
-    each-four : 0xF0 ≤ a → a < 0xF5 → ((v : ℕ) → Four a b c d v → P (character v 3)) → P (four a b c d)
-    unfolding four
-    each-four l h f =
-        let v = bits-four a b c d in
-        each-when (tail b) (λ t. each-when (tail c) (λ u. each-when (tail d) (λ w.
-        each-both (leb 0x10000 v) (leb v 0x10FFFF) (λ m n. f v (search (tail-is, leb-true))))))
+  each-four : {a b c d : ℕ} → 0xF0 ≤ a → a < 0xF5 → ((v : ℕ) → Four a b c d v → P (character v 3)) → P (four a b c d)
+  unfolding four
+  each-four {a} {b} {c} {d} l h f =
+      let v = bits-four a b c d in
+      each-when (tail b) (λ t. each-when (tail c) (λ u. each-when (tail d) (λ w.
+      each-both (leb 0x10000 v) (leb v 0x10FFFF) (λ m n. f v (search (tail-is, leb-true))))))
 
-    pub starts-each : (a < 0x80 → P (character a 0))
-        → ((v : ℕ) → Two a b v → P (character v 1))
-        → ((v : ℕ) → Three a b c v → P (character v 2))
-        → ((v : ℕ) → Four a b c d v → P (character v 3))
-        → P (starts a b c d)
-    unfolding starts
-    starts-each f g h k =
-        below P a 0x80 f (λ l₁. below P a 0xC2 (λ _. otherwise)
-        (λ l₂. below P a 0xE0 (λ m. each-two l₂ m g)
-        (λ l₃. below P a 0xF0 (λ m. each-three l₃ m h)
-        (λ l₄. below P a 0xF5 (λ m. each-four l₄ m k) (λ _. otherwise)))))
+  pub starts-each : {a b c d : ℕ} → (a < 0x80 → P (character a 0))
+      → ((v : ℕ) → Two a b v → P (character v 1))
+      → ((v : ℕ) → Three a b c v → P (character v 2))
+      → ((v : ℕ) → Four a b c d v → P (character v 3))
+      → P (starts a b c d)
+  unfolding starts
+  starts-each {a} f g h k =
+      below P a 0x80 f (λ l₁. below P a 0xC2 (λ _. otherwise)
+      (λ l₂. below P a 0xE0 (λ m. each-two l₂ m g)
+      (λ l₃. below P a 0xF0 (λ m. each-three l₃ m h)
+      (λ l₄. below P a 0xF5 (λ m. each-four l₄ m k) (λ _. otherwise)))))

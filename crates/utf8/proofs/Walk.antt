@@ -9,41 +9,28 @@ use native.Mathlib.Omega.{arith}
 use borrow.Author.Tests.{lt-ltb}
 use lib.ListN.{length, getD, drop}
 use lib.Seq.{drop-cons}
-use Rattle.lists.specs.Pieces.{Piece, piece-at}
+use Rattle.lists.specs.Pieces.{piece-at}
 use Rattle.lists.proofs.PiecesLaws.{pieces-nil, sound-nil, pieces-cons, sound-cons, pieces-at, sound-at, pieces-end, sound-end, pieces-few}
-use Rattle.utf8.specs.Utf8.{character, none, read, chars, utf8}
+use Rattle.utf8.specs.Utf8.{character, read, chars, utf8}
 use Rattle.utf8.specs.At.{placed, character-at}
 use Rattle.utf8.specs.declared.Character.{Character}
-use Rattle.utf8.proofs.Forms.{starts-one, starts-each}
+use Rattle.utf8.proofs.Forms.{starts-one}
 
 pub within : (s : List ℕ) (at : ℕ) → at < length s → character-at s at ≡ placed at (piece-at read 0 s at)
 unfolding character-at
 within s at h = rw (lt-ltb at (length s) h)
 
--- no character is above 10FFFF
-read-fits : (a : ℕ) (s : List ℕ) → read a s .what < 0x110000
-unfolding read character none
-read-fits a s =
-    starts-each (λ (p : Piece ℕ). p .what < 0x110000) (omega arith) a (getD s 0 0) (getD s 1 0) (getD s 2 0)
-    (λ h. omega arith) (λ v t. omega arith) (λ v t. omega arith) (λ v t. omega arith)
+-- f is the character at the place `at`, which lies in the text: the rest is read behind it
+pub record Walked (s : List ℕ) (at : ℕ) (f : Character) : Type 0 where
+  pub onward : at < f .next
+  pub reads : chars (drop at s) ≡ f .number ∷ chars (drop (f .next) s)
+  pub sound : utf8 (drop at s) ≡ f .good && utf8 (drop (f .next) s)
 
-module _ (s : List ℕ) (at : ℕ) (f : Character) (e : f ≡ character-at s at) (h : at < length s) where
-  here : f ≡ placed at (piece-at read 0 s at)
-  here = e ∙ within s at h
-
-  pub walk-onward : at < f .next
-  walk-onward = omega (arith, ap (λ (x : Character). x .next) here)
-
-  pub walk-chars : chars (drop at s) ≡ f .number ∷ chars (drop (f .next) s)
-  unfolding chars
-  walk-chars = rw here (pieces-at read 0 s at h)
-
-  pub walk-utf8 : utf8 (drop at s) ≡ f .good && utf8 (drop (f .next) s)
-  unfolding utf8
-  walk-utf8 = rw here (sound-at read 0 s at h)
-
-  pub number-fits : f .number < 1114112
-  number-fits = rw here (read-fits (getD s at 0) (drop (at + 1) s))
+pub walked : {s : List ℕ} {at : ℕ} {f : Character} → f ≡ character-at s at → at < length s → Walked s at f
+unfolding chars utf8
+walked {s} {at} e h =
+    let here = e ∙ within s at h in
+    record { onward = omega (arith, ap (λ (x : Character). x .next) here); reads = rw here (pieces-at read 0 s at h); sound = rw here (sound-at read 0 s at h) }
 
 -- ---- the end
 pub chars-nil : chars [] ≡ []

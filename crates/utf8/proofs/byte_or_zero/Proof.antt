@@ -10,17 +10,5 @@ use Rattle.utf8.proofs.byte_or_zero.Tie as tie
 past-end : (s : List ℕ) (at : ℕ) → length s ≤ at → 0 ≡ getD s at 0
 past-end s at h = sym (List·getD-eq-default s 0 h)
 
-shared-slice-read-wide : tie.Need-shared-slice-read-wide
-shared-slice-read-wide c = search needs
-
-wide-requires : tie.Need-wide-requires
-wide-requires c κs = search needs
-
-returns : tie.Need-returns
-returns c = search needs
-
-returns-2 : tie.Need-returns-2
-returns-2 c = search (past-end, needs)
-
 pub byte-or-zero-spec : {M : Type 1} → statement M
-byte-or-zero-spec = tie.close (tie.spec shared-slice-read-wide wide-requires returns returns-2)
+byte-or-zero-spec = tie.close (tie.spec (λ c. search needs) (λ c κs. search needs) (λ c. search needs) (λ c. search (past-end, needs)))

@@ -20,35 +20,14 @@ at-ascii : (s : List ℕ) (at : ℕ) → at < length s → (r : Character) (a : 
     → r ≡ character-at s at
 at-ascii s at h r a i l e = e ∙ rw (within s at h, ← i, read-ascii a _ l)
 
-returns : tie.Need-returns
-returns c = search at-end
-
-shared-slice-read-wide : tie.Need-shared-slice-read-wide
-shared-slice-read-wide c = search needs
-
-wide-requires : tie.Need-wide-requires
-wide-requires c κs = search needs
-
-found-requires : tie.Need-found-requires
-found-requires c κs = search needs
-
 returns-2 : tie.Need-returns-2
 returns-2 c = search at-ascii
-
-longer-requires : tie.Need-longer-requires
-longer-requires c κs = search needs
-
-returns-3 : tie.Need-returns-3
-returns-3 c = search needs
 
 pub character-at-spec : {M : Type 1} → statement M
 character-at-spec =
     tie.close
     (tie.spec
-    returns
-    shared-slice-read-wide
-    wide-requires
-    found-requires
+    (λ c. search at-end)
+    (λ c. search needs) (λ c κs. search needs) (λ c κs. search needs)
     returns-2
-    longer-requires
-    returns-3)
+    (λ c κs. search needs) (λ c. search needs))

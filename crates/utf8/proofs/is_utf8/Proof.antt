@@ -10,7 +10,7 @@ use lib.ListN.{length, getD, drop}
 use Rattle.utf8.specs.Utf8.{utf8}
 use Rattle.utf8.specs.At.{character-at}
 use Rattle.utf8.specs.declared.Character.{Character}
-use Rattle.utf8.proofs.Walk.{walk-onward, walk-utf8, utf8-end, utf8-ascii-at}
+use Rattle.utf8.proofs.Walk.{walked, utf8-end, utf8-ascii-at}
 use Rattle.utf8.proofs.is_utf8.Statement.{statement}
 use Rattle.utf8.proofs.is_utf8.Tie as tie
 
@@ -22,14 +22,14 @@ abbrev μ-loop : tie.MeasureT-loop
 
 module _ (s : List ℕ) (at : ℕ) (f : Character) (e : f ≡ character-at s at) (h : at < length s) where
   less : length s - f .next < length s - at
-  less = omega (arith, walk-onward s at f e h)
+  less = omega (arith, walked e h .onward)
 
   module _ (left : utf8 s ≡ utf8 (drop at s)) where
     bad : not (f .good) ≡ true → false ≡ utf8 s
-    bad b = sym (left ∙ walk-utf8 s at f e h ∙ rw (not-true (f .good) b))
+    bad b = sym (left ∙ walked e h .sound ∙ rw (not-true (f .good) b))
 
     good : not (f .good) ≡ false → utf8 s ≡ utf8 (drop (f .next) s)
-    good b = left ∙ walk-utf8 s at f e h ∙ rw (not-false (f .good) b)
+    good b = left ∙ walked e h .sound ∙ rw (not-false (f .good) b)
 
 ascii : (s : List ℕ) (at : ℕ) → utf8 s ≡ utf8 (drop at s) → at < length s → (a : ℕ) → a ≡ getD s at 0 → a < 0x80 → utf8 s ≡ utf8 (drop (at + 1) s)
 ascii s at left h a i l = left ∙ utf8-ascii-at s at h (rw i at l)
@@ -37,38 +37,8 @@ ascii s at left h a i l = left ∙ utf8-ascii-at s at h (rw i at l)
 end : (s : List ℕ) (at : ℕ) → utf8 s ≡ utf8 (drop at s) → length s ≤ at → true ≡ utf8 s
 end s at left h = sym (left ∙ utf8-end s at h)
 
-loop-holds : tie.Need-loop-holds Inv-loop μ-loop
-loop-holds c = refl
-
-shared-slice-read-wide : tie.Need-shared-slice-read-wide Inv-loop μ-loop
-shared-slice-read-wide c = search needs
-
-wide-requires : tie.Need-wide-requires Inv-loop μ-loop
-wide-requires c κs = search needs
-
-add-at : tie.Need-add-at Inv-loop μ-loop
-add-at c = search needs
-
-loop-less : tie.Need-loop-less Inv-loop μ-loop
-loop-less c = omega arith
-
-loop-again : tie.Need-loop-again Inv-loop μ-loop
-loop-again c = search ascii
-
-longer-requires : tie.Need-longer-requires Inv-loop μ-loop
-longer-requires c κs = search needs
-
 returns : tie.Need-returns Inv-loop μ-loop
 returns c = search bad
-
-loop-less-2 : tie.Need-loop-less-2 Inv-loop μ-loop
-loop-less-2 c = search less
-
-loop-again-2 : tie.Need-loop-again-2 Inv-loop μ-loop
-loop-again-2 c = search good
-
-returns-2 : tie.Need-returns-2 Inv-loop μ-loop
-returns-2 c = search end
 
 pub is-utf8-spec : {M : Type 1} → statement M
 is-utf8-spec =
@@ -76,14 +46,10 @@ is-utf8-spec =
     (tie.spec
     Inv-loop
     μ-loop
-    loop-holds
-    shared-slice-read-wide
-    wide-requires
-    add-at
-    loop-less
-    loop-again
-    longer-requires
+    (λ c. refl) (λ c. search needs) (λ c κs. search needs) (λ c. search needs) (λ c. omega arith)
+    (λ c. search ascii)
+    (λ c κs. search needs)
     returns
-    loop-less-2
-    loop-again-2
-    returns-2)
+    (λ c. search less)
+    (λ c. search good)
+    (λ c. search end))

@@ -5,12 +5,9 @@ use Rattle.utf8.specs.Utf8.{none}
 use Rattle.utf8.proofs.not_found.Statement.{statement}
 use Rattle.utf8.proofs.not_found.Tie as tie
 
-add-t2 : tie.Need-add-t2
-add-t2 c = search needs
-
 returns : tie.Need-returns
 unfolding none
 returns c = refl
 
 pub not-found-spec : {M : Type 1} → statement M
-not-found-spec = tie.close (tie.spec add-t2 returns)
+not-found-spec = tie.close (tie.spec (λ c. search needs) returns)

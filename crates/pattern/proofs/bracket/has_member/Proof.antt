@@ -13,25 +13,14 @@ Inv-loop edition body x at₀ at = holds-from edition body x 0 ≡ holds-from ed
 abbrev μ-loop : tie.MeasureT-loop
 μ-loop edition body x at₀ at = length body - at
 
-loop-holds : tie.Need-loop-holds Inv-loop μ-loop
-loop-holds c = refl
-
-member-at-requires : tie.Need-member-at-requires Inv-loop μ-loop
-member-at-requires c κs = search needs
-
-returns : tie.Need-returns Inv-loop μ-loop
-returns c = search members-found
-
-loop-less : tie.Need-loop-less Inv-loop μ-loop
-loop-less c = search needs
-
-loop-again : tie.Need-loop-again Inv-loop μ-loop
-loop-again c = search members-again
-
-returns-2 : tie.Need-returns-2 Inv-loop μ-loop
-returns-2 c = search members-end
-
 pub has-member-spec : {M : Type 1} → statement M
 has-member-spec =
     tie.close
-    (tie.spec Inv-loop μ-loop loop-holds member-at-requires returns loop-less loop-again returns-2)
+    (tie.spec
+    Inv-loop
+    μ-loop
+    (λ c. refl) (λ c κs. search needs)
+    (λ c. search members-found)
+    (λ c. search needs)
+    (λ c. search members-again)
+    (λ c. search members-end))
