@@ -143,12 +143,12 @@ pub record Block (s : List ℕ) (at most i : ℕ) : Type 0 where
   pub within : i ≤ 16
   pub left : most ≡ 0 → scan Exact false (drop at s) ≡ scan Exact false (drop (at + i) s)
 
-pub block-start : (s : List ℕ) (at : ℕ) → Block s at 0 0
-block-start s at =
+pub block-start : {s : List ℕ} {at : ℕ} → Block s at 0 0
+block-start {at = at} =
     let e : at + 0 ≡ at = omega arith in
     record { within = omega arith; left = λ z. rw e }
 
-module _ (s : List ℕ) (at most i : ℕ) (known : Block s at most i) where
+module _ {s : List ℕ} {at most i : ℕ} (known : Block s at most i) where
   pub block-on : at + 16 ≤ length s → i < 16 → (m : ℕ) → m ≡ cond (sign (getD s (at + i) 0)) 1 0 → (r : ℕ) → most ≤ r → m ≤ r → Block s at r (i + 1)
   block-on room h m e r g k = record {
     within = omega arith;
@@ -168,7 +168,7 @@ pub record Blocks (s : List ℕ) (i : ℕ) : Type 0 where
   pub within : i ≤ length s
   pub left : scan Exact false s ≡ scan Exact false (drop i s)
 
-module _ (s : List ℕ) (i : ℕ) (known : Blocks s i) where
+module _ {s : List ℕ} {i : ℕ} (known : Blocks s i) where
   pub blocks-on : 16 ≤ length s - i → (m : ℕ) → (m ≡ 0 → scan Exact false (drop i s) ≡ scan Exact false (drop (i + 16) s)) → m ≡ 0 → Blocks s (i + 16)
   blocks-on room m e z = record { within = omega (arith, known .within); left = known .left ∙ e z }
 

@@ -27,14 +27,14 @@ use Rattle.glob_match.specs.Answers.{answer-told, class-told, length-tol
 use Rattle.storing.proofs.Keeping.{bytes, keep-few, unescape-few}
 
 -- ---- how many bytes are told
-told-long : (x : Keep) (m : ℕ) (k : Class) (n : ℕ) → As k n ≡ keep-answer x m → n ≡ length (bytes x)
+told-long : (x : Keep) (m : ℕ) {k : Class} {n : ℕ} → As k n ≡ keep-answer x m → n ≡ length (bytes x)
 unfolding keep-answer
-told-long (kept j b) m k n e = by (leb (length b) m) e
+told-long (kept j b) m {k} {n} e = by (leb (length b) m) e
   where
     by : (t : Bool) → As k n ≡ cond t (As j (length b)) (Refused 8) → n ≡ length b
     by true e = cc
     by false e = let z : _≡_ {A = ℕ} 0 1 = cc in absurd (omega arith)
-told-long (refused j) m k n e = let z : _≡_ {A = ℕ} 0 1 = cc in absurd (omega arith)
+told-long (refused j) m e = let z : _≡_ {A = ℕ} 0 1 = cc in absurd (omega arith)
 
 class-few : (k : Class) → class-number k ≤ all-class
 class-few Exact = omega arith
@@ -79,7 +79,7 @@ module _ (t d : List ℕ) where
 
       module _ (k : Class) (n : ℕ) (q : r ≡ As k n) where
         pub unescape-fits : Fits w64 (256 * n)
-        unescape-fits = omega (arith, told-long (kept Escaped (unescape t)) (length d) k n (sym q ∙ a), unescape-few t)
+        unescape-fits = omega (arith, told-long (kept Escaped (unescape t)) (length d) (sym q ∙ a), unescape-few t)
 
         pub unescape-done : 256 * n ≡ unescape-told t (length d)
         unfolding length-told
@@ -97,7 +97,7 @@ module _ (e : Edition) (t : List ℕ) (m : ℕ) (r : Stored) (a : r ≡ keep-ans
     store-done = rw (← a, q, c)
 
     small : (j ≤ all-class) × (n ≤ token-limit)
-    small = (omega (arith, class-few k), omega (arith, told-long (keep e t) m k n (sym q ∙ a), keep-few e t))
+    small = (omega (arith, class-few k), omega (arith, told-long (keep e t) m (sym q ∙ a), keep-few e t))
 
     pub store-fits-length : Fits w64 (8 * n)
     store-fits-length = omega (arith, small)

@@ -76,10 +76,10 @@ pub record Counted (t : List ℕ) (i n : ℕ) : Type 0 where
   pub few : n ≤ i
   pub rest : length (unescape t) ≡ n + length (unescape (drop i t))
 
-pub counted-start : (t : List ℕ) → Counted t 0 0
-counted-start t = record { few = omega arith; rest = omega arith }
+pub counted-start : {t : List ℕ} → Counted t 0 0
+counted-start = record { few = omega arith; rest = omega arith }
 
-module _ (t : List ℕ) (i n : ℕ) (z : Counted t i n) where
+module _ {t : List ℕ} {i n : ℕ} (z : Counted t i n) where
   pub counted-end : length t ≤ i → n ≡ length (unescape t)
   counted-end h = omega (arith, z .rest, ap length (unescape-end t i h))
 
@@ -218,22 +218,22 @@ keep-few e t = few (ltb token-limit (length t)) refl
         rw (within e t l) (omega (arith, as-few e (class-of t) (inside-kept t), inside-few t))
 
 -- ---- what is kept has the token's class
-when-class : (x : Bool) (n : ℕ) (j k : Class) (s b : List ℕ) → cond x (kept j s) (refused n) ≡ kept k b → k ≡ j
-when-class true n j k s b h = cc
-when-class false n j k s b h = let z : _≡_ {A = ℕ} 0 1 = cc in absurd (omega arith)
+when-class : (x : Bool) (n : ℕ) (s : List ℕ) {j k : Class} {b : List ℕ} → cond x (kept j s) (refused n) ≡ kept k b → k ≡ j
+when-class true n s h = cc
+when-class false n s h = let z : _≡_ {A = ℕ} 0 1 = cc in absurd (omega arith)
 
-as-class : (e : Edition) (j k : Class) (t b : List ℕ) → keep-as e j t ≡ kept k b → k ≡ j
+as-class : (e : Edition) (j : Class) (t : List ℕ) {k : Class} {b : List ℕ} → keep-as e j t ≡ kept k b → k ≡ j
 unfolding keep-as keep-glob keep-when
-as-class e Exact k t b h = cc
-as-class e Escaped k t b h = cc
-as-class e NonStar k t b h = when-class (eqb (refusal e (stored e t)) 0) (refusal e (stored e t)) NonStar k (stored e t) b h
-as-class e Star k t b h = when-class (eqb (refusal e (stored e t)) 0) (refusal e (stored e t)) Star k (stored e t) b h
-as-class e All k t b h = cc
+as-class e Exact t h = cc
+as-class e Escaped t h = cc
+as-class e NonStar t h = when-class (eqb (refusal e (stored e t)) 0) _ _ h
+as-class e Star t h = when-class (eqb (refusal e (stored e t)) 0) _ _ h
+as-class e All t h = cc
 
-pub kept-class : (e : Edition) (k : Class) (t b : List ℕ) → keep e t ≡ kept k b → k ≡ class-of t
+pub kept-class : (e : Edition) (t : List ℕ) {k : Class} {b : List ℕ} → keep e t ≡ kept k b → k ≡ class-of t
 unfolding keep
-kept-class e k t b = go (over token-limit t)
+kept-class e t {k} {b} = go (over token-limit t)
   where
     go : (x : Bool) → cond x (refused too-long) (keep-as e (class-of t) (inside-kept t)) ≡ kept k b → k ≡ class-of t
     go true h = let w : _≡_ {A = ℕ} 0 1 = cc in absurd (omega arith)
-    go false h = as-class e (class-of t) k (inside-kept t) b h
+    go false h = as-class e (class-of t) (inside-kept t) h

@@ -5,12 +5,9 @@ use Rattle.classes.proofs.Scanning.{mark-byte}
 use Rattle.classes.proofs.mark.Statement.{statement}
 use Rattle.classes.proofs.mark.Tie as tie
 
-cast-result : tie.Need-cast-result
-cast-result c = search needs
-
 returns : tie.Need-returns
 unfolding sign nonstar
 returns c = mark-byte (sign (c .args .c))
 
 pub mark-spec : {M : Type 1} → statement M
-mark-spec = tie.close (tie.spec cast-result returns)
+mark-spec = tie.close (tie.spec (λ c. search needs) returns)

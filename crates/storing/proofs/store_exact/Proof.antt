@@ -4,17 +4,10 @@ use Rattle.storing.proofs.Answers.{full-answer, full-buffer, room-answe
 use Rattle.storing.proofs.store_exact.Statement.{statement}
 use Rattle.storing.proofs.store_exact.Tie as tie
 
-returns : tie.Need-returns
-returns c = search (full-answer, full-buffer)
-
-copy-requires : tie.Need-copy-requires
-copy-requires c κs = search needs
-
-same-length : tie.Need-same-length
-same-length c = search needs
-
-returns-2 : tie.Need-returns-2
-returns-2 c = search (room-answer, room-buffer, copied)
-
 pub store-exact-spec : {M : Type 1} → statement M
-store-exact-spec = tie.close (tie.spec returns copy-requires same-length returns-2)
+store-exact-spec =
+    tie.close
+    (tie.spec
+    (λ c. search (full-answer, full-buffer))
+    (λ c κs. search needs) (λ c. search needs)
+    (λ c. search (room-answer, room-buffer, copied)))
