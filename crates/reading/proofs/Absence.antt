@@ -105,19 +105,19 @@ module _ (s : List ℕ) (p : ℕ) where
 
 module _ (x : Edition) (s : List ℕ) (p : ℕ) where
   pub skip-blank : blank (getD s p 0) ≡ true → skip x s p ≡ skip x s (p + 1)
-  skip-blank e = past-blank x s p p refl (blank-within s p e) true (sym e) refl
+  skip-blank e = past-blank x s p p refl (blank-within s p e) (sym e) refl
 
   module _ (e : Byte hash s p) where
     hash-within : p < length s
     hash-within = byte-within s p (omega arith)
 
     pub skip-line : (q : ℕ) → first-from (is line-feed) s (p + 1) ≡ Here q → skip x s p ≡ skip x s (q + 1)
-    skip-line q f = past-line x s p p refl hash-within false (hash-blank s p e) refl e (Here q) (sym f) q refl
+    skip-line q f = past-line x s p p refl hash-within (hash-blank s p e) refl e (sym f) refl
 
     pub skip-line-opens : None line-feed s p → skip x s p ≡ Open p
     skip-line-opens f =
         let n = none-nowhere line-feed s (p + 1) (λ q l. f q (omega arith)) in
-        sym (line-opens x s p p refl hash-within false (hash-blank s p e) refl e Nowhere (sym n) refl)
+        sym (line-opens x s p p refl hash-within (hash-blank s p e) refl e (sym n) refl)
 
   module _ (e : Byte slash s p) (f : Byte asterisk s (p + 1)) where
     slash-within : p < length s
@@ -130,12 +130,12 @@ module _ (x : Edition) (s : List ℕ) (p : ℕ) where
     opens = rw (e, f)
 
     pub skip-comment : (q : ℕ) → comment-end x s p ≡ Here q → skip x s p ≡ skip x s (q + 2)
-    skip-comment q g = past-comment x s p p refl slash-within false (slash-blank s p e) refl no-hash true opens refl (Here q) (sym g) q refl
+    skip-comment q g = past-comment x s p p refl slash-within (slash-blank s p e) refl no-hash opens refl (sym g) refl
 
     pub skip-comment-opens : No-pair asterisk slash s (p + closes-after x) → skip x s p ≡ Open p
     skip-comment-opens g =
         let n = comment-from x s p ∙ pair-nowhere asterisk slash s (p + closes-after x) g in
-        sym (comment-opens x s p p refl slash-within false (slash-blank s p e) refl no-hash true opens refl Nowhere (sym n) refl)
+        sym (comment-opens x s p p refl slash-within (slash-blank s p e) refl no-hash opens refl (sym n) refl)
 
   pub skip-stays : skips s p ≡ false → skip x s p ≡ At p
   skip-stays e = go (decLt p (length s))
@@ -144,7 +144,7 @@ module _ (x : Edition) (s : List ℕ) (p : ℕ) where
       go (yes h) =
           let a = neither (blank (getD s p 0)) (eqb (getD s p 0) hash || are slash asterisk (getD s p 0) (getD s (p + 1) 0)) e in
           let b = neither (eqb (getD s p 0) hash) (are slash asterisk (getD s p 0) (getD s (p + 1) 0)) (a .1) in
-          sym (stops x s p p refl h false (sym (a .0)) refl (eqb-false (getD s p 0) hash (b .0)) false (sym (b .1)) refl)
+          sym (stops x s p p refl h (sym (a .0)) refl (eqb-false (getD s p 0) hash (b .0)) (sym (b .1)) refl)
       go (no h) = sym (skip-ends x s p p refl (omega arith))
 
   -- at the end of a token

@@ -6,23 +6,23 @@ use Rattle.linker_script.proofs.is_white.Tie as tie
 
 returns : tie.Need-returns
 unfolding white
-returns c = simp (eq-eqb _ _ (c .if1 .taken))
+returns c = search eq-eqb
 
 returns-2 : tie.Need-returns-2
 unfolding white
-returns-2 c = simp (ne-eqb _ _ (c .before .if1 .left), eq-eqb _ _ (c .if2 .taken))
+returns-2 c = search (eq-eqb, ne-eqb)
 
 returns-3 : tie.Need-returns-3
 unfolding white
-returns-3 c = simp (ne-eqb _ _ (c .before .before .if1 .left), ne-eqb _ _ (c .before .if2 .left), eq-eqb _ _ (c .if3 .taken))
+returns-3 c = search (eq-eqb, ne-eqb)
 
 returns-4 : tie.Need-returns-4
 unfolding white
-returns-4 c = simp (ne-eqb _ _ (c .before .before .before .if1 .left), ne-eqb _ _ (c .before .before .if2 .left), ne-eqb _ _ (c .before .if3 .left), eq-eqb _ _ (c .if4 .taken))
+returns-4 c = search (eq-eqb, ne-eqb)
 
 returns-5 : tie.Need-returns-5
 unfolding white
-returns-5 c = simp (ne-eqb _ _ (c .before .before .before .if1 .left), ne-eqb _ _ (c .before .before .if2 .left), ne-eqb _ _ (c .before .if3 .left), ne-eqb _ _ (c .if4 .left))
+returns-5 c = search ne-eqb
 
 pub is-white-spec : {M : Type 1} → statement M
 is-white-spec = tie.close (tie.spec returns returns-2 returns-3 returns-4 returns-5)
