@@ -3,7 +3,7 @@
 use Prim.Native.Nat.{ℕ, _*_, _≤_, _<_}
 use mathlib.Core.Path.{_≡_, sym, _∙_}
 use mathlib.Core.List.{List, []}
-use mathlib.Core.Bool.{Bool, true, false, not}
+use mathlib.Core.Bool.{Bool, true, false, not, and-false}
 use borrow.Author.Tests.{le-leb, lt-leb, eq-eqb, ne-eqb, not-true, not-false}
 use lib.Dec.{eqb, leb}
 use lib.ListN.{length}
@@ -32,19 +32,17 @@ module _ (c : Counts) where
   unfolding within-limits
   nodes-over h = rw (lt-leb (c .nodes) node-limit h)
 
-  module _ (g : c .nodes ≤ node-limit) where
-    pub lines-over : line-limit < c .lines → false ≡ within-limits c
-    unfolding within-limits
-    lines-over h = rw (le-leb (c .nodes) node-limit g, lt-leb (c .lines) line-limit h)
+  pub lines-over : line-limit < c .lines → false ≡ within-limits c
+  unfolding within-limits
+  lines-over h = simp (lt-leb (c .lines) line-limit h, and-false)
 
-    module _ (h : c .lines ≤ line-limit) where
-      pub pool-over : pool-limit < c .pool → false ≡ within-limits c
-      unfolding within-limits
-      pool-over i = rw (le-leb (c .nodes) node-limit g, le-leb (c .lines) line-limit h, lt-leb (c .pool) pool-limit i)
+  pub pool-over : pool-limit < c .pool → false ≡ within-limits c
+  unfolding within-limits
+  pool-over h = simp (lt-leb (c .pool) pool-limit h, and-false)
 
-      pub edits-decide : c .pool ≤ pool-limit → leb (c .edits) edit-limit ≡ within-limits c
-      unfolding within-limits
-      edits-decide i = rw (le-leb (c .nodes) node-limit g, le-leb (c .lines) line-limit h, le-leb (c .pool) pool-limit i)
+  pub edits-decide : c .nodes ≤ node-limit → c .lines ≤ line-limit → c .pool ≤ pool-limit → leb (c .edits) edit-limit ≡ within-limits c
+  unfolding within-limits
+  edits-decide g h i = rw (le-leb (c .nodes) node-limit g, le-leb (c .lines) line-limit h, le-leb (c .pool) pool-limit i)
 
 -- ---- is_laid
 module _ (c : Counts) (n m l p j : List ℕ) (x : Bool) (e : x ≡ within-limits c) where

@@ -3,7 +3,7 @@
 use Prim.Native.Nat.{ℕ, _+_, _-_, _*_, _/_, _≤_, _<_}
 use mathlib.Core.Path.{_≡_, refl, sym, ap, _∙_}
 use mathlib.Core.List.{List, [], _∷_}
-use mathlib.Core.Bool.{Bool, true, false, _&&_, not, or-false, true≢false}
+use mathlib.Core.Bool.{Bool, true, false, _&&_, not, and-false, or-false, true≢false}
 use mathlib.Core.Option.{Option}
 use native.Mathlib.Decide.{ℕ-discrete}
 use native.Mathlib.Numerals.{add-one}
@@ -135,30 +135,29 @@ module _ (t : List ℕ) (n : every named t ≡ true) (b : ℕ) (e : b ≡ getD t
   pub first-return : b ≡ carriage-return → true ≡ skips t 0
   first-return k = rw (name-blank t n, ← e, eq-eqb b carriage-return k)
 
-  module _ (k : b ≡ carriage-return → ⊥) where
-    pub first-hash : b ≡ hash → true ≡ skips t 0
-    first-hash h = rw (name-blank t n, ← e, ne-eqb b carriage-return k, eq-eqb b hash h)
+  pub first-hash : b ≡ hash → true ≡ skips t 0
+  first-hash h = rw (name-blank t n, ← e, h)
 
-    module _ (h : b ≡ hash → ⊥) where
-      pub first-slash : b ≡ slash → (c : ℕ) → c ≡ getD t 1 0 → eqb c asterisk ≡ skips t 0
-      first-slash g c f = rw (name-blank t n, ← e, ← f, ne-eqb b carriage-return k, ne-eqb b hash h, eq-eqb b slash g)
+  pub first-slash : b ≡ slash → (c : ℕ) → c ≡ getD t 1 0 → eqb c asterisk ≡ skips t 0
+  first-slash g c f = rw (name-blank t n, ← e, ← f, g)
 
-      pub first-other : (b ≡ slash → ⊥) → false ≡ skips t 0
-      first-other g = rw (name-blank t n, ← e, ne-eqb b carriage-return k, ne-eqb b hash h, ne-eqb b slash g)
+  pub first-other : (b ≡ carriage-return → ⊥) → (b ≡ hash → ⊥) → (b ≡ slash → ⊥) → false ≡ skips t 0
+  first-other k h g = rw (name-blank t n, ← e, ne-eqb b carriage-return k, ne-eqb b hash h, ne-eqb b slash g)
 
 module _ (t : List ℕ) where
   pub name-none : length t ≡ 0 → false ≡ name-good t
   unfolding name-good
   name-none h = simp (le-ltb 0 (length t) (omega arith))
 
+  -- no script has room for it
+  pub name-long : script-limit - 3 < length t → false ≡ name-good t
+  unfolding name-good
+  name-long k = simp (lt-ltb script-limit (length (name-script t)) (omega (arith, name-length t)), and-false)
+
   module _ (h : length t ≡ 0 → ⊥) where
     name-some : name-good t ≡ (not (over script-limit (name-script t)) && (every named t && not (skips t 0)))
     unfolding name-good
     name-some = simp (lt-ltb 0 (length t) (omega arith))
-
-    -- no script has room for it
-    pub name-long : script-limit - 3 < length t → false ≡ name-good t
-    name-long k = sym (first-fails (name-good t) _ _ name-some (ap not (lt-ltb script-limit (length (name-script t)) (omega (arith, name-length t)))))
 
     module _ (k : length t ≤ script-limit - 3) where
       name-parts : name-good t ≡ (every named t && not (skips t 0))

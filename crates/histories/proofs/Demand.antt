@@ -224,4 +224,4 @@ undone-all how b s w ks ls o e k none whole =
     let z = desk-on how b s w o e k ks ls in
     let n : length (desk-behind how b s w (ks ++ ls) .earlier) ≡ edits-left 0 (history y ls)
     = ap (λ (i : Desk). length (i .earlier)) z ∙ r .1 ∙ ap (λ (i : List (List Line)). edits-left (length i) (history y ls)) none in
-    rw (← n) (brought-back how b s w ks ls o e k none (rw z (r .0)))
+    ap (λ (i : ℕ). run (lent-behind how b s (ks ++ ls)) (undos i)) (sym n) ∙ brought-back how b s w ks ls o e k none (rw z (r .0))

@@ -1,34 +1,36 @@
 -- `is_within_limits` meets its contract, by the laws of Holding. Assumes nothing.
+use Prim.Native.Nat.{_≤_}
+use native.Mathlib.Omega.{arith}
 use borrow.Author.Needs.{needs}
+use Rattle.numbers.specs.Limits.{line-limit, node-limit, pool-limit}
 use Rattle.book_check.proofs.Holding.{nodes-over, lines-over, pool-over, edits-decide}
 use Rattle.book_check.proofs.is_within_limits.Statement.{statement}
 use Rattle.book_check.proofs.is_within_limits.Tie as tie
 
-cast-if1 : tie.Need-cast-if1
-cast-if1 c = search needs
+-- what has passed a limit is within it
+few-nodes : (c : tie.Else1) → c .before .before .args .c .nodes ≤ node-limit
+few-nodes c = omega (arith, c .if1 .left)
 
-returns : tie.Need-returns
-returns c = search nodes-over
+few-lines : (c : tie.Else2) → c .before .before .before .before .args .c .lines ≤ line-limit
+few-lines c = omega (arith, c .if2 .left)
 
-cast-if2 : tie.Need-cast-if2
-cast-if2 c = search needs
-
-returns-2 : tie.Need-returns-2
-returns-2 c = search lines-over
-
-cast-if3 : tie.Need-cast-if3
-cast-if3 c = search needs
-
-returns-3 : tie.Need-returns-3
-returns-3 c = search pool-over
-
-cast-result : tie.Need-cast-result
-cast-result c = search needs
+few-bytes : (c : tie.Else3) → c .before .before .before .before .before .before .args .c .pool ≤ pool-limit
+few-bytes c = omega (arith, c .if3 .left)
 
 returns-4 : tie.Need-returns-4
-returns-4 c = search edits-decide
+returns-4 c =
+    let d = c .before in
+    edits-decide _ (few-nodes (d .before .before .before .before)) (few-lines (d .before .before)) (few-bytes d)
 
 pub is-within-limits-spec : {M : Type 1} → statement M
 is-within-limits-spec =
     tie.close
-    (tie.spec cast-if1 returns cast-if2 returns-2 cast-if3 returns-3 cast-result returns-4)
+    (tie.spec
+    (λ c. search needs)
+    (λ c. search nodes-over)
+    (λ c. search needs)
+    (λ c. search lines-over)
+    (λ c. search needs)
+    (λ c. search pool-over)
+    (λ c. search needs)
+    returns-4)

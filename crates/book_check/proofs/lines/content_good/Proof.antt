@@ -4,6 +4,9 @@ use Rattle.book_check.proofs.LineChecks.{content-nonstar, content-star,
 use Rattle.book_check.proofs.lines.content_good.Statement.{statement}
 use Rattle.book_check.proofs.lines.content_good.Tie as tie
 
+returns-3 : tie.Need-returns-3
+returns-3 c = search content-plain
+
 pub content-good-spec : {M : Type 1} → statement M
 content-good-spec =
     tie.close
@@ -12,4 +15,4 @@ content-good-spec =
     (λ c. search content-nonstar)
     (λ c κs. search needs)
     (λ c. search content-star)
-    (λ c. search content-plain))
+    returns-3)

@@ -4,6 +4,12 @@ use Rattle.book_check.proofs.LineChecks.{allows-local, allows-no-glob, 
 use Rattle.book_check.proofs.lines.kind_allows.Statement.{statement}
 use Rattle.book_check.proofs.lines.kind_allows.Tie as tie
 
+returns-3 : tie.Need-returns-3
+returns-3 c = search allows-general
+
+returns-4 : tie.Need-returns-4
+returns-4 c = search allows-global
+
 pub kind-allows-spec : {M : Type 1} → statement M
 kind-allows-spec =
     tie.close
@@ -13,6 +19,6 @@ kind-allows-spec =
     (λ c κs. search needs)
     (λ c. search allows-no-glob)
     (λ c κs. search needs)
-    (λ c. search allows-general)
-    (λ c. search allows-global)
+    returns-3
+    returns-4
     (λ c. search allows-any))

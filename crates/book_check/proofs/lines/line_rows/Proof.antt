@@ -15,6 +15,9 @@ abbrev μ-loop : tie.MeasureT-loop
 cast-size : tie.Need-cast-size Inv-loop μ-loop
 cast-size c = omega (arith, c .shared-slice-known4 .given (c .before .before .before .before .loop .at + 3))
 
+returns-2 : tie.Need-returns-2 Inv-loop μ-loop
+returns-2 c = search size-wrong
+
 loop-again : tie.Need-loop-again Inv-loop μ-loop
 loop-again c =
     let w = c .before .before .before .before .before .before .before .before .before in
@@ -37,7 +40,7 @@ line-rows-spec =
     (λ c. search needs) (λ c. search needs) (λ c. search needs)
     cast-size
     (λ c. search needs)
-    (λ c. search size-wrong)
+    returns-2
     (λ c. search needs) (λ c. search needs) (λ c. search needs) (λ c. search needs) (λ c. search needs)
     (λ c. search needs) (λ c. search needs) (λ c. search needs) (λ c. search needs) (λ c κs. search needs)
     (λ c. search line-wrong)

@@ -4,13 +4,22 @@ use Rattle.book_check.proofs.LineRows.{pool-short, lines-short, pool-le
 use Rattle.book_check.proofs.lines.lines_packed.Statement.{statement}
 use Rattle.book_check.proofs.lines.lines_packed.Tie as tie
 
+returns : tie.Need-returns
+returns c = search pool-short
+
+returns-2 : tie.Need-returns-2
+returns-2 c = search lines-short
+
+returns-4 : tie.Need-returns-4
+returns-4 c = search lines-left
+
 pub lines-packed-spec : {M : Type 1} → statement M
 lines-packed-spec =
     tie.close
     (tie.spec
-    (λ c. search pool-short)
-    (λ c. search lines-short)
+    returns
+    returns-2
     (λ c κs. search needs)
     (λ c. search pool-left)
     (λ c κs. search needs)
-    (λ c. search lines-left))
+    returns-4)

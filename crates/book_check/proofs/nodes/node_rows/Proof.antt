@@ -11,6 +11,15 @@ Inv-loop nodes names n p i₀ at₀ o₀ i at o = Rowing n p nodes names i at o
 abbrev μ-loop : tie.MeasureT-loop
 μ-loop nodes names n p i₀ at₀ o₀ i at o = n - i
 
+returns-2 : tie.Need-returns-2 Inv-loop μ-loop
+returns-2 c = search name-past
+
+loop-again : tie.Need-loop-again Inv-loop μ-loop
+loop-again c = search rows-more
+
+returns-4 : tie.Need-returns-4 Inv-loop μ-loop
+returns-4 c = search rows-end
+
 pub node-rows-spec : {M : Type 1} → statement M
 node-rows-spec =
     tie.close
@@ -21,9 +30,9 @@ node-rows-spec =
     (λ c. search needs) (λ c. search needs)
     (λ c. search start-bad)
     (λ c. search needs) (λ c. search needs) (λ c. search needs) (λ c. search needs)
-    (λ c. search name-past)
+    returns-2
     (λ c. search needs) (λ c. search needs) (λ c. search needs) (λ c. search needs)
-    (λ c. search rows-more)
+    loop-again
     (λ c. search names-short)
     (λ c κs. search needs)
-    (λ c. search rows-end))
+    returns-4)

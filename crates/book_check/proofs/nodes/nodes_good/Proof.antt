@@ -1,6 +1,9 @@
 -- `nodes_good` meets its contract. The loop's invariant: what is left from node i on decides. Assumes nothing.
 use Prim.Native.Nat.{_-_}
+use mathlib.Core.Path.{_≡_}
+use native.Mathlib.Omega.{arith}
 use borrow.Author.Needs.{needs}
+use lib.ListN.{getD}
 use Rattle.book_check.proofs.NodeChecks.{
   Judging,
   nodes-none,
@@ -24,6 +27,22 @@ Inv-loop nodes names n p i₀ i = Judging n p nodes names i
 abbrev μ-loop : tie.MeasureT-loop
 μ-loop nodes names n p i₀ i = n - i
 
+returns : tie.Need-returns Inv-loop μ-loop
+returns c = search nodes-none
+
+-- node 0, which has passed two tests, has no name and no parent
+unnamed : (c : tie.Else2 Inv-loop μ-loop) → getD (c .before .before .before .before .before .args .nodes .now) 1 0 ≡ 0
+unnamed c = omega (arith, c .if2 .left)
+
+parentless : (c : tie.Else3 Inv-loop μ-loop) → getD (c .before .before .before .before .before .before .before .args .nodes .now) 2 0 ≡ 0
+parentless c = omega (arith, c .if3 .left)
+
+loop-holds : tie.Need-loop-holds Inv-loop μ-loop
+loop-holds c =
+    let d = c .before .before in
+    let e = d .before .before in
+    nodes-start _ _ _ _ (e .before .before .before .pre) (e .if1 .left) (unnamed d) (parentless c)
+
 loop-again : tie.Need-loop-again Inv-loop μ-loop
 loop-again c =
     let n = c .before .before .before .before .before in
@@ -36,12 +55,12 @@ nodes-good-spec =
     (tie.spec
     Inv-loop
     μ-loop
-    (λ c. search nodes-none)
+    returns
     (λ c. search root-first)
     (λ c. search root-named)
     (λ c. search root-second)
     (λ c. search root-below)
-    (λ c. search nodes-start)
+    loop-holds
     (λ c κs. search judged-lies)
     (λ c κs. search needs)
     (λ c. search node-misnamed)
