@@ -14,7 +14,6 @@ use Rattle.book.specs.Books.{Line, no-line}
 use Rattle.book.specs.Layout.{Line-lies, bytes-of-line, five, frame-of, line-form, line-of, line-width}
 use Rattle.book.specs.View.{book-of, holds}
 use Rattle.book.proofs.Asking.{held-book}
-use Rattle.book.proofs.Forms.{line-laws}
 use Rattle.book.proofs.LineRows.{Row, Walk, lines-packed, row-line, row-short, walk-count, walk-on, walk-row, walk-starts}
 use Rattle.printing.specs.Printing.{Begins, Puts}
 use Rattle.printing.proofs.Pieces.{begins, puts-both, puts-long, puts-nothing}
@@ -87,8 +86,7 @@ module _ {c : Counts} {l m d out : List ℕ} {end i : ℕ} (z : Listed c l m d o
       let xs : List Line = things line-form (c .lines) l m in
       let f = few-lines 0 (take i xs) in
       let g = length-take-le i xs (omega (arith, there)) in
-      let w = bytes-within line-form (line-laws (frame-of c)) (c .lines) (c .pool) l m xs
-      (lines-packed (frame-of c) (c .lines) (c .pool) l m (z .walk .packing)) i no-line there in
+      let w = bytes-within (lines-packed (frame-of c) (c .lines) (c .pool) l m (z .walk .packing)) i no-line there in
       omega (arith, z .put .0, z .long)
 
   -- its bytes, as they are lent
