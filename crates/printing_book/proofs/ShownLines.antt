@@ -64,7 +64,7 @@ pub lines-end : (c : Counts) (n m l p j : List ℕ) {d out : List ℕ} {end i : 
     → Begins d (lines-shown 0 (book-of c (five n m l p j) .lines)) out end
 unfolding book-of
 lines-end c n m l p j {d} {out} {end} {i} z h =
-    begins d _ out end (subst (λ (m : List Line). Puts d 0 (lines-shown 0 m) out end) (take-all i _ (omega (arith, walk-count (z .walk)))) (z .put))
+    begins d _ (subst (λ (m : List Line). Puts d 0 (lines-shown 0 m) out end) (take-all i _ (omega (arith, walk-count (z .walk)))) (z .put))
 
 module _ {c : Counts} {l m d out : List ℕ} {end i : ℕ} (z : Listed c l m d out end i) (h : i < c .lines) where
   abbrev line : Line
@@ -104,7 +104,7 @@ module _ {c : Counts} {l m d out : List ℕ} {end i : ℕ} (z : Listed c l m d o
         record {
           walk = walk-on (z .walk) h;
           room = z .room;
-          long = puts-long out end (line-shown i line) out′ r (omega arith) q ∙ z .long;
+          long = puts-long out end (line-shown i line) (omega arith) q ∙ z .long;
           put = subst (λ (t : List ℕ). Puts d 0 t out′ r) (sym (next-line xs i there))
-              (puts-both d 0 (lines-shown 0 (take i xs)) (line-shown i line) out out′ end r (omega (arith, z .put .0, z .long)) (z .put) q);
+              (puts-both d 0 (lines-shown 0 (take i xs)) (line-shown i line) (omega (arith, z .put .0, z .long)) (z .put) q);
         }
