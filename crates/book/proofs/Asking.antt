@@ -36,8 +36,8 @@ held-book c b e =
     let t = laid-packs c b (g .0) in
     record {
       viewed = rw (g .0, g .1);
-      nodes = is-packs node-form node-laws (c .nodes) (c .names) (b .nodes) (b .names) (book-of c b .nodes) (t .nodes) .0;
-      lines = is-packs line-form (line-laws (frame-of c)) (c .lines) (c .pool) (b .lines) (b .pool) (book-of c b .lines) (t .lines) .0;
+      nodes = is-packs node-laws (t .nodes) .0;
+      lines = is-packs (line-laws (frame-of c)) (t .lines) .0;
       few = t .limits .nodes;
       count = sym (t .nodes .count);
       good = g .1;

@@ -68,7 +68,7 @@ pub record Row (frame : Frame) (n : ℕ) (l m : List ℕ) (i : ℕ) : Type 0 whe
 
 module _ (frame : Frame) (n p : ℕ) (l m : List ℕ) (g : packs line-form (line-ok frame) n p l m ≡ true) where
   pub lines-packed : Packs line-form (line-ok frame) n p l m (things line-form n l m)
-  lines-packed = packs-is line-form (line-laws frame) n p l m g
+  lines-packed = packs-is (line-laws frame) g
 
   pub lines-count : length (things line-form n l m) ≡ n
   lines-count = sym (lines-packed .count)
@@ -80,18 +80,18 @@ module _ (frame : Frame) (n p : ℕ) (l m : List ℕ) (g : packs line-form (line
       let xs : List Line = things line-form n l m in
       let w : i < length xs = omega (arith, t .count) in
       let o : ℕ = length (packed line-form (take i xs)) in
-      let a : getD l (line-width * i + 0) 0 ≡ getD xs i no-line .node = row-cell line-form (line-laws frame) n p l m xs t i no-line w 0 (omega arith) in
+      let a : getD l (line-width * i + 0) 0 ≡ getD xs i no-line .node = row-cell (line-laws frame) t i no-line w 0 (omega arith) in
       let z : line-width * i + 0 ≡ line-width * i = omega arith in
-      let b : getD l (line-width * i + 2) 0 ≡ o = row-cell line-form (line-laws frame) n p l m xs t i no-line w 2 (omega arith) in
-      let c : getD l (line-width * i + 3) 0 ≡ length (getD xs i no-line .bytes) = row-cell line-form (line-laws frame) n p l m xs t i no-line w 3 (omega arith) in
+      let b : getD l (line-width * i + 2) 0 ≡ o = row-cell (line-laws frame) t i no-line w 2 (omega arith) in
+      let c : getD l (line-width * i + 3) 0 ≡ length (getD xs i no-line .bytes) = row-cell (line-laws frame) t i no-line w 3 (omega arith) in
       record {
         lies = record {
           within = omega (arith, t .rowroom);
-          room = omega (arith, b, c, bytes-room line-form (line-laws frame) n p l m xs t i no-line w);
+          room = omega (arith, b, c, bytes-room t i no-line w);
         };
         node = ap (λ (k : ℕ). getD l k 0) (sym z) ∙ a;
-        code = row-cell line-form (line-laws frame) n p l m xs t i no-line w 1 (omega arith);
-        bytes = ap₂ (λ (u v : ℕ). take u (drop v m)) c b ∙ bytes-at line-form (line-laws frame) n p l m xs t i no-line w;
+        code = row-cell (line-laws frame) t i no-line w 1 (omega arith);
+        bytes = ap₂ (λ (u v : ℕ). take u (drop v m)) c b ∙ bytes-at t i no-line w;
         right = every-at (line-ok frame) xs i no-line (t .all) w;
       }
 

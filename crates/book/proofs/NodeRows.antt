@@ -45,7 +45,7 @@ pub record Row (n : ℕ) (l m : List ℕ) (i : ℕ) : Type 0 where
 
 module _ (n p : ℕ) (l m : List ℕ) (g : packs node-form any-node n p l m ≡ true) where
   pub nodes-packed : Packs node-form any-node n p l m (things node-form n l m)
-  nodes-packed = packs-is node-form node-laws n p l m g
+  nodes-packed = packs-is node-laws g
 
   pub nodes-count : length (things node-form n l m) ≡ n
   nodes-count = sym (nodes-packed .count)
@@ -57,14 +57,14 @@ module _ (n p : ℕ) (l m : List ℕ) (g : packs node-form any-node n p l m ≡ 
       let xs : List Node = things node-form n l m in
       let w : i < length xs = omega (arith, t .count) in
       let o : ℕ = length (packed node-form (take i xs)) in
-      let a : getD l (node-width * i + 0) 0 ≡ o = row-cell node-form node-laws n p l m xs t i no-node w 0 (omega arith) in
+      let a : getD l (node-width * i + 0) 0 ≡ o = row-cell node-laws t i no-node w 0 (omega arith) in
       let z : node-width * i + 0 ≡ node-width * i = omega arith in
       let b : getD l (node-width * i) 0 ≡ o = ap (λ (k : ℕ). getD l k 0) (sym z) ∙ a in
-      let c : getD l (node-width * i + 1) 0 ≡ length (getD xs i no-node .name) = row-cell node-form node-laws n p l m xs t i no-node w 1 (omega arith) in
+      let c : getD l (node-width * i + 1) 0 ≡ length (getD xs i no-node .name) = row-cell node-laws t i no-node w 1 (omega arith) in
       record {
-        lies = record { within = omega (arith, t .rowroom); room = omega (arith, b, c, bytes-room node-form node-laws n p l m xs t i no-node w) };
-        name = ap₂ (λ (u v : ℕ). take u (drop v m)) c b ∙ bytes-at node-form node-laws n p l m xs t i no-node w;
-        parent = row-cell node-form node-laws n p l m xs t i no-node w 2 (omega arith);
+        lies = record { within = omega (arith, t .rowroom); room = omega (arith, b, c, bytes-room t i no-node w) };
+        name = ap₂ (λ (u v : ℕ). take u (drop v m)) c b ∙ bytes-at t i no-node w;
+        parent = row-cell node-laws t i no-node w 2 (omega arith);
       }
 
 -- ---- a walk through the rows

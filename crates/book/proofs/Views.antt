@@ -71,9 +71,9 @@ laid-packs c b e =
     record {
       kind = refl;
       limits = within-is c (x .0);
-      nodes = packs-is node-form node-laws (c .nodes) (c .names) (b .nodes) (b .names) (y .0);
-      lines = packs-is line-form (line-laws (frame-of c)) (c .lines) (c .pool) (b .lines) (b .pool) (z .0);
-      edits = packs-is edit-form edit-laws (c .edits) 0 (b .journal) [] (z .1);
+      nodes = packs-is node-laws (y .0);
+      lines = packs-is (line-laws (frame-of c)) (z .0);
+      edits = packs-is edit-laws (z .1);
     }
 
 module _ (c : Counts) (b : Buffers) (w : Book) (t : Layout c b w) where
@@ -81,9 +81,9 @@ module _ (c : Counts) (b : Buffers) (w : Book) (t : Layout c b w) where
   pub laid-from : (laid c b ≡ true) × (book-of c b ≡ w)
   unfolding laid book-of
   laid-from =
-      let n = is-packs node-form node-laws (c .nodes) (c .names) (b .nodes) (b .names) (w .nodes) (t .nodes) in
-      let l = is-packs line-form (line-laws (frame-of c)) (c .lines) (c .pool) (b .lines) (b .pool) (w .lines) (t .lines) in
-      let e = is-packs edit-form edit-laws (c .edits) 0 (b .journal) [] (w .edits) (t .edits) in (
+      let n = is-packs node-laws (t .nodes) in
+      let l = is-packs (line-laws (frame-of c)) (t .lines) in
+      let e = is-packs edit-laws (t .edits) in (
         rw (is-within c (t .limits), n .0, l .0) (e .0),
         λ i. record { kind = t .kind i; nodes = n .1 i; lines = l .1 i; edits = e .1 i },
       )
@@ -171,9 +171,9 @@ module _ (b : Buffers) (w : Book) (f : Fits b w) where
   fits-layout = record {
     kind = refl;
     limits = record { nodes = f .few-nodes; lines = f .few-lines; pool = f .few-bytes; edits = f .few-edits };
-    nodes = packs-rooms node-form node-laws (length (b .nodes)) (length (b .names)) (w .nodes) (f .node-room) (f .name-room) (every-node (w .nodes));
-    lines = packs-rooms line-form (line-laws (book-frame w)) (length (b .lines)) (length (b .pool)) (w .lines) (f .line-room) (f .pool-room) (f .lines-ok);
-    edits = packs-from edit-form edit-laws (length (w .edits)) 0 (length (b .journal)) 0 (pad (length (b .journal)) (rows edit-form 0 (w .edits))) [] (w .edits) refl
+    nodes = packs-rooms node-laws (length (b .nodes)) (length (b .names)) (f .node-room) (f .name-room) (every-node (w .nodes));
+    lines = packs-rooms (line-laws (book-frame w)) (length (b .lines)) (length (b .pool)) (f .line-room) (f .pool-room) (f .lines-ok);
+    edits = packs-from edit-laws (length (b .journal)) 0 refl
         (ap length (sym (no-bytes (w .edits)))) (f .edits-ok) refl (ap (pad 0) (sym (no-bytes (w .edits)))) (f .edit-room) (omega arith);
   }
 
@@ -184,11 +184,11 @@ module _ (b : Buffers) (w : Book) (f : Fits b w) where
   pub laid-out-rooms : Rooms (laid-out b w) b
   unfolding laid-out node-form line-form edit-form
   laid-out-rooms = record {
-    nodes = length-pad _ (rows node-form 0 (w .nodes)) (rw (length-rows node-form node-laws 0 (w .nodes)) (f .node-room));
+    nodes = length-pad _ (rows node-form 0 (w .nodes)) (rw (length-rows node-laws 0 (w .nodes)) (f .node-room));
     names = length-pad _ (packed node-form (w .nodes)) (f .name-room);
-    lines = length-pad _ (rows line-form 0 (w .lines)) (rw (length-rows line-form (line-laws (book-frame w)) 0 (w .lines)) (f .line-room));
+    lines = length-pad _ (rows line-form 0 (w .lines)) (rw (length-rows (line-laws (book-frame w)) 0 (w .lines)) (f .line-room));
     pool = length-pad _ (packed line-form (w .lines)) (f .pool-room);
-    journal = length-pad _ (rows edit-form 0 (w .edits)) (rw (length-rows edit-form edit-laws 0 (w .edits)) (f .edit-room));
+    journal = length-pad _ (rows edit-form 0 (w .edits)) (rw (length-rows edit-laws 0 (w .edits)) (f .edit-room));
   }
 
   -- a sane book that fits, laid out, is viewed again

@@ -101,7 +101,7 @@ module _ (g : Progress) (p section language : ℕ) (t l q : List ℕ) where
         let x : Line = new-line (g .nodes - 1) section language (class-number k) bs in
         let h : code-of x ≡ code = omega arith in
         let v : Packs line-form (line-ok (frame-of (counts-so-far g))) (g .lines + 1) (g .pool + length bs) l′ q′ (lines-of g n m l q ++ (x ∷ []))
-        = put-thing line-form (line-laws (frame-of (counts-so-far g))) (g .lines) (g .pool) l q (lines-of g n m l q) (s .lines) x l′ q′
+        = put-thing (line-laws (frame-of (counts-so-far g))) (s .lines) x
         (kept-line (g .nodes) t k bs keeps (g .nodes - 1) section language (omega (arith, s .few .some)) f b)
         (omega (arith, room .row)) (omega (arith, room .pool, room-length q)) (rw (h, ← size) d) put in
         let r : State (line-more g i (mixed-behind (g .mixed) section c) (starred-behind (g .starred) (g .inside) section c)) n m l′ q′ (nodes-of g n m l q) (lines-of g n m l q ++ (x ∷ [])) = record {

@@ -97,7 +97,7 @@ module _ (g : Progress) (p : ℕ) (name n m : List ℕ) where
 
   pub node-refused : (n′ m′ : List ℕ) → (Node-room g n m (length name) → ⊥) → Took-node g p name n m (No no-room p) n′ m′
   unfolding take-node
-  node-refused n′ m′ h l q e = rw (building-is g n m l q, fails (node-room (five n m l q []) (nodes-of g n m l q) name) (λ r. h (room-is l q e r)))
+  node-refused n′ m′ h l q e = rw (building-is g n m l q, fails (λ r. h (room-is l q e r)))
 
   pub node-added : (n′ m′ : List ℕ) → Node-room g n m (length name) → length name ≤ script-limit
       → n′ ≡ paste n (node-width * g .nodes) (g .names ∷ length name ∷ 0 ∷ []) 3 → m′ ≡ paste m (g .names) name (length name)
@@ -107,7 +107,7 @@ module _ (g : Progress) (p : ℕ) (name n m : List ℕ) where
       let t = is-state g n m l q e in
       let x : Node = record { name = name; parent = 0 } in
       let y : Packs node-form any-node (g .nodes + 1) (g .names + length name) n′ m′ (nodes-of g n m l q ++ (x ∷ []))
-      = put-thing node-form node-laws (g .nodes) (g .names) n m (nodes-of g n m l q) (t .nodes) x n′ m′ refl (omega (arith, r .row)) (r .name) a b in
+      = put-thing node-laws (t .nodes) x refl (omega (arith, r .row)) (r .name) a b in
       let z : State (node-more g (length name)) n′ m′ l q (nodes-of g n m l q ++ (x ∷ [])) (lines-of g n m l q) = record {
         few = record {
           some = omega arith;
@@ -160,7 +160,7 @@ module _ (g : Progress) (p : ℕ) (n m : List ℕ) where
         let x : Node = record { name = getD xs i no-node .name; parent = r } in
         let w : i < length xs = omega (arith, s .nodes .count, s .few .some) in
         let y : Packs node-form any-node (g .nodes) (g .names) n′ m (set xs i x)
-        = set-thing node-form node-laws (g .nodes) (g .names) n m xs (s .nodes) i no-node w 2 r x n′ (omega arith) refl refl (λ o. refl) a in
+        = set-thing node-laws (s .nodes) i no-node w 2 r x (omega arith) refl refl (λ o. refl) a in
         let z : State g n′ m l q (set xs i x) (lines-of g n m l q) = record { few = s .few; nodes = y; lines = s .lines } in
         let u = state-is g n′ m l q (set xs i x) (lines-of g n m l q) z in (
           rw (building-is g n m l q, found-here o (first-named (things node-form (g .nodes) n m) 0 (c ∷ t)) r k v, ← s .nodes .count, lt-ltb r (g .nodes - 1) h, u .0),

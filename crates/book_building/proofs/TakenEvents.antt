@@ -22,7 +22,7 @@ use Rattle.book_building.specs.declared.Taking.{Taking}
 use Rattle.book_building.specs.declared.Taking.the-variants.{On}
 use Rattle.book_building.specs.Building.{take-event}
 use Rattle.book_building.specs.State.{Took, Took-line, Took-node, Took-parent, building, built, inside-block, outside-block}
-use Rattle.book_building.proofs.States.{is-state, nodes-of}
+use Rattle.book_building.proofs.States.{is-state}
 use Rattle.book_building.specs.Events.{Lies}
 
 -- ---- the part of the text that is handed over, from p to p + k
@@ -45,7 +45,7 @@ module _ (s : List ℕ) (g : Progress) (n m l q : List ℕ) (b : built g (five n
       → (p + k ≤ length s) × (packs node-form any-node (g .nodes) (g .names) n m ≡ true) × (0 < g .nodes) × (g .nodes ≤ node-limit)
   parent-asks p k u z =
       let t = is-state g n m l q b in
-      (rw z at u, is-packs node-form node-laws (g .nodes) (g .names) n m (nodes-of g n m l q) (t .nodes) .0, t .few .some, t .few .nodes)
+      (rw z at u, is-packs node-laws (t .nodes) .0, t .few .some, t .few .nodes)
 
   pub line-asks : (section language p k : ℕ) → Lies s e → e ≡ Line section language p k
       → (p + k ≤ length s) × (g .pool ≤ pool-room q) × (0 < g .nodes) × (g .nodes ≤ node-limit) × (section ≤ local) × (language ≤ cxx)

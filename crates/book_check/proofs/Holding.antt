@@ -115,7 +115,7 @@ module _ (c : Counts) (n m l p j : List ℕ) (x : Bool) (e : x ≡ laid c (five 
     asks-laid = passes x _ e h
 
     pub asks-nodes : packs node-form any-node (c .nodes) (c .names) n m ≡ true
-    asks-nodes = is-packs node-form node-laws (c .nodes) (c .names) n m _ (laid-packs c (five n m l p j) asks-laid .nodes) .0
+    asks-nodes = is-packs node-laws (laid-packs c (five n m l p j) asks-laid .nodes) .0
 
     pub asks-journal : (4 * c .lines ≤ length l) × (2 * c .edits ≤ length j) × (c .lines ≤ line-limit)
     asks-journal = (lines-room c n m l p j asks-laid, journal-room c n m l p j asks-laid, laid-packs c (five n m l p j) asks-laid .limits .lines)

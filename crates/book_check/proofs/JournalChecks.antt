@@ -69,11 +69,11 @@ module _ (l : List ℕ) (n : ℕ) where
   -- ---- the test of the packing, from its parts
   pub edits-short : length l / 2 < n → false ≡ packs edit-form edit-ok n 0 l []
   unfolding edit-form
-  edits-short h = packs-no edit-form edit-laws n 0 l [] (λ t. omega (arith, t .rowroom))
+  edits-short h = packs-no edit-laws (λ t. omega (arith, t .rowroom))
 
   pub edits-left : (r : Bool) → r ≡ fine edit-form edit-ok 0 n 0 l [] → r ≡ packs edit-form edit-ok n 0 l []
   unfolding all-zero every
-  edits-left r q = packs-rows edit-form edit-laws n 0 l [] true r (omega arith) refl refl q
+  edits-left r q = packs-rows edit-form edit-ok n 0 l [] (omega arith) refl refl q
 
 -- ---- lines that stand again
 length-again : (gs : List ℕ) (ls : List Line) → length (standing-again gs ls) ≡ length ls

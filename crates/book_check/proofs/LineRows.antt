@@ -102,18 +102,18 @@ module _ {frame : Frame} {l ps : List ℕ} {n p : ℕ} where
 -- ---- the test of the packing, from its parts
 module _ (frame : Frame) (l ps : List ℕ) (n p : ℕ) where
   pub pool-short : length ps < p → false ≡ packs line-form (line-ok frame) n p l ps
-  pool-short h = packs-no line-form (line-laws frame) n p l ps (λ t. omega (arith, t .byteroom))
+  pool-short h = packs-no (line-laws frame) (λ t. omega (arith, t .byteroom))
 
   pub lines-short : length l / 4 < n → false ≡ packs line-form (line-ok frame) n p l ps
   unfolding line-form
-  lines-short h = packs-no line-form (line-laws frame) n p l ps (λ t. omega (arith, t .rowroom))
+  lines-short h = packs-no (line-laws frame) (λ t. omega (arith, t .rowroom))
 
   module _ (h : p ≤ length ps) (z : Bool) (e : z ≡ all-zero (drop p ps)) where
     pub pool-left : not z ≡ true → false ≡ packs line-form (line-ok frame) n p l ps
-    pool-left f = packs-zero line-form (line-laws frame) n p l ps z h e (not-true z f)
+    pool-left f = packs-zero line-form (line-ok frame) n p l ps h e (not-true z f)
 
     pub lines-left : (r : Bool) → not z ≡ false → r ≡ fine line-form (line-ok frame) p n 0 l ps → r ≡ packs line-form (line-ok frame) n p l ps
-    lines-left r f q = packs-rows line-form (line-laws frame) n p l ps z r h e (not-false z f) q
+    lines-left r f q = packs-rows line-form (line-ok frame) n p l ps h e (not-false z f) q
 
 -- ---- things of rows, and what the code in a line's row tells of it
 module _ {X : Type 0} (F : Form X) where

@@ -101,18 +101,18 @@ module _ (n p : ℕ) (l m : List ℕ) where
 -- ---- the packing from its parts
 module _ (n p : ℕ) (l m : List ℕ) where
   pub names-lack : length m < p → false ≡ packs node-form any-node n p l m
-  names-lack h = packs-no node-form node-laws n p l m (λ t. omega (arith, t .byteroom))
+  names-lack h = packs-no node-laws (λ t. omega (arith, t .byteroom))
 
   pub rows-lack : length l / 3 < n → false ≡ packs node-form any-node n p l m
   unfolding node-form
-  rows-lack h = packs-no node-form node-laws n p l m (λ t. omega (arith, t .rowroom))
+  rows-lack h = packs-no node-laws (λ t. omega (arith, t .rowroom))
 
   pub rest-bad : (z : Bool) → p ≤ length m → z ≡ all-zero (drop p m) → not z ≡ true → false ≡ packs node-form any-node n p l m
-  rest-bad z h e f = packs-zero node-form node-laws n p l m z h e (not-true z f)
+  rest-bad z h e f = packs-zero node-form any-node n p l m h e (not-true z f)
 
   pub rows-decide : (z r : Bool) → p ≤ length m → z ≡ all-zero (drop p m) → not z ≡ false → r ≡ fine node-form any-node p n 0 l m
       → r ≡ packs node-form any-node n p l m
-  rows-decide z r h e f q = packs-rows node-form node-laws n p l m z r h e (not-false z f) q
+  rows-decide z r h e f q = packs-rows node-form any-node n p l m h e (not-false z f) q
 
 -- ---- a name: of the blanks only CR is a byte of one
 pub named-blank : (b : ℕ) → named b ≡ true → blank b ≡ eqb b carriage-return
@@ -161,13 +161,13 @@ module _ (t : List ℕ) where
 
     module _ (k : length t ≤ script-limit - 3) where
       name-parts : name-good t ≡ (every named t && not (skips t 0))
-      name-parts = passes-on (name-good t) _ _ name-some (ap not (le-ltb script-limit (length (name-script t)) (omega (arith, name-length t))))
+      name-parts = passes-on name-some (ap not (le-ltb script-limit (length (name-script t)) (omega (arith, name-length t))))
 
       pub name-bad : (r : Bool) → r ≡ every named t → not r ≡ true → false ≡ name-good t
-      name-bad r e f = sym (first-fails (name-good t) (every named t) _ name-parts (sym e ∙ not-true r f))
+      name-bad r e f = sym (first-fails _ name-parts (sym e ∙ not-true r f))
 
       pub name-ends : (r q : Bool) → r ≡ every named t → not r ≡ false → q ≡ skips t 0 → not q ≡ name-good t
-      name-ends r q e f g = ap not g ∙ sym (passes-on (name-good t) (every named t) _ name-parts (sym e ∙ not-false r f))
+      name-ends r q e f g = ap not g ∙ sym (passes-on name-parts (sym e ∙ not-false r f))
 
   -- what `is_skipped_first` asks
   pub names-asked : (r : Bool) → r ≡ every named t → not r ≡ false → every named t ≡ true
@@ -199,7 +199,7 @@ module _ (xs : List Node) (i p : ℕ) where
     parent-parts = simp (ne-eqb p 0 h)
 
     pub parent-late : i ≤ p → false ≡ parent-good xs i p
-    parent-late w = sym (first-fails (parent-good xs i p) (ltb p i) _ parent-parts (le-ltb p i w))
+    parent-late w = sym (first-fails _ parent-parts (le-ltb p i w))
 
 module _ (n b : ℕ) (l m : List ℕ) (g : packs node-form any-node n b l m ≡ true) (i p : ℕ) (h : i < n) (w : p < i) where
   abbrev nodes : List Node
@@ -226,18 +226,18 @@ module _ (n b : ℕ) (l m : List ℕ) (g : packs node-form any-node n b l m ≡ 
     parent-is = c ∙ parent-row .name
 
     rest-decides : parent-good nodes i p ≡ (not o && (is-number p (first-named nodes 0 (name-at nodes p)) && every no-semicolon (name-at nodes p)))
-    rest-decides = passes-on (parent-good nodes i p) (ltb p i) _ (parent-parts nodes i p y) (lt-ltb p i w) ∙ rw (k, own-is, parent-is)
+    rest-decides = passes-on (parent-parts nodes i p y) (lt-ltb p i w) ∙ rw (k, own-is, parent-is)
 
     -- no script has room for both
     pub parent-long : o ≡ true → false ≡ parent-good nodes i p
-    parent-long f = sym (first-fails _ _ _ rest-decides (ap not f))
+    parent-long f = sym (first-fails _ rest-decides (ap not f))
 
     module _ (f : o ≡ false) (r : Found) (e : r ≡ found (first-named nodes 0 u)) where
       abbrev first : Option ℕ
       first = first-named nodes 0 (name-at nodes p)
 
       number-decides : parent-good nodes i p ≡ (is-number p first && every no-semicolon (name-at nodes p))
-      number-decides = passes-on _ _ _ rest-decides (ap not f)
+      number-decides = passes-on rest-decides (ap not f)
 
       parent-first : r ≡ found first
       parent-first = e ∙ ap (λ (s : List ℕ). found (first-named nodes 0 s)) parent-is
@@ -250,15 +250,15 @@ module _ (n b : ℕ) (l m : List ℕ) (g : packs node-form any-node n b l m ≡ 
 
       -- no node has its name
       pub parent-nowhere : r ≡ Nowhere → false ≡ parent-good nodes i p
-      parent-nowhere v = sym (first-fails _ _ _ number-decides (none-told v))
+      parent-nowhere v = sym (first-fails _ number-decides (none-told v))
 
       -- an earlier node has its name
       pub parent-again : (q : ℕ) → r ≡ Here q → (q ≡ p → ⊥) → false ≡ parent-good nodes i p
-      parent-again q v x = sym (first-fails _ _ _ number-decides (number-told q v ∙ ne-eqb q p x))
+      parent-again q v x = sym (first-fails _ number-decides (number-told q v ∙ ne-eqb q p x))
 
       -- it is the first, and its name's bytes decide
       pub parent-ends : (q : ℕ) (z : Bool) → r ≡ Here q → q ≡ p → z ≡ every no-semicolon u → z ≡ parent-good nodes i p
-      parent-ends q z v x d = d ∙ ap (every no-semicolon) parent-is ∙ sym (passes-on _ _ _ number-decides (number-told q v ∙ eq-eqb q p x))
+      parent-ends q z v x d = d ∙ ap (every no-semicolon) parent-is ∙ sym (passes-on number-decides (number-told q v ∙ eq-eqb q p x))
 
 -- ---- the nodes: what is left from node i on decides
 pub record Judging (n p : ℕ) (l m : List ℕ) (i : ℕ) : Type 0 where
@@ -308,16 +308,16 @@ module _ (n p : ℕ) (l m : List ℕ) (g : packs node-form any-node n p l m ≡ 
 
     -- the first node has a name, or a parent
     pub root-named : (getD l 1 0 ≡ 0 → ⊥) → false ≡ nodes-good (things node-form n l m)
-    root-named f = sym (first-fails _ _ _ root-is (ne-eqb _ _ f))
+    root-named f = sym (first-fails _ root-is (ne-eqb _ _ f))
 
     pub root-below : getD l 1 0 ≡ 0 → (getD l 2 0 ≡ 0 → ⊥) → false ≡ nodes-good (things node-form n l m)
-    root-below e f = sym (first-fails _ _ _ (passes-on _ _ _ root-is (eq-eqb _ _ e)) (ne-eqb _ _ f))
+    root-below e f = sym (first-fails _ (passes-on root-is (eq-eqb _ _ e)) (ne-eqb _ _ f))
 
     -- it has neither, and the nodes behind it decide
     pub nodes-start : getD l 1 0 ≡ 0 → getD l 2 0 ≡ 0 → Judging n p l m 1
     nodes-start e f = record {
       walk = walk-stands g (omega arith);
-      goes = passes-on _ _ _ (passes-on _ _ _ root-is (eq-eqb _ _ e)) (eq-eqb _ _ f);
+      goes = passes-on (passes-on root-is (eq-eqb _ _ e)) (eq-eqb _ _ f);
     }
 
 module _ {n p : ℕ} {l m : List ℕ} {i : ℕ} (z : Judging n p l m i) where
@@ -333,16 +333,16 @@ module _ {n p : ℕ} {l m : List ℕ} {i : ℕ} (z : Judging n p l m i) where
           ∙ rw (← walk-row (z .walk) h .parent, e, a, walk-row (z .walk) h .name)
 
       pub node-misnamed : not r ≡ true → false ≡ nodes-good (things node-form n l m)
-      node-misnamed f = sym (first-fails _ _ _ node-is (not-true r f))
+      node-misnamed f = sym (first-fails _ node-is (not-true r f))
 
       module _ {q : Bool} (d : q ≡ parent-good (things node-form n l m) i (getD l (node-width * i + 2) 0)) (f : not r ≡ false) where
         pub node-misplaced : not q ≡ true → false ≡ nodes-good (things node-form n l m)
-        node-misplaced k = sym (first-fails _ _ _ (passes-on _ _ _ node-is (not-false r f)) (sym d ∙ not-true q k))
+        node-misplaced k = sym (first-fails _ (passes-on node-is (not-false r f)) (sym d ∙ not-true q k))
 
         pub nodes-more : not q ≡ false → Judging n p l m (i + 1)
         nodes-more k = record {
           walk = walk-on (z .walk) h;
-          goes = passes-on _ _ _ (passes-on _ _ _ node-is (not-false r f)) (sym d ∙ not-false q k);
+          goes = passes-on (passes-on node-is (not-false r f)) (sym d ∙ not-false q k);
         }
 
   pub nodes-end : n ≤ i → true ≡ nodes-good (things node-form n l m)

@@ -36,8 +36,9 @@ module _ (n m l q : List ℕ) (a : Clear n) (b : Clear m) (c : Clear l) (d : Cle
   unfolding node-form line-form rows packed every
   starts = record {
     few = record { some = omega arith; names = omega arith; nodes = omega arith; lines = omega arith; pool = omega arith };
-    nodes = packs-from node-form node-laws 1 0 (length n) (length m) n m (no-node ∷ []) refl refl refl (zero-row n a h) (b ∙ pad-nil (length m)) h (omega arith);
-    lines = packs-from line-form (line-laws (frame-with regular 1)) 0 0 (length l) (length q) l q [] refl refl refl (c ∙ pad-nil (length l)) (d ∙ pad-nil (length q)) (omega arith) (omega arith);
+    nodes = packs-from node-laws (length n) (length m) refl refl refl (zero-row n a h) (b ∙ pad-nil (length m)) h (omega arith);
+    lines = packs-from (line-laws (frame-with regular 1)) (length l) (length q) refl refl refl
+        (c ∙ pad-nil (length l)) (d ∙ pad-nil (length q)) (omega arith) (omega arith);
   }
 
   pub starts-built : (building none-yet (four n m l q) ≡ nothing-yet) × (built none-yet (four n m l q) ≡ true)

@@ -45,12 +45,12 @@ module _ (b : Buffers) (xs : List Line) (n p : ℕ) (c : n ≡ length xs) (t : p
   -- no row is left, or not that much of the pool
   pub no-row : fits-row (b .lines) n ≡ false → line-room b xs bs ≡ false
   no-row f =
-      fails (line-room b xs bs) (λ e.
+      fails (λ e.
       let r = room-is e in
       absurd (true≢false (sym (rw (lt-ltb n line-limit (r .number)) (le-leb (line-width * (n + 1)) (length (b .lines)) (r .row))) ∙ f)))
 
   pub no-pool : pool-room (b .pool) < p + length bs → line-room b xs bs ≡ false
-  no-pool h = fails (line-room b xs bs) (λ e. let r = room-is e in omega arith)
+  no-pool h = fails (λ e. let r = room-is e in omega arith)
 
 pub edit-room-is : (b : Buffers) (es : List Edit) (n : ℕ) → n ≡ length es → edit-room b es ≡ edit-row (b .journal) n
 unfolding edit-room

@@ -16,7 +16,7 @@ module _ (d : List ℕ) (from to n : ℕ) where
 
   -- none is moved at first
   pub move-starts : Moved d 0
-  move-starts = paste-starts d to (take n (drop from d))
+  move-starts = paste-starts
 
   -- what stays where it is, is moved
   pub move-none : to ≡ from → d ≡ paste d to (take n (drop from d)) n
@@ -28,7 +28,7 @@ module _ (d : List ℕ) (from to n : ℕ) where
     long : length (take n (drop from d)) ≡ n
     long = length-take-le n (drop from d) (omega (arith, length-drop from d))
 
-    module _ (l : List ℕ) (i : ℕ) (z : Moved l i) where
+    module _ {l : List ℕ} {i : ℕ} (z : Moved l i) where
       -- the byte that is read is still as it was, and one more is moved
       pub move-more : i < n → Moved (set l (to + i) (getD l (from + i) 0)) (i + 1)
       move-more h =
@@ -39,11 +39,11 @@ module _ (d : List ℕ) (from to n : ℕ) where
           let x : getD l (from + i) 0 ≡ getD d (from + i) 0
           = (rw e at (sym (getD-drop (from + i) l 0 0))) ∙ ap (λ (m : List ℕ). getD m 0 0) a ∙ (rw e at (getD-drop (from + i) d 0 0)) in
           let y : getD l (from + i) 0 ≡ getD s i 0 = x ∙ sym (getD-take n (drop from d) i 0 h ∙ getD-drop from d i 0) in
-          rw (← y) at (paste-more d to s l i z (omega (arith, long)) (omega (arith, long)))
+          rw (← y) at (paste-more z (omega (arith, long)) (omega (arith, long)))
 
       -- the last store moves all
       pub move-ends : n ≤ i → l ≡ paste d to (take n (drop from d)) n
-      move-ends h = paste-ends d to (take n (drop from d)) l i z (omega (arith, long)) ∙ ap (paste d to (take n (drop from d))) long
+      move-ends h = paste-ends z (omega (arith, long)) ∙ ap (paste d to (take n (drop from d))) long
 
 -- ---- a row of two or three numbers, stored one by one
 module _ (l : List ℕ) (at a b : ℕ) where

@@ -153,7 +153,7 @@ module _ (c : Counts) (n m l p j : List ℕ) (x : Bool) (e : x ≡ holds c (five
         cell : (t : ℕ) → t < 3 → getD n (3 * i + t) 0 ≡ getD (length (packed node-form (take i xs)) ∷ length (getD xs i no-node .name) ∷ getD xs i no-node .parent ∷ []) t 0
         unfolding node-form
         cell t y =
-            row-cell node-form node-laws (c .nodes) (c .names) n m xs (nodes-packed (c .nodes) (c .names) n m (held .nodes)) i no-node
+            row-cell node-laws (nodes-packed (c .nodes) (c .names) n m (held .nodes)) i no-node
             (omega (arith, nodes-count (c .nodes) (c .names) n m (held .nodes))) t y
 
         pub node-there : node.Node (getD n (3 * i) 0) (getD n (3 * i + 1) 0) (getD n (3 * i + 2) 0) ≡ node-of i (view c (five n m l p j))

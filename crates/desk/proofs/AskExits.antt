@@ -37,35 +37,36 @@ few-member membership.Within = omega arith
 few-member membership.Without = omega arith
 few-member (membership.Refused n) = few-refused n
 
-module _ (d name : List ℕ) (m : Membership) (d₁ d₂ : List ℕ) (a b : ℕ) (room : length name + 48 ≤ length d) (p : Puts d 0 name d₁ a) (q : Puts d₁ a (space ∷ []) d₂ b) where
+module _ (d name : List ℕ) (m : Membership) {d₁ d₂ : List ℕ} {a b : ℕ} (room : length name + 48 ≤ length d) (p : Puts d 0 name d₁ a)
+    (q : Puts d₁ a (space ∷ []) d₂ b) where
   -- the fields and the end of the line stand behind the blank
-  member-put : (l : List ℕ) (r : ℕ) → Puts d₂ b (member-fields m ++ line-end) l r → Begins d (member-line name m) l r
+  member-put : {l : List ℕ} {r : ℕ} → Puts d₂ b (member-fields m ++ line-end) l r → Begins d (member-line name m) l r
   unfolding member-line
-  member-put l r s =
+  member-put {l} {r} s =
       let w : a ≡ 0 + length name = p .0 in
       let f = few-member m in
-      let x₁ : length d₁ ≡ length d = puts-long d 0 name d₁ a (omega arith) p in
+      let x₁ = puts-long d 0 name (omega arith) p in
       let t = length-append (member-fields m) line-end in
-      let y : Puts d₁ a (space ∷ (member-fields m ++ line-end)) l r = puts-both d₁ a (space ∷ []) (member-fields m ++ line-end) d₂ l b r (omega arith) q s in
-      begins d (member-line name m) l r (puts-both d 0 name (space ∷ (member-fields m ++ line-end)) d₁ l a r (omega arith) p y)
+      let y : Puts d₁ a (space ∷ (member-fields m ++ line-end)) l r = puts-both d₁ a (space ∷ []) (member-fields m ++ line-end) (omega arith) q s in
+      begins d (member-line name m) (puts-both d 0 name (space ∷ (member-fields m ++ line-end)) (omega arith) p y)
 
-  pub within-put : (l : List ℕ) (r : ℕ) → m ≡ membership.Within → Puts d₂ b (105 ∷ 110 ∷ 10 ∷ []) l r → Begins d (member-line name m) l r
+  pub within-put : {l : List ℕ} {r : ℕ} → m ≡ membership.Within → Puts d₂ b (105 ∷ 110 ∷ 10 ∷ []) l r → Begins d (member-line name m) l r
   unfolding codes
-  within-put l r e s = member-put l r (rw e s)
+  within-put e s = member-put (rw e s)
 
-  pub without-put : (l : List ℕ) (r : ℕ) → m ≡ membership.Without → Puts d₂ b (111 ∷ 117 ∷ 116 ∷ 10 ∷ []) l r → Begins d (member-line name m) l r
+  pub without-put : {l : List ℕ} {r : ℕ} → m ≡ membership.Without → Puts d₂ b (111 ∷ 117 ∷ 116 ∷ 10 ∷ []) l r → Begins d (member-line name m) l r
   unfolding codes
-  without-put l r e s = member-put l r (rw e s)
+  without-put e s = member-put (rw e s)
 
-  pub refused-put : (n : ℕ) (d₃ l : List ℕ) (f r : ℕ) → m ≡ membership.Refused n → Puts d₂ b (refused-fields n) d₃ f → Puts d₃ f line-end l r
+  pub refused-put : {n : ℕ} {d₃ l : List ℕ} {f r : ℕ} → m ≡ membership.Refused n → Puts d₂ b (refused-fields n) d₃ f → Puts d₃ f line-end l r
       → Begins d (member-line name m) l r
-  refused-put n d₃ l f r e s t =
+  refused-put {n} {l = l} {r = r} e s t =
       let w : a ≡ 0 + length name = p .0 in
       let w₂ : b ≡ a + 1 = q .0 in
-      let x₁ : length d₁ ≡ length d = puts-long d 0 name d₁ a (omega arith) p in
-      let x₂ : length d₂ ≡ length d₁ = puts-long d₁ a (space ∷ []) d₂ b (omega arith) q in
-      let y : Puts d₂ b (refused-fields n ++ line-end) l r = puts-both d₂ b (refused-fields n) line-end d₃ l f r (omega (arith, few-refused n)) s t in
-      member-put l r (rw e y)
+      let x₁ = puts-long d 0 name (omega arith) p in
+      let x₂ = puts-long d₁ a (space ∷ []) (omega arith) q in
+      let y : Puts d₂ b (refused-fields n ++ line-end) l r = puts-both d₂ b (refused-fields n) line-end (omega (arith, few-refused n)) s t in
+      member-put (rw e y)
 
 -- ---- the name before the first `@`
 module _ (t : List ℕ) (x : Found) (e : x ≡ first-from (is at-sign) t 0) where

@@ -32,7 +32,7 @@ untold c k = record { counts = c; length = k; known = false; refusal = 0 }
 pub unknown-told : (c : Counts) (d l : List ℕ) (k : ℕ) → Puts d 0 (63 ∷ 10 ∷ []) l k
     → (untold c k ≡ untold c 2) × (l ≡ front (question ∷ line-feed ∷ []) d)
 unknown-told c d l k p =
-    let q : Begins d (question ∷ line-feed ∷ []) l k = begins d (question ∷ line-feed ∷ []) l k p in
+    let q : Begins d (question ∷ line-feed ∷ []) l k = begins d (question ∷ line-feed ∷ []) p in
     (ap (λ (n : ℕ). untold c n) (q .0), q .1)
 
 -- ---- whether there is room for n more

@@ -23,7 +23,7 @@ module _ (c d : Counts) (e : Edit) (o l : List ℕ) (k : ℕ) where
 
   pub undo-said : e ≡ edit.Undo → Puts o 0 (117 ∷ 110 ∷ 100 ∷ 111 ∷ 110 ∷ 101 ∷ 10 ∷ []) l k → Begins o (done-said c d e) l k
   unfolding done-said codes
-  undo-said g p = rw g (begins o (117 ∷ 110 ∷ 100 ∷ 111 ∷ 110 ∷ 101 ∷ 10 ∷ []) l k p)
+  undo-said g p = rw g (begins o (117 ∷ 110 ∷ 100 ∷ 111 ∷ 110 ∷ 101 ∷ 10 ∷ []) p)
 
   pub settle-said : e ≡ edit.Settle → Begins o (numbered (codes "settled") (d .lines)) l k → Begins o (done-said c d e) l k
   unfolding done-said

@@ -26,8 +26,8 @@ use Rattle.desk_commands.specs.Commands.{add-command, command-of, questi
 
 -- ---- `add NODE SECTION LANGUAGE TOKEN`
 -- a blank lies within
-pub blank-fits : (l : List ℕ) (p b : ℕ) → b ≡ getD l p 0 → b ≡ space → Fits w64 (length l) → Fits w64 (p + 1)
-blank-fits l p b e f n = omega (arith, byte-within l p (omega (arith, e, f)))
+pub blank-fits : (l : List ℕ) (p : ℕ) {b : ℕ} → b ≡ getD l p 0 → b ≡ space → Fits w64 (length l) → Fits w64 (p + 1)
+blank-fits l p e f n = omega (arith, byte-within l p (omega (arith, e, f)))
 
 module _ (l : List ℕ) (r : Numeral) (e : r ≡ number-at l 4) where
   pub no-node : r ≡ Nothing → command.Unknown ≡ add-command l

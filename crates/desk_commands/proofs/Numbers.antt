@@ -23,7 +23,7 @@ pub digit-by : (b : ℕ) → 48 ≤ b → leb b 57 ≡ digit b
 unfolding digit
 digit-by b h = sym (rw (le-leb 48 b h))
 
-module _ (b : ℕ) (v : Bool) (e : v ≡ digit b) (t : v ≡ true) where
+module _ (b : ℕ) {v : Bool} (e : v ≡ digit b) (t : v ≡ true) where
   ends : (leb 48 b ≡ true) × (leb b 57 ≡ true)
   unfolding digit
   ends = both (leb 48 b) (leb b 57) (sym e ∙ t)
@@ -43,7 +43,7 @@ module _ (s : List ℕ) (i : ℕ) where
   unfolding digits
   digits-past h = rw (drop-of-length-le s h)
 
-  module _ (h : i < length s) (v : Bool) (e : v ≡ digit (getD s i 0)) where
+  module _ (h : i < length s) {v : Bool} (e : v ≡ digit (getD s i 0)) where
     pub digits-end : v ≡ false → digits (drop i s) ≡ []
     unfolding digits
     digits-end f = rw (drop-next s i h, ← e, f)
@@ -65,9 +65,9 @@ pub record Read (s : List ℕ) (at i n : ℕ) : Type 0 where
   pub below : n < number-limit → n ≡ worth 0 so-far
   pub over : number-limit ≤ n → number-limit ≤ worth 0 so-far
 
-pub read-starts : (s : List ℕ) (at : ℕ) → Read s at at 0
+pub read-starts : {s : List ℕ} {at : ℕ} → Read s at at 0
 unfolding worth
-read-starts s at = record { so-far = []; all = refl; place = omega arith; below = λ h. refl; over = λ h. absurd (omega arith) }
+read-starts = record { so-far = []; all = refl; place = omega arith; below = λ h. refl; over = λ h. absurd (omega arith) }
 
 number-some : (p : ℕ) (ds : List ℕ) → 0 < length ds → number-of p ds ≡ cond (ltb (worth 0 ds) number-limit) (Number (worth 0 ds) (p + length ds)) Nothing
 unfolding number-of
@@ -79,14 +79,14 @@ unfolding number-of
 number-none p [] h = refl
 number-none p (d ∷ ds) h = absurd (omega arith)
 
-module _ (s : List ℕ) (at i n : ℕ) (inv : Read s at i n) where
+module _ {s : List ℕ} {at i n : ℕ} (inv : Read s at i n) where
   -- one digit more
-  module _ (h : i < length s) (v : Bool) (e : v ≡ digit (getD s i 0)) (t : v ≡ true) where
+  module _ (h : i < length s) {v : Bool} (e : v ≡ digit (getD s i 0)) (t : v ≡ true) where
     abbrev more : List ℕ
     more = inv .so-far ++ getD s i 0 ∷ []
 
     next-all : digits (drop at s) ≡ more ++ digits (drop (i + 1) s)
-    next-all = inv .all ∙ rw (digits-next s i h v e t) (sym (append-assoc (inv .so-far) (getD s i 0 ∷ []) (digits (drop (i + 1) s))))
+    next-all = inv .all ∙ rw (digits-next s i h e t) (sym (append-assoc (inv .so-far) (getD s i 0 ∷ []) (digits (drop (i + 1) s))))
 
     next-place : i + 1 ≡ at + length more
     next-place = omega (arith, inv .place, length-append (inv .so-far) (getD s i 0 ∷ []))

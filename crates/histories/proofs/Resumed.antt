@@ -89,9 +89,9 @@ unfolding counts-of laid-out node-form line-form edit-form
 moved c b b′ w h t =
     let r = layout-of-view c b w h in
     let q : c ≡ counts-of w = r .0 in
-    let n = length-rows node-form node-laws 0 (w .nodes) in
-    let l = length-rows line-form (line-laws (book-frame w)) 0 (w .lines) in
-    let j = length-rows edit-form edit-laws 0 (w .edits) in
+    let n = length-rows node-laws 0 (w .nodes) in
+    let l = length-rows (line-laws (book-frame w)) 0 (w .lines) in
+    let j = length-rows edit-laws 0 (w .edits) in
     let u : Moved-to (counts-of w) b b′ = subst (λ (i : Counts). Moved-to i b b′) q t in
     let e : b′ ≡ laid-out b′ w = λ i. record {
       nodes = copied-pad _ (b .nodes) (b′ .nodes) (rows node-form 0 (w .nodes)) (u .nodes) (λ i. r .1 i .nodes) n i;

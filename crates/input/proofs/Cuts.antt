@@ -24,30 +24,30 @@ unfolding first-in lines-in
 cut [] t p = end (rw append-nil)
 cut (b ∷ l) t p = go (eqb b line-feed) refl (cut l (t ++ b ∷ []) (p + 1))
   where
-    on : (f : Found) → eqb b line-feed ≡ false → Cut (t ++ b ∷ []) l (p + 1) f → Cut t (b ∷ l) p f
-    on f e (feed q k z h) = feed q (suc k) (omega arith) (rw e (h ∙ rw append-assoc))
-    on f e (end h) = end (rw e (h ∙ rw append-assoc))
+    on : {f : Found} → eqb b line-feed ≡ false → Cut (t ++ b ∷ []) l (p + 1) f → Cut t (b ∷ l) p f
+    on e (feed q k z h) = feed q (suc k) (omega arith) (rw e (h ∙ rw append-assoc))
+    on e (end h) = end (rw e (h ∙ rw append-assoc))
 
     go : (v : Bool) → eqb b line-feed ≡ v → Cut (t ++ b ∷ []) l (p + 1) (first-in (is line-feed) (p + 1) l)
         → Cut t (b ∷ l) p (found v p (first-in (is line-feed) (p + 1) l))
     go true e c = feed p 0 (omega arith) (rw (e, append-nil))
-    go false e c = on (first-in (is line-feed) (p + 1) l) e c
+    go false e c = on e c
 
 -- what the first line is, from the place `at` on, by the line feed that is found there
 abbrev Rest : List ℕ → ℕ → Found → Type 0
 Rest s at (Here p) = lines-in [] (drop at s) ≡ take (p - at) (drop at s) ∷ lines-in [] (drop (p + 1) s)
 Rest s at Nowhere = at < length s → lines-in [] (drop at s) ≡ drop at s ∷ []
 
-rest : (s : List ℕ) (at : ℕ) (f : Found) → Cut [] (drop at s) at f → Rest s at f
-rest s at f (feed q k z e) =
+rest : (s : List ℕ) (at : ℕ) {f : Found} → Cut [] (drop at s) at f → Rest s at f
+rest s at (feed q k z e) =
     let n : q - at ≡ k = omega arith in
     let m : q + 1 ≡ at + suc k = omega arith in
     e ∙ rw (n, m, drop-drop)
-rest s at f (end e) = λ h. e ∙ rw (drop-next s at h)
+rest s at (end e) = λ h. e ∙ rw (drop-next s at h)
 
 lines-rest : (s : List ℕ) (at : ℕ) → Rest s at (first-from (is line-feed) s at)
 unfolding first-from
-lines-rest s at = rest s at (first-in (is line-feed) at (drop at s)) (cut (drop at s) [] at)
+lines-rest s at = rest s at (cut (drop at s) [] at)
 
 -- up to the line feed that is found, and the others behind it
 pub lines-to-feed : (s : List ℕ) (at p : ℕ) → first-from (is line-feed) s at ≡ Here p

@@ -22,11 +22,11 @@ pub record Walked (s : List ℕ) (place line column i : ℕ) : Type 0 where
   pub few-columns : column ≤ i + 1
   pub rest : position s place ≡ position-from (at-place line column) (place - i) (drop i s)
 
-pub walk-starts : (s : List ℕ) (place : ℕ) → Walked s place 1 1 0
+pub walk-starts : {s : List ℕ} {place : ℕ} → Walked s place 1 1 0
 unfolding position
-walk-starts s place = record { within = omega arith; before = omega arith; few-lines = omega arith; few-columns = omega arith; rest = rw sub-zero }
+walk-starts = record { within = omega arith; before = omega arith; few-lines = omega arith; few-columns = omega arith; rest = rw sub-zero }
 
-module _ (s : List ℕ) (place line column i : ℕ) (inv : Walked s place line column i) where
+module _ {s : List ℕ} {place line column i : ℕ} (inv : Walked s place line column i) where
   pub walk-arrives : i ≡ place → at-place line column ≡ position s place
   unfolding position-from
   walk-arrives h =

@@ -39,21 +39,23 @@ pub record Written {A : Type 0} (w d l : List A) (n : ℕ) (r : List A) : Type 0
   pub whole : so-far ++ r ≡ w
 
 module _ {A : Type 0} where
-  pub written-start : (w d : List A) → Written w d d 0 w
-  written-start w d = record { so-far = []; count = refl; long = refl; list = front-nil d; whole = refl }
+  pub written-start : {w d : List A} → Written w d d 0 w
+  written-start {d = d} = record { so-far = []; count = refl; long = refl; list = front-nil d; whole = refl }
 
-  module _ (w d l : List A) (n : ℕ) (r : List A) (z : Written w d l n r) where
+  module _ {w d l : List A} {n : ℕ} {r : List A} (z : Written w d l n r) where
     pub written-end : r ≡ [] → l ≡ front w d
     written-end e = z .list ∙ rw (← z .whole, e, append-nil)
 
     pub written-room : length w ≤ length d → 0 < length r → n < length l
     written-room fits h = omega (arith, ap length (z .whole), length-append (z .so-far) r, z .count, z .long)
 
-    pub written-more : length w ≤ length d → (x : A) (q : List A) → r ≡ x ∷ q → Written w d (set l n x) (n + 1) q
-    written-more fits x q e = record {
+    pub written-more : length w ≤ length d → {x : A} {q : List A} → r ≡ x ∷ q → Written w d (set l n x) (n + 1) q
+    written-more fits {x} {q} e = record {
       so-far = z .so-far ++ x ∷ [];
       count = simp length-append (omega (arith, z .count));
       long = length-set l n x ∙ z .long;
-      list = rw (z .list, z .count) (front-more (z .so-far) d x (omega (arith, ap length e, written-room fits (omega (arith, ap length e)), z .count, z .long)));
+      list =
+          let h = written-room fits (omega (arith, ap length e)) in
+          rw (z .list, z .count) (front-more (z .so-far) d x (omega (arith, z .count, z .long)));
       whole = append-assoc (z .so-far) (x ∷ []) q ∙ rw (← e) (z .whole);
     }

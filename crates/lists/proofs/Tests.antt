@@ -13,14 +13,14 @@ neither true b e = absurd (true≢false e)
 neither false b e = (refl, e)
 
 -- a test that cannot hold fails
-pub fails : (t : Bool) → (t ≡ true → ⊥) → t ≡ false
-fails true h = absurd (h refl)
-fails false h = refl
+pub fails : {t : Bool} → (t ≡ true → ⊥) → t ≡ false
+fails {t = true} h = absurd (h refl)
+fails {t = false} h = refl
 
 -- where the first fails, all fails
-pub first-fails : (x a b : Bool) → x ≡ (a && b) → a ≡ false → x ≡ false
-first-fails x a b e f = e ∙ rw f
+pub first-fails : {x a : Bool} (b : Bool) → x ≡ (a && b) → a ≡ false → x ≡ false
+first-fails b e f = e ∙ rw f
 
 -- where the first holds, the rest decides
-pub passes-on : (x a b : Bool) → x ≡ (a && b) → a ≡ true → x ≡ b
-passes-on x a b e t = e ∙ rw t
+pub passes-on : {x a b : Bool} → x ≡ (a && b) → a ≡ true → x ≡ b
+passes-on e t = e ∙ rw t

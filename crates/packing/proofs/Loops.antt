@@ -22,23 +22,23 @@ abbrev pub Cleared : List ℕ → List ℕ → ℕ → Type 0
 Cleared d l i = Pasted d 0 (zeros (length d)) l i
 
 -- nothing is cleared at first
-pub clear-starts : (d : List ℕ) → Cleared d d 0
-clear-starts d = paste-starts d 0 (zeros (length d))
+pub clear-starts : {d : List ℕ} → Cleared d d 0
+clear-starts = paste-starts
 
-module _ (d l : List ℕ) (i : ℕ) (z : Cleared d l i) where
+module _ {d l : List ℕ} {i : ℕ} (z : Cleared d l i) where
   -- a store of zero clears one number more
   pub clear-more : i < length l → Cleared d (set l i 0) (i + 1)
   clear-more h =
       let n : length (zeros (length d)) ≡ length d = length-replicate (length d) 0 in
       let w : i < length d = omega (arith, z .long) in
       let g : getD (zeros (length d)) i 0 ≡ 0 = getD-replicate (length d) i 0 0 w in
-      rw (zero-add i, g) at (paste-more d 0 (zeros (length d)) l i z (omega arith) (omega arith))
+      rw (zero-add i, g) at (paste-more z (omega arith) (omega arith))
 
   -- the last store leaves zeros alone
   pub clear-ends : length l ≤ i → l ≡ zeros (length d)
   clear-ends h =
       let n : length (zeros (length d)) ≡ length d = length-replicate (length d) 0 in
-      paste-ends d 0 (zeros (length d)) l i z (omega (arith, z .long))
+      paste-ends z (omega (arith, z .long))
       ∙ rw (n, zero-add, drop-length, append-nil) (take-all (length d) (zeros (length d)) (omega arith))
 
 -- ---- whether the rest is zero: what is left from i on decides
@@ -61,14 +61,14 @@ module _ (s : List ℕ) (from i : ℕ) (z : all-zero (drop from s) ≡ all-zero 
 -- ---- whether two lists are the same: lists of one length that are equal from i on
 -- lists of two lengths are not the same
 pub same-lengths : (a b : List ℕ) → (length a ≡ length b → ⊥) → false ≡ same a b
-same-lengths a b f = sym (fails (same a b) (λ t. f (ap length (same-equal a b t))))
+same-lengths a b f = sym (fails (λ t. f (ap length (same-equal a b t))))
 
 pub record Alike (a b : List ℕ) (i : ℕ) : Type 0 where
   pub long : length a ≡ length b
   pub within : i ≤ length a
   pub rest : drop i a ≡ drop i b
 
-module _ (a b : List ℕ) where
+module _ {a b : List ℕ} where
   -- behind the ends of lists of one length nothing differs
   pub same-starts : length a ≡ length b → Alike a b (length a)
   same-starts e =
@@ -76,10 +76,10 @@ module _ (a b : List ℕ) where
       let k : length b ≤ length a = omega arith in
       record { long = e; within = h; rest = drop-of-length-le a h ∙ sym (drop-of-length-le b k) }
 
-  module _ (i : ℕ) (z : Alike a b i) where
+  module _ {i : ℕ} (z : Alike a b i) where
     -- two numbers that differ answer no
     pub same-stops : (getD a (i - 1) 0 ≡ getD b (i - 1) 0 → ⊥) → false ≡ same a b
-    same-stops f = sym (fails (same a b) (λ t. f (ap (λ (l : List ℕ). getD l (i - 1) 0) (same-equal a b t))))
+    same-stops f = sym (fails (λ t. f (ap (λ (l : List ℕ). getD l (i - 1) 0) (same-equal a b t))))
 
     -- two that are equal go before the rest
     pub same-more : 0 < i → getD a (i - 1) 0 ≡ getD b (i - 1) 0 → Alike a b (i - 1)

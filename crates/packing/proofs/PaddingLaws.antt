@@ -92,7 +92,7 @@ paste-behind d s at n k h a b =
     ∙ ap (λ (i : ℕ). drop i d) (sym e)
 
 -- as a caller has them: a buffer that is padded, an index and a count that are lengths
-module _ (n : ℕ) (l xs ys : List ℕ) (at k : ℕ) where
+module _ (n : ℕ) {l : List ℕ} (xs ys : List ℕ) {at k : ℕ} where
   -- what is pasted behind what is there is appended
   pub pad-put : l ≡ pad n xs → at ≡ length xs → k ≡ length ys → at + k ≤ n → paste l at ys k ≡ pad n (xs ++ ys)
   unfolding pad
@@ -109,7 +109,7 @@ module _ (n : ℕ) (l xs ys : List ℕ) (at k : ℕ) where
       (simp (append-assoc, take-append-seam, take-zeros, drop-append-add, drop-append-seam, length-append, replicate-append-replicate, d))
 
 -- ---- zeros in the place of a part that is lent: ys is what the part holds then, as many zeros as it has numbers
-module _ (l ys : List ℕ) where
+module _ (l : List ℕ) {ys : List ℕ} where
   -- a part from a to e
   pub part-cleared : (a e : ℕ) → a ≤ e → e ≤ length l → ys ≡ zeros (length (take (e - a) (drop a l)))
       → take a l ++ (ys ++ drop (e - a) (drop a l)) ≡ take a l ++ (zeros (e - a) ++ drop e l)

@@ -13,12 +13,12 @@ pub record Pasted (d : List ℕ) (at : ℕ) (s l : List ℕ) (j : ℕ) : Type 0 
   pub long : length l ≡ length d
   pub list : l ≡ paste d at s j
 
-module _ (d : List ℕ) (at : ℕ) (s : List ℕ) where
+module _ {d : List ℕ} {at : ℕ} {s : List ℕ} where
   -- nothing is pasted at first
   pub paste-starts : Pasted d at s d 0
   paste-starts = record { within = omega arith; long = refl; list = paste-zero d at s }
 
-  module _ (l : List ℕ) (j : ℕ) (z : Pasted d at s l j) where
+  module _ {l : List ℕ} {j : ℕ} (z : Pasted d at s l j) where
     -- a store pastes one number more
     pub paste-more : at + length s ≤ length d → j < length s → Pasted d at s (set l (at + j) (getD s j 0)) (j + 1)
     paste-more h w = record {

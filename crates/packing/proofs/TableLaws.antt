@@ -88,7 +88,7 @@ module _ {X : Type 0} (F : Form X) where
   packed-set (x ∷ xs) zero y d e = rw e
   packed-set (x ∷ xs) (suc i) y d e = ap (λ (l : List ℕ). F .bytes x ++ l) (packed-set xs i y d e)
 
-module _ {X : Type 0} {ok : X → Bool} (F : Form X) (W : Laws F ok) where
+module _ {X : Type 0} {ok : X → Bool} {F : Form X} (W : Laws F ok) where
   -- the rows of a list are as long as its length and the width say
   pub length-rows : (o : ℕ) (xs : List X) → length (rows F o xs) ≡ F .width * length xs
   unfolding rows
@@ -146,10 +146,10 @@ module _ {X : Type 0} {ok : X → Bool} (F : Form X) (W : Laws F ok) where
     pub pooled : packed F (things F n l ps) ≡ take (p - o) ps
     pub all : every ok (things F n l ps) ≡ true
 
-  laid-more : (p n o : ℕ) (l ps : List ℕ) → F .width ≤ length l → F .starts o l ≡ true → o + F .size l ≤ p → p ≤ o + length ps
+  laid-more : {p n o : ℕ} {l ps : List ℕ} → F .width ≤ length l → F .starts o l ≡ true → o + F .size l ≤ p → p ≤ o + length ps
       → ok (F .back l (take (F .size l) ps)) ≡ true → Laid p n (o + F .size l) (drop (F .width) l) (drop (F .size l) ps) → Laid p (suc n) o l ps
   unfolding rows packed things every
-  laid-more p n o l ps wide g within h good i =
+  laid-more {p} {n} {o} {l} {ps} wide g within h good i =
       let k : ℕ = F .size l in
       let bs : List ℕ = take k ps in
       let xs : List X = things F n (drop (F .width) l) (drop k ps) in
@@ -162,7 +162,8 @@ module _ {X : Type 0} {ok : X → Bool} (F : Form X) (W : Laws F ok) where
       record {
         count = ap suc (i .count);
         ends = simp (total, ← add-assoc) (i .ends);
-        lined = rw (same, sized, pad-front (length l) (length (drop (F .width) l)) R (rows F (o + k) xs) hl, ← i .lined) (sym (W .back-row o l bs wide g sized));
+        lined =
+            rw (same, sized, pad-front (length l) (length (drop (F .width) l)) R (rows F (o + k) xs) hl, ← i .lined) (sym (W .back-row o l bs wide g sized));
         pooled = rw (same, i .pooled, ← hp, take-add k (p - (o + k)) ps);
         all = rw good (i .all);
       }
@@ -189,4 +190,4 @@ module _ {X : Type 0} {ok : X → Bool} (F : Form X) (W : Laws F ok) where
       let wide : F .width ≤ length l = leb-true _ _ (b .0) in
       let within : o + F .size l ≤ p = leb-true _ _ (f .0) in
       let h′ : p ≤ o + F .size l + length (drop (F .size l) ps) = omega (arith, length-drop (F .size l) ps) in
-      laid-more p n o l ps wide (d .0) within h (g .0) (fine-laid p n (o + F .size l) (drop (F .width) l) (drop (F .size l) ps) (g .1) h′)
+      laid-more wide (d .0) within h (g .0) (fine-laid p n (o + F .size l) (drop (F .width) l) (drop (F .size l) ps) (g .1) h′)

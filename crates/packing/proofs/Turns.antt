@@ -53,28 +53,28 @@ module _ {X : Type 0} (F : Form X) (ok : X → Bool) (p n : ℕ) (l ps : List �
 
     -- a row that does not tell o as its start
     pub row-bad : starts-at F i o l ≡ false → left F ok p n i o l ps ≡ false
-    row-bad f = first-fails (left F ok p n i o l ps) (starts-at F i o l) _ turn f
+    row-bad f = first-fails _ turn f
 
     sized : starts-at F i o l ≡ true
         → left F ok p n i o l ps ≡ (leb (o + size-at F i l) p && (ok (thing-at F i o l ps) && left F ok p n (i + 1) (o + size-at F i l) l ps))
-    sized s = passes-on (left F ok p n i o l ps) (starts-at F i o l) _ turn s
+    sized s = passes-on turn s
 
     -- a row that tells bytes past p
     pub size-bad : starts-at F i o l ≡ true → p < o + size-at F i l → left F ok p n i o l ps ≡ false
-    size-bad s h = first-fails (left F ok p n i o l ps) (leb (o + size-at F i l) p) _ (sized s) (lt-leb _ _ h)
+    size-bad s h = first-fails _ (sized s) (lt-leb _ _ h)
 
     asked : starts-at F i o l ≡ true → o + size-at F i l ≤ p
         → left F ok p n i o l ps ≡ (ok (thing-at F i o l ps) && left F ok p n (i + 1) (o + size-at F i l) l ps)
-    asked s h = passes-on (left F ok p n i o l ps) (leb (o + size-at F i l) p) _ (sized s) (le-leb _ _ h)
+    asked s h = passes-on (sized s) (le-leb _ _ h)
 
     -- a thing that is not as asked
     pub thing-bad : starts-at F i o l ≡ true → o + size-at F i l ≤ p → ok (thing-at F i o l ps) ≡ false → left F ok p n i o l ps ≡ false
-    thing-bad s h f = first-fails (left F ok p n i o l ps) (ok (thing-at F i o l ps)) _ (asked s h) f
+    thing-bad s h f = first-fails _ (asked s h) f
 
     -- a good row: the rows behind it decide
     pub row-more : starts-at F i o l ≡ true → o + size-at F i l ≤ p → ok (thing-at F i o l ps) ≡ true
         → left F ok p n i o l ps ≡ left F ok p n (i + 1) (o + size-at F i l) l ps
-    row-more s h t = passes-on (left F ok p n i o l ps) (ok (thing-at F i o l ps)) _ (asked s h) t
+    row-more s h t = passes-on (asked s h) t
 
   module _ (i o : ℕ) (e : i ≡ n) where
     left-none : left F ok p n i o l ps ≡ (eqb o p && all-zero (drop (F .width * n) l))
@@ -83,26 +83,27 @@ module _ {X : Type 0} (F : Form X) (ok : X → Bool) (p n : ℕ) (l ps : List �
 
     -- behind the last row: bytes that do not end at p
     pub end-bad : (o ≡ p → ⊥) → left F ok p n i o l ps ≡ false
-    end-bad f = first-fails (left F ok p n i o l ps) (eqb o p) _ left-none (ne-eqb o p f)
+    end-bad f = first-fails _ left-none (ne-eqb o p f)
 
     -- and where they do, the rest of the rows' buffer decides
     pub end-good : o ≡ p → left F ok p n i o l ps ≡ all-zero (drop (F .width * n) l)
-    end-good f = passes-on (left F ok p n i o l ps) (eqb o p) _ left-none (eq-eqb o p f)
+    end-good f = passes-on left-none (eq-eqb o p f)
 
 -- ---- the test `packs` from its parts
-module _ {X : Type 0} {ok : X → Bool} (F : Form X) (W : Laws F ok) (n k : ℕ) (l p : List ℕ) where
+module _ {X : Type 0} {ok : X → Bool} {F : Form X} (W : Laws F ok) where
   -- where it cannot be a packing, the test fails: too little room for the rows or for the bytes
-  pub packs-no : (Packs F ok n k l p (things F n l p) → ⊥) → false ≡ packs F ok n k l p
-  packs-no h = sym (fails _ (λ t. h (packs-is F W n k l p t)))
+  pub packs-no : {n k : ℕ} {l p : List ℕ} → (Packs F ok n k l p (things F n l p) → ⊥) → false ≡ packs F ok n k l p
+  packs-no h = sym (fails (λ t. h (packs-is W t)))
 
+module _ {X : Type 0} (F : Form X) (ok : X → Bool) (n k : ℕ) (l p : List ℕ) where
   rest : k ≤ length p → packs F ok n k l p ≡ (all-zero (drop k p) && fine F ok k n 0 l p)
   unfolding packs
   rest h = simp (le-leb k (length p) h)
 
   -- the rest of the bytes' buffer is not zero
-  pub packs-zero : (z : Bool) → k ≤ length p → z ≡ all-zero (drop k p) → z ≡ false → false ≡ packs F ok n k l p
-  packs-zero z h e f = sym (first-fails (packs F ok n k l p) (all-zero (drop k p)) _ (rest h) (sym e ∙ f))
+  pub packs-zero : {z : Bool} → k ≤ length p → z ≡ all-zero (drop k p) → z ≡ false → false ≡ packs F ok n k l p
+  packs-zero h e f = sym (first-fails _ (rest h) (sym e ∙ f))
 
   -- it is zero, and the rows decide
-  pub packs-rows : (z r : Bool) → k ≤ length p → z ≡ all-zero (drop k p) → z ≡ true → r ≡ fine F ok k n 0 l p → r ≡ packs F ok n k l p
-  packs-rows z r h e f q = q ∙ sym (passes-on (packs F ok n k l p) (all-zero (drop k p)) _ (rest h) (sym e ∙ f))
+  pub packs-rows : {z r : Bool} → k ≤ length p → z ≡ all-zero (drop k p) → z ≡ true → r ≡ fine F ok k n 0 l p → r ≡ packs F ok n k l p
+  packs-rows h e f q = q ∙ sym (passes-on (rest h) (sym e ∙ f))

@@ -71,13 +71,13 @@ before-last k n h = go (decLt n 10)
       ),
     )
 
-pub count-starts : (n : ℕ) → n < 4294967296 → Counting n 1 (n / 10)
+pub count-starts : {n : ℕ} → n < 4294967296 → Counting n 1 (n / 10)
 unfolding decimal tens
-count-starts n h =
+count-starts {n} h =
     let z = before-last 9 n (omega arith) in
     record { left = 9; more = z .0; rests = z .1 .0; sum = refl; count = z .1 .1 }
 
-module _ (n k rest : ℕ) (inv : Counting n k rest) where
+module _ {n k rest : ℕ} (inv : Counting n k rest) where
   pub count-ends : rest ≤ 0 → k ≡ length (decimal n)
   count-ends h = omega (arith, inv .count, inv .rests .none h)
 
@@ -135,10 +135,10 @@ last-digit k rest h = go (decLt rest 10)
     go (yes f) = ([], (one-digit k rest f, nothing refl))
     go (no f) = more k h (omega arith)
 
-module _ (d : List ℕ) (at n : ℕ) where
-  pub fill-starts : n < 4294967296 → (e m : ℕ) → m ≡ length (decimal n) → e ≡ at + m → Filling d at n d e n
+module _ {d : List ℕ} {at n : ℕ} where
+  pub fill-starts : n < 4294967296 → {e m : ℕ} → m ≡ length (decimal n) → e ≡ at + m → Filling d at n d e n
   unfolding decimal tens
-  fill-starts h e m f g = record {
+  fill-starts h {e} f g = record {
     ahead = decimal n;
     stand = [];
     all = sym (append-nil (decimal n));
@@ -148,40 +148,40 @@ module _ (d : List ℕ) (at n : ℕ) where
     list = let z : e ≡ at + length (decimal n) = omega arith in rw (← z) (sym (take-append-drop e d));
   }
 
-  module _ (l : List ℕ) (i rest : ℕ) (inv : Filling d at n l i rest) where
-    pub fill-ends : i ≤ at → l ≡ take at d ++ front (decimal n) (drop at d)
-    unfolding front
-    fill-ends h =
-        let z : length (inv .ahead) ≡ 0 = omega (arith, inv .place) in
-        let y : i ≡ at = omega (arith, inv .place) in
-        let e : inv .stand ≡ decimal n = rw (length-zero (inv .ahead) z) at (sym (inv .all)) in
-        inv .list ∙ rw (y, e, drop-drop)
+module _ {d : List ℕ} {at n : ℕ} {l : List ℕ} {i rest : ℕ} (inv : Filling d at n l i rest) where
+  pub fill-ends : i ≤ at → l ≡ take at d ++ front (decimal n) (drop at d)
+  unfolding front
+  fill-ends h =
+      let z : length (inv .ahead) ≡ 0 = omega (arith, inv .place) in
+      let y : i ≡ at = omega (arith, inv .place) in
+      let e : inv .stand ≡ decimal n = rw (length-zero (inv .ahead) z) at (sym (inv .all)) in
+      inv .list ∙ rw (y, e, drop-drop)
 
-    pub fill-within : at + 10 ≤ length d → at < i → i - 1 < length l
-    fill-within room h = omega (arith, few-digits n, inv .long, inv .place, ap length (inv .all), length-append (inv .ahead) (inv .stand))
+  pub fill-within : at + 10 ≤ length d → at < i → i - 1 < length l
+  fill-within room h = omega (arith, few-digits n, inv .long, inv .place, ap length (inv .all), length-append (inv .ahead) (inv .stand))
 
-    pub fill-more : at + 10 ≤ length d → at < i → Filling d at n (set l (i - 1) (48 + rest % 10)) (i - 1) (rest / 10)
-    fill-more room h = go (inv .rests)
-      where
-        put : (before : List ℕ) → inv .ahead ≡ before ++ (48 + rest % 10) ∷ [] → Ahead (rest / 10) before
-            → Filling d at n (set l (i - 1) (48 + rest % 10)) (i - 1) (rest / 10)
-        put before e a = record {
-          ahead = before;
-          stand = (48 + rest % 10) ∷ inv .stand;
-          all = inv .all ∙ rw e (append-assoc before ((48 + rest % 10) ∷ []) (inv .stand));
-          place = omega (arith, inv .place, ap length e, length-append before ((48 + rest % 10) ∷ []));
-          rests = a;
-          long = length-set l (i - 1) (48 + rest % 10) ∙ inv .long;
-          list =
-              let z : i ≡ i - 1 + 1 = omega arith in
-              let w : i - 1 < length d = omega (arith, fill-within room h, inv .long) in
-              let t : List ℕ = inv .stand ++ drop (at + length (decimal n)) d in
-              let q : l ≡ take (i - 1 + 1) d ++ t = inv .list ∙ ap (λ (m : ℕ). take m d ++ t) z in
-              ap (λ (m : List ℕ). set m (i - 1) (48 + rest % 10)) q ∙ set-before d (i - 1) t (48 + rest % 10) w;
-        }
+  pub fill-more : at + 10 ≤ length d → at < i → Filling d at n (set l (i - 1) (48 + rest % 10)) (i - 1) (rest / 10)
+  fill-more room h = go (inv .rests)
+    where
+      put : (before : List ℕ) → inv .ahead ≡ before ++ (48 + rest % 10) ∷ [] → Ahead (rest / 10) before
+          → Filling d at n (set l (i - 1) (48 + rest % 10)) (i - 1) (rest / 10)
+      put before e a = record {
+        ahead = before;
+        stand = (48 + rest % 10) ∷ inv .stand;
+        all = inv .all ∙ rw e (append-assoc before ((48 + rest % 10) ∷ []) (inv .stand));
+        place = omega (arith, inv .place, ap length e, length-append before ((48 + rest % 10) ∷ []));
+        rests = a;
+        long = length-set l (i - 1) (48 + rest % 10) ∙ inv .long;
+        list =
+            let z : i ≡ i - 1 + 1 = omega arith in
+            let w : i - 1 < length d = omega (arith, fill-within room h, inv .long) in
+            let t : List ℕ = inv .stand ++ drop (at + length (decimal n)) d in
+            let q : l ≡ take (i - 1 + 1) d ++ t = inv .list ∙ ap (λ (m : ℕ). take m d ++ t) z in
+            ap (λ (m : List ℕ). set m (i - 1) (48 + rest % 10)) q ∙ set-before d (i - 1) t (48 + rest % 10) w;
+      }
 
-        go : Ahead rest (inv .ahead) → Filling d at n (set l (i - 1) (48 + rest % 10)) (i - 1) (rest / 10)
-        go (nothing e) = absurd (omega (arith, ap length e, inv .place))
-        go (digits k f e) =
-            let z = last-digit k rest f in
-            put (z .0) (e ∙ z .1 .0) (z .1 .1)
+      go : Ahead rest (inv .ahead) → Filling d at n (set l (i - 1) (48 + rest % 10)) (i - 1) (rest / 10)
+      go (nothing e) = absurd (omega (arith, ap length e, inv .place))
+      go (digits k f e) =
+          let z = last-digit k rest f in
+          put (z .0) (e ∙ z .1 .0) (z .1 .1)

@@ -59,19 +59,18 @@ module _ (x : Line) where
       (six to-node (spaced [] (x .class)) (spaced [] (x .section)) (spaced [] (x .language)) (spaced [] (x .struck)) (spaced [] (length (x .bytes)))) (p .put)
 
 -- ---- a line
-module _ (d : List ℕ) (at : ℕ) (x : Line) where
-  module _ (i : ℕ) (d₁ d₂ d₃ d₄ d₅ : List ℕ) (e₁ e₂ e₃ e₄ r : ℕ) where
-    pub line-put : at + 78 + length (x .bytes) ≤ length d
-        → Puts d at (decimal i) d₁ e₁
-        → Puts d₁ e₁ (fields-shown x) d₂ e₂
-        → Puts d₂ e₂ (space ∷ []) d₃ e₃
-        → Puts d₃ e₃ (x .bytes) d₄ e₄
-        → Puts d₄ e₄ line-end d₅ r → Puts d at (line-shown i x) d₅ r
-    unfolding line-shown
-    line-put room p₁ p₂ p₃ p₄ p₅ =
-        let q₁ = number-placed d at i d₁ e₁ (omega arith) p₁ in
-        let q₂ = placed d₁ e₁ 66 (fields-shown x) d₂ e₂ (few-fields x) (omega arith) p₂ in
-        let q₃ = text-placed d₂ e₂ (space ∷ []) d₃ e₃ (omega arith) p₃ in
-        let q₄ = text-placed d₃ e₃ (x .bytes) d₄ e₄ (omega arith) p₄ in
-        let q₅ = text-placed d₄ e₄ line-end d₅ r (omega arith) p₅ in
-        behind q₁ (behind q₂ (behind q₃ (behind q₄ q₅))) .put
+module _ (d : List ℕ) (at : ℕ) (x : Line) (i : ℕ) {d₁ d₂ d₃ d₄ d₅ : List ℕ} {e₁ e₂ e₃ e₄ r : ℕ} where
+  pub line-put : at + 78 + length (x .bytes) ≤ length d
+      → Puts d at (decimal i) d₁ e₁
+      → Puts d₁ e₁ (fields-shown x) d₂ e₂
+      → Puts d₂ e₂ (space ∷ []) d₃ e₃
+      → Puts d₃ e₃ (x .bytes) d₄ e₄
+      → Puts d₄ e₄ line-end d₅ r → Puts d at (line-shown i x) d₅ r
+  unfolding line-shown
+  line-put room p₁ p₂ p₃ p₄ p₅ =
+      let q₁ = number-placed d at i (omega arith) p₁ in
+      let q₂ = placed d₁ e₁ 66 (fields-shown x) (few-fields x) (omega arith) p₂ in
+      let q₃ = text-placed d₂ e₂ (space ∷ []) (omega arith) p₃ in
+      let q₄ = text-placed d₃ e₃ (x .bytes) (omega arith) p₄ in
+      let q₅ = text-placed d₄ e₄ line-end (omega arith) p₅ in
+      behind q₁ (behind q₂ (behind q₃ (behind q₄ q₅))) .put

@@ -71,12 +71,12 @@ pub record Numbered (d : List ℕ) (at : ℕ) (l : List ℕ) (n : ℕ) (out : Li
   pub long : length out ≡ length d
   pub put : Puts d at (numbers-shown (take i l)) out end
 
-module _ (d : List ℕ) (at : ℕ) (l : List ℕ) (n : ℕ) where
+module _ {d : List ℕ} {at : ℕ} {l : List ℕ} {n : ℕ} where
   pub numbers-start : Numbered d at l n d at 0
   unfolding numbers-shown
   numbers-start = record { within = omega arith; long = refl; put = puts-nothing d at }
 
-  module _ (out : List ℕ) (end i : ℕ) (inv : Numbered d at l n out end i) where
+  module _ {out : List ℕ} {end i : ℕ} (inv : Numbered d at l n out end i) where
     pub numbers-end : n ≤ i → Puts d at (numbers-shown (take n l)) out end
     numbers-end h =
         let e : i ≡ n = omega (arith, inv .within) in
@@ -90,27 +90,27 @@ module _ (d : List ℕ) (at : ℕ) (l : List ℕ) (n : ℕ) where
       pub byte-room : Bytes l → at + 4 * n + 8 ≤ length d → end + 0 + 11 ≤ length out
       byte-room f room = omega (arith, inv .put .0, inv .long, few-bytes i l f)
 
-      pub numbers-more : n ≤ length l → end + 0 + 11 ≤ length out → (out′ : List ℕ) (r : ℕ) → Puts out end (spaced [] (getD l i 0)) out′ r
+      pub numbers-more : n ≤ length l → end + 0 + 11 ≤ length out → {out′ : List ℕ} {r : ℕ} → Puts out end (spaced [] (getD l i 0)) out′ r
           → Numbered d at l n out′ r (i + 1)
-      numbers-more k room out′ r p =
+      numbers-more k room {out′} {r} p =
           let x = getD l i 0 in
           let f = few-spaced [] x in
           record {
             within = omega arith;
-            long = puts-long out end (spaced [] x) out′ r (omega arith) p ∙ inv .long;
+            long = puts-long out end (spaced [] x) (omega arith) p ∙ inv .long;
             put = subst (λ (m : List ℕ). Puts d at m out′ r) (sym (next-number l i (omega arith)))
-                (puts-both d at (numbers-shown (take i l)) (spaced [] x) out out′ end r (omega (arith, inv .put .0, inv .long)) (inv .put) p);
+                (puts-both d at (numbers-shown (take i l)) (spaced [] x) (omega (arith, inv .put .0, inv .long)) (inv .put) p);
           }
 
 -- ---- a buffer as a line
-module _ (d : List ℕ) (at : ℕ) (word xs : List ℕ) (d₁ d₂ d₃ : List ℕ) (a b r : ℕ) where
+module _ (d : List ℕ) (at : ℕ) (word xs : List ℕ) {d₁ d₂ d₃ : List ℕ} {a b r : ℕ} where
   pub buffer-put : at + length word + length (numbers-shown xs) + 1 ≤ length d
       → Puts d at word d₁ a → Puts d₁ a (numbers-shown xs) d₂ b → Puts d₂ b line-end d₃ r → Puts d at (buffer-shown word xs) d₃ r
   unfolding buffer-shown
   buffer-put room p₁ p₂ p₃ =
-      let q₁ = text-placed d at word d₁ a (omega arith) p₁ in
-      let q₂ = text-placed d₁ a (numbers-shown xs) d₂ b (omega arith) p₂ in
-      let q₃ = text-placed d₂ b line-end d₃ r (omega arith) p₃ in
+      let q₁ = text-placed d at word (omega arith) p₁ in
+      let q₂ = text-placed d₁ a (numbers-shown xs) (omega arith) p₂ in
+      let q₃ = text-placed d₂ b line-end (omega arith) p₃ in
       behind q₁ (behind q₂ q₃) .put
 
 module _ (word : List ℕ) (k : ℕ) (l : List ℕ) where

@@ -20,18 +20,18 @@ pub record Placed (d : List ℕ) (at m : ℕ) (xs l : List ℕ) (r : ℕ) : Type
   pub long : length l ≡ length d
 
 module _ (d : List ℕ) (at : ℕ) where
-  pub placed : (m : ℕ) (xs l : List ℕ) (r : ℕ) → length xs ≤ m → at + m ≤ length d → Puts d at xs l r → Placed d at m xs l r
-  placed m xs l r f h p = record { put = p; few = f; room = omega arith; long = puts-long d at xs l r (omega arith) p }
+  pub placed : (m : ℕ) (xs : List ℕ) {l : List ℕ} {r : ℕ} → length xs ≤ m → at + m ≤ length d → Puts d at xs l r → Placed d at m xs l r
+  placed m xs f h p = record { put = p; few = f; room = omega arith; long = puts-long d at xs (omega arith) p }
 
-  pub number-placed : (n : ℕ) (l : List ℕ) (r : ℕ) → at + 10 ≤ length d → Puts d at (decimal n) l r → Placed d at 10 (decimal n) l r
-  number-placed n l r h p = placed 10 (decimal n) l r (few-digits n) h p
+  pub number-placed : (n : ℕ) {l : List ℕ} {r : ℕ} → at + 10 ≤ length d → Puts d at (decimal n) l r → Placed d at 10 (decimal n) l r
+  number-placed n h p = placed 10 (decimal n) (few-digits n) h p
 
-  pub spaced-placed : (word : List ℕ) (n : ℕ) (l : List ℕ) (r : ℕ) → at + length word + 11 ≤ length d → Puts d at (spaced word n) l r
+  pub spaced-placed : (word : List ℕ) (n : ℕ) {l : List ℕ} {r : ℕ} → at + length word + 11 ≤ length d → Puts d at (spaced word n) l r
       → Placed d at (length word + 11) (spaced word n) l r
-  spaced-placed word n l r h p = placed (length word + 11) (spaced word n) l r (few-spaced word n) (omega arith) p
+  spaced-placed word n h p = placed (length word + 11) (spaced word n) (few-spaced word n) (omega arith) p
 
-  pub text-placed : (xs l : List ℕ) (r : ℕ) → at + length xs ≤ length d → Puts d at xs l r → Placed d at (length xs) xs l r
-  text-placed xs l r h p = placed (length xs) xs l r (omega arith) h p
+  pub text-placed : (xs : List ℕ) {l : List ℕ} {r : ℕ} → at + length xs ≤ length d → Puts d at xs l r → Placed d at (length xs) xs l r
+  text-placed xs h p = placed (length xs) xs (omega arith) h p
 
 -- two pieces, the second behind the first, are one
 module _ {d d₁ d₂ : List ℕ} {at m n e r : ℕ} {xs ys : List ℕ} where
@@ -39,7 +39,7 @@ module _ {d d₁ d₂ : List ℕ} {at m n e r : ℕ} {xs ys : List ℕ} where
   behind p q =
       let h : at + length xs + length ys ≤ length d = omega (arith, p .put .0, p .long, q .room) in
       record {
-        put = puts-both d at xs ys d₁ d₂ e r h (p .put) (q .put);
+        put = puts-both d at xs ys h (p .put) (q .put);
         few = omega (arith, length-append xs ys, p .few, q .few);
         room = omega (arith, length-append xs ys);
         long = q .long ∙ p .long;
@@ -50,14 +50,14 @@ module _ {d l : List ℕ} {at m e : ℕ} {xs : List ℕ} (p : Placed d at m xs l
   pub room-behind : (k : ℕ) → at + m + k + 11 ≤ length d → e + k + 11 ≤ length l
   room-behind k h = omega (arith, p .put .0, p .few, p .long)
 
-  pub spaced-behind : (word : List ℕ) (n : ℕ) (l′ : List ℕ) (r : ℕ) → at + m + length word + 11 ≤ length d → Puts l e (spaced word n) l′ r
+  pub spaced-behind : (word : List ℕ) (n : ℕ) {l′ : List ℕ} {r : ℕ} → at + m + length word + 11 ≤ length d → Puts l e (spaced word n) l′ r
       → Placed d at (m + (length word + 11)) (xs ++ spaced word n) l′ r
-  spaced-behind word n l′ r h q = behind p (spaced-placed l e word n l′ r (room-behind (length word) h) q)
+  spaced-behind word n h q = behind p (spaced-placed l e word n (room-behind (length word) h) q)
 
   -- the number was put under a name that the code has for it
-  pub told-behind : (word : List ℕ) {k : ℕ} (n : ℕ) (l′ : List ℕ) (r : ℕ) → at + m + length word + 11 ≤ length d → Puts l e (spaced word k) l′ r → k ≡ n
+  pub told-behind : (word : List ℕ) {k : ℕ} (n : ℕ) {l′ : List ℕ} {r : ℕ} → at + m + length word + 11 ≤ length d → Puts l e (spaced word k) l′ r → k ≡ n
       → Placed d at (m + (length word + 11)) (xs ++ spaced word n) l′ r
-  told-behind word n l′ r h q z = spaced-behind word n l′ r h (rw z at q)
+  told-behind word n h q z = spaced-behind word n h (rw z at q)
 
 -- six pieces, however they are taken together
 pub six : (a b c d e f : List ℕ) → ((((a ++ b) ++ c) ++ d) ++ e) ++ f ≡ a ++ (b ++ (c ++ (d ++ (e ++ f))))
@@ -111,9 +111,9 @@ module _ {d l : List ℕ} {e : ℕ} (c : Counts) (room : 128 ≤ length d) (p : 
   pub end-room : e + 1 ≤ length l
   end-room = omega (arith, p .put .0, p .few, p .long, room)
 
-  module _ (l′ : List ℕ) (r : ℕ) (q : Puts l e line-end l′ r) where
+  module _ {l′ : List ℕ} {r : ℕ} (q : Puts l e line-end l′ r) where
     all-placed : Placed d 0 100 (to-edits c ++ line-end) l′ r
-    all-placed = behind p (text-placed l e line-end l′ r end-room q)
+    all-placed = behind p (text-placed l e line-end end-room q)
 
     pub counts-put : Begins d (counts-shown c) l′ r
     unfolding counts-shown codes
@@ -122,7 +122,7 @@ module _ {d l : List ℕ} {e : ℕ} (c : Counts) (room : 128 ≤ length d) (p : 
         append-assoc (to-pool c) (spaced (space ∷ edits-word) (c .edits)) line-end
         ∙ six (to-kind c) (spaced (space ∷ nodes-word) (c .nodes)) (spaced (space ∷ names-word) (c .names)) (spaced (space ∷ lines-word) (c .lines))
         (spaced (space ∷ pool-word) (c .pool)) (spaced (space ∷ edits-word) (c .edits) ++ line-end) in
-        begins d (counts-shown c) l′ r (subst (λ (m : List ℕ). Puts d 0 m l′ r) z (all-placed .put))
+        begins d (counts-shown c) (subst (λ (m : List ℕ). Puts d 0 m l′ r) z (all-placed .put))
 
     pub counts-long : length l′ ≡ length d
     counts-long = all-placed .long

@@ -50,17 +50,17 @@ module _ (d : List ℕ) (at : ℕ) (word : List ℕ) (n : ℕ) (l : List ℕ) (s
   abbrev both-lines : List ℕ
   both-lines = pair word n l second m bytes
 
-  pub pair-put : (d₁ d₂ : List ℕ) (e r : ℕ) → at + (length word + 11 * n + 1) + (length second + 4 * m + 9) ≤ length d → Bytes bytes
+  pub pair-put : {d₁ d₂ : List ℕ} {e r : ℕ} → at + (length word + 11 * n + 1) + (length second + 4 * m + 9) ≤ length d → Bytes bytes
       → Puts d at (buffer-shown word (take n l)) d₁ e → Puts d₁ e (buffer-shown second (take m bytes)) d₂ r → Puts d at both-lines d₂ r
-  pair-put d₁ d₂ e r room f p q =
-      puts-both d at (buffer-shown word (take n l)) (buffer-shown second (take m bytes)) d₁ d₂ e r
+  pair-put room f p q =
+      puts-both d at (buffer-shown word (take n l)) (buffer-shown second (take m bytes))
       (omega (arith, few-buffer word n l, few-byte-buffer second m bytes f)) p q
 
-  pub pair-placed : (d₁ : List ℕ) (r : ℕ) → at + (length word + 11 * n + 1) + (length second + 4 * m + 9) ≤ length d → Bytes bytes → Puts d at both-lines d₁ r
+  pub pair-placed : {d₁ : List ℕ} {r : ℕ} → at + (length word + 11 * n + 1) + (length second + 4 * m + 9) ≤ length d → Bytes bytes → Puts d at both-lines d₁ r
       → Placed d at (length word + 11 * n + 1 + (length second + 4 * m + 1)) both-lines d₁ r
-  pair-placed d₁ r room f p =
+  pair-placed room f p =
       let k = length-append (buffer-shown word (take n l)) (buffer-shown second (take m bytes)) in
-      placed d at _ both-lines d₁ r (omega (arith, few-buffer word n l, few-byte-buffer second m bytes f)) (omega (arith, room)) p
+      placed d at _ both-lines (omega (arith, few-buffer word n l, few-byte-buffer second m bytes f)) (omega (arith, room)) p
 
 -- what is known of the book, and of the room in d
 pub record Ready (c : Counts) (b : Buffers) (d : List ℕ) : Type 0 where
@@ -84,30 +84,30 @@ module _ {c : Counts} {b : Buffers} {d : List ℕ} (k : Ready c b d) where
   pub nodes-room : 0 + (5 + 11 * (3 * c .nodes) + 1) + (5 + 4 * c .names + 9) ≤ length d
   nodes-room = omega (arith, k .ample)
 
-  module _ (d₁ : List ℕ) (e₁ : ℕ) (p₁ : Puts d 0 nodes-pair d₁ e₁) where
+  module _ {d₁ : List ℕ} {e₁ : ℕ} (p₁ : Puts d 0 nodes-pair d₁ e₁) where
     nodes-placed : Placed d 0 (12 + (33 * c .nodes + 4 * c .names)) nodes-pair d₁ e₁
     nodes-placed =
-        let q = pair-placed d 0 nodes-word (3 * c .nodes) (b .nodes) names-word (c .names) (b .names) d₁ e₁ nodes-room (k .names) p₁ in
-        placed d 0 _ nodes-pair d₁ e₁ (omega (arith, q .few)) (omega (arith, k .ample)) p₁
+        let q = pair-placed d 0 nodes-word (3 * c .nodes) (b .nodes) names-word (c .names) (b .names) nodes-room (k .names) p₁ in
+        placed d 0 _ nodes-pair (omega (arith, q .few)) (omega (arith, k .ample)) p₁
 
     pub lines-room : e₁ + (5 + 11 * (4 * c .lines) + 1) + (4 + 4 * c .pool + 9) ≤ length d₁
     lines-room = let q₁ = nodes-placed in omega (arith, k .ample)
 
-    module _ (d₂ : List ℕ) (e₂ : ℕ) (p₂ : Puts d₁ e₁ lines-pair d₂ e₂) where
+    module _ {d₂ : List ℕ} {e₂ : ℕ} (p₂ : Puts d₁ e₁ lines-pair d₂ e₂) where
       lines-placed : Placed d₁ e₁ (11 + (44 * c .lines + 4 * c .pool)) lines-pair d₂ e₂
       lines-placed =
-          let q = pair-placed d₁ e₁ lines-word (4 * c .lines) (b .lines) pool-word (c .pool) (b .pool) d₂ e₂ lines-room (k .pool) p₂ in
-          placed d₁ e₁ _ lines-pair d₂ e₂ (omega (arith, q .few)) (omega (arith, lines-room)) p₂
+          let q = pair-placed d₁ e₁ lines-word (4 * c .lines) (b .lines) pool-word (c .pool) (b .pool) lines-room (k .pool) p₂ in
+          placed d₁ e₁ _ lines-pair (omega (arith, q .few)) (omega (arith, lines-room)) p₂
 
       pub journal-room : e₂ + 7 + 11 * (2 * c .edits) + 1 ≤ length d₂
       journal-room = let q₁ = nodes-placed in let q₂ = lines-placed in omega (arith, k .ample)
 
-      module _ (d₃ : List ℕ) (r : ℕ) (p₃ : Puts d₂ e₂ (buffer-shown journal-word (take (2 * c .edits) (b .journal))) d₃ r) where
+      module _ {d₃ : List ℕ} {r : ℕ} (p₃ : Puts d₂ e₂ (buffer-shown journal-word (take (2 * c .edits) (b .journal))) d₃ r) where
         abbrev journal-line : List ℕ
         journal-line = buffer-shown journal-word (take (2 * c .edits) (b .journal))
 
         journal-placed : Placed d₂ e₂ (8 + 22 * c .edits) journal-line d₃ r
-        journal-placed = placed d₂ e₂ _ _ d₃ r (omega (arith, few-buffer journal-word (2 * c .edits) (b .journal))) (omega (arith, journal-room)) p₃
+        journal-placed = placed d₂ e₂ _ _ (omega (arith, few-buffer journal-word (2 * c .edits) (b .journal))) (omega (arith, journal-room)) p₃
 
         dump-placed : Placed d 0 (12 + (33 * c .nodes + 4 * c .names) + (11 + (44 * c .lines + 4 * c .pool) + (8 + 22 * c .edits)))
             (nodes-pair ++ (lines-pair ++ journal-line)) d₃ r
@@ -122,7 +122,7 @@ module _ {c : Counts} {b : Buffers} {d : List ℕ} (k : Ready c b d) where
             append-assoc x y (lines-pair ++ journal-line)
             ∙ ap (λ (t : List ℕ). x ++ (y ++ t))
             (append-assoc (buffer-shown lines-word (take (4 * c .lines) (b .lines))) (buffer-shown pool-word (take (c .pool) (b .pool))) journal-line) in
-            begins d (dump-shown c b) d₃ r (subst (λ (t : List ℕ). Puts d 0 t d₃ r) z (dump-placed .put))
+            begins d (dump-shown c b) (subst (λ (t : List ℕ). Puts d 0 t d₃ r) z (dump-placed .put))
 
         pub dump-long : length d₃ ≡ length d
         dump-long = dump-placed .long

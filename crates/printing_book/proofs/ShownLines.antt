@@ -14,7 +14,6 @@ use Rattle.book.specs.Books.{Line, no-line}
 use Rattle.book.specs.Layout.{Line-lies, bytes-of-line, five, frame-of, line-form, line-of, line-width}
 use Rattle.book.specs.View.{book-of, holds}
 use Rattle.book.proofs.Asking.{held-book}
-use Rattle.book.proofs.Forms.{line-laws}
 use Rattle.book.proofs.LineRows.{Row, Walk, lines-packed, row-line, row-short, walk-count, walk-on, walk-row, walk-starts}
 use Rattle.printing.specs.Printing.{Begins, Puts}
 use Rattle.printing.proofs.Pieces.{begins, puts-both, puts-long, puts-nothing}
@@ -65,7 +64,7 @@ pub lines-end : (c : Counts) (n m l p j : List ℕ) {d out : List ℕ} {end i : 
     → Begins d (lines-shown 0 (book-of c (five n m l p j) .lines)) out end
 unfolding book-of
 lines-end c n m l p j {d} {out} {end} {i} z h =
-    begins d _ out end (subst (λ (m : List Line). Puts d 0 (lines-shown 0 m) out end) (take-all i _ (omega (arith, walk-count (z .walk)))) (z .put))
+    begins d _ (subst (λ (m : List Line). Puts d 0 (lines-shown 0 m) out end) (take-all i _ (omega (arith, walk-count (z .walk)))) (z .put))
 
 module _ {c : Counts} {l m d out : List ℕ} {end i : ℕ} (z : Listed c l m d out end i) (h : i < c .lines) where
   abbrev line : Line
@@ -87,8 +86,7 @@ module _ {c : Counts} {l m d out : List ℕ} {end i : ℕ} (z : Listed c l m d o
       let xs : List Line = things line-form (c .lines) l m in
       let f = few-lines 0 (take i xs) in
       let g = length-take-le i xs (omega (arith, there)) in
-      let w = bytes-within line-form (line-laws (frame-of c)) (c .lines) (c .pool) l m xs
-      (lines-packed (frame-of c) (c .lines) (c .pool) l m (z .walk .packing)) i no-line there in
+      let w = bytes-within (lines-packed (frame-of c) (c .lines) (c .pool) l m (z .walk .packing)) i no-line there in
       omega (arith, z .put .0, z .long)
 
   -- its bytes, as they are lent
@@ -106,7 +104,7 @@ module _ {c : Counts} {l m d out : List ℕ} {end i : ℕ} (z : Listed c l m d o
         record {
           walk = walk-on (z .walk) h;
           room = z .room;
-          long = puts-long out end (line-shown i line) out′ r (omega arith) q ∙ z .long;
+          long = puts-long out end (line-shown i line) (omega arith) q ∙ z .long;
           put = subst (λ (t : List ℕ). Puts d 0 t out′ r) (sym (next-line xs i there))
-              (puts-both d 0 (lines-shown 0 (take i xs)) (line-shown i line) out out′ end r (omega (arith, z .put .0, z .long)) (z .put) q);
+              (puts-both d 0 (lines-shown 0 (take i xs)) (line-shown i line) (omega (arith, z .put .0, z .long)) (z .put) q);
         }

@@ -81,16 +81,36 @@ pub record Answered (w : Option Book) (s d : List ℕ) (from : ℕ) (l : List �
   pub long : length l ≡ length d
   pub put : Puts d from piece l end
 
-pub answers-start : (w : Option Book) (s d : List ℕ) (from : ℕ) → Answered w s d from d 0 from
-answers-start w s d from =
+pub answers-start : {w : Option Book} {s d : List ℕ} {from : ℕ} → Answered w s d from d 0 from
+answers-start {d = d} {from} =
     record { piece = []; whole = refl; within = omega arith; few = omega arith; long = refl; put = puts-nothing d from }
 
-module _ (w : Option Book) (s d : List ℕ) (from : ℕ) (l : List ℕ) (at end : ℕ) (inv : Answered w s d from l at end) where
+module _ {w : Option Book} {s d : List ℕ} {from : ℕ} {l : List ℕ} {at end : ℕ} (inv : Answered w s d from l at end) where
   pub answers-end : length s ≤ at → Puts d from (answers w (lines-in [] s)) l end
   unfolding answers lines-in
   answers-end h =
       let e : answers w (lines-in [] s) ≡ inv .piece = inv .whole ∙ rw (drop-of-length-le s h, append-nil) in
       rw e (inv .put)
+
+  -- the line feed behind the next line
+  module _ {x : Found} (e : x ≡ first-from (is line-feed) s at) {p : ℕ} (f : x ≡ Here p) where
+    line-found : First (is line-feed) s at p
+    line-found = first-within (sym e ∙ f)
+
+    pub line-starts : at ≤ p
+    line-starts = line-found .onward
+
+    pub line-ends : p ≤ length s
+    line-ends = omega (arith, line-found .within)
+
+    pub next-within : p + 1 ≤ length s
+    next-within = omega (arith, line-found .within)
+
+    pub next-less : length s - (p + 1) < length s - at
+    next-less = omega (arith, line-found .within, line-found .onward)
+
+    line-long : length (take (p - at) (drop at s)) ≤ p - at
+    line-long = omega (arith, length-take (p - at) (drop at s))
 
   module _ (h : at < length s) (room : 0 < length s → from + 48 + 15 * length s ≤ length d) where
     ample : from + 48 + 15 * length s ≤ length d
@@ -100,48 +120,31 @@ module _ (w : Option Book) (s d : List ℕ) (from : ℕ) (l : List ℕ) (at end 
     pub last-room : end + length (take (length s - at) (drop at s)) + 48 ≤ length l
     last-room = omega (arith, ample, inv .few, inv .long, length-take (length s - at) (drop at s), length-drop at s)
 
-    pub last-put : (x : Found) → x ≡ first-from (is line-feed) s at → x ≡ Nowhere → (m : List ℕ) (r : ℕ)
+    pub last-put : {x : Found} → x ≡ first-from (is line-feed) s at → x ≡ Nowhere → {m : List ℕ} {r : ℕ}
         → Puts l end (symbol-answered w (take (length s - at) (drop at s))) m r → Puts d from (answers w (lines-in [] s)) m r
-    last-put x e f m r p =
+    last-put e f p =
         let t : take (length s - at) (drop at s) ≡ drop at s = take-all (length s - at) (drop at s) (omega (arith, length-drop at s)) in
         let a : answers w (lines-in [] s) ≡ inv .piece ++ symbol-answered w (drop at s) =
         inv .whole ∙ rw (last-answered w s at h (sym e ∙ f)) in
         rw a
-        (puts-both d from (inv .piece) (symbol-answered w (drop at s)) l m end r
+        (puts-both d from (inv .piece) (symbol-answered w (drop at s))
         (omega (arith, ample, inv .put .0, inv .few, answer-few w (drop at s), length-drop at s))
         (inv .put) (rw t at p))
 
-    module _ (x : Found) (e : x ≡ first-from (is line-feed) s at) (p : ℕ) (f : x ≡ Here p) where
-      line-found : First (is line-feed) s at p
-      line-found = first-within (sym e ∙ f)
-
-      pub line-starts : at ≤ p
-      line-starts = line-found .onward
-
-      pub line-ends : p ≤ length s
-      line-ends = omega (arith, line-found .within)
-
-      pub next-within : p + 1 ≤ length s
-      next-within = omega (arith, line-found .within)
-
-      pub next-less : length s - (p + 1) < length s - at
-      next-less = omega (arith, line-found .within, line-found .onward)
-
-      line-long : length (take (p - at) (drop at s)) ≤ p - at
-      line-long = omega (arith, length-take (p - at) (drop at s))
-
+    -- the next line, up to its line feed
+    module _ {x : Found} (e : x ≡ first-from (is line-feed) s at) {p : ℕ} (f : x ≡ Here p) where
       pub line-room : end + length (take (p - at) (drop at s)) + 48 ≤ length l
-      line-room = omega (arith, ample, inv .few, inv .long, line-long, line-found .within, line-found .onward)
+      line-room = omega (arith, ample, inv .few, inv .long, line-long e f, line-found e f .within, line-found e f .onward)
 
-      pub line-put : (m : List ℕ) (r : ℕ) → Puts l end (symbol-answered w (take (p - at) (drop at s))) m r → Answered w s d from m (p + 1) r
-      line-put m r q =
+      pub line-put : {m : List ℕ} {r : ℕ} → Puts l end (symbol-answered w (take (p - at) (drop at s))) m r → Answered w s d from m (p + 1) r
+      line-put q =
           let t = symbol-answered w (take (p - at) (drop at s)) in
           let few = answer-few w (take (p - at) (drop at s)) in
           record {
             piece = inv .piece ++ t;
             whole = inv .whole ∙ rw (line-answered w s at p (sym e ∙ f)) (sym (append-assoc (inv .piece) t (answers w (lines-in [] (drop (p + 1) s)))));
-            within = omega (arith, line-found .within);
-            few = omega (arith, few, line-long, q .0, inv .few, line-found .onward);
-            long = puts-long l end t m r (omega (arith, few, line-room)) q ∙ inv .long;
-            put = puts-both d from (inv .piece) t l m end r (omega (arith, few, line-room, inv .put .0, inv .long)) (inv .put) q;
+            within = omega (arith, line-found e f .within);
+            few = omega (arith, few, line-long e f, q .0, inv .few, line-found e f .onward);
+            long = puts-long l end t (omega (arith, few, line-room)) q ∙ inv .long;
+            put = puts-both d from (inv .piece) t (omega (arith, few, line-room, inv .put .0, inv .long)) (inv .put) q;
           }

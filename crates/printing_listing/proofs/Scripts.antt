@@ -38,10 +38,10 @@ use Rattle.printing_listing.specs.Script.{Prints, opened-printed, printe
 abbrev told-as : ℕ → ℕ → ℕ → Listed
 told-as n refusal place = record { length = n; refusal = refusal; place = place }
 
-pub refused-listed : (n place : ℕ) (d l : List ℕ) (r : ℕ) → Begins d (refused-line n) l r
+pub refused-listed : (n place : ℕ) (d : List ℕ) {l : List ℕ} {r : ℕ} → Begins d (refused-line n) l r
     → (told-as r n place ≡ with-refusal (length (refused-line n)) (declined n place)) × (l ≡ front (refused-line n) d)
 unfolding told
-refused-listed n place d l r p = (ap (λ (k : ℕ). told-as k n place) (p .0), p .1)
+refused-listed n place d p = (ap (λ (k : ℕ). told-as k n place) (p .0), p .1)
 
 -- five buffers that are zeros, each of its length
 pub all-cleared : (n m l p j n′ m′ l′ p′ j′ : List ℕ) → n′ ≡ zeros (length n) → m′ ≡ zeros (length m) → l′ ≡ zeros (length l) → p′ ≡ zeros (length p)
@@ -78,11 +78,11 @@ answers-few w t (b ∷ s) = go (eqb b line-feed) (answers-few w [] s) (answers-f
 
 -- ---- the exits of `render_opened`: w is the book, d was lent, d₁ is left of it behind the counts, and d₂ at the end
 module _ (w : Option Book) (symbols d : List ℕ) (room : 48 ≤ length d) where
-  pub opened-refused : (n : ℕ) → (n ≡ 0 → ⊥) → (l : List ℕ) (r : ℕ) → Begins d (refused-line n) l r → Begins d (opened-printed n w symbols) l r
+  pub opened-refused : {n : ℕ} → (n ≡ 0 → ⊥) → {l : List ℕ} {r : ℕ} → Begins d (refused-line n) l r → Begins d (opened-printed n w symbols) l r
   unfolding opened-printed
-  opened-refused n h l r p = rw (ne-eqb n 0 h) p
+  opened-refused {n} h p = rw (ne-eqb n 0 h) p
 
-  module _ (more : 0 < length symbols → 84 + 15 * length symbols ≤ length d) (d₁ : List ℕ) (n₁ : ℕ) (counted-put : Begins d (counts-answered w) d₁ n₁) where
+  module _ (more : 0 < length symbols → 84 + 15 * length symbols ≤ length d) {d₁ : List ℕ} {n₁ : ℕ} (counted-put : Begins d (counts-answered w) d₁ n₁) where
     pub symbols-room : 0 < length symbols → n₁ + 48 + 15 * length symbols ≤ length d₁
     symbols-room k =
         let f = counts-few w in
@@ -96,14 +96,14 @@ module _ (w : Option Book) (symbols d : List ℕ) (room : 48 ≤ length d) where
         go (yes k) = omega (arith, more k, counts-few w, answers-few w [] symbols)
         go (no k) = omega (arith, counts-few w, answers-few w [] symbols)
 
-    pub opened-listed : (n : ℕ) → n ≡ 0 → (d₂ : List ℕ) (n₂ : ℕ) → Puts d₁ n₁ (answers w (lines-in [] symbols)) d₂ n₂
+    pub opened-listed : {n : ℕ} → n ≡ 0 → {d₂ : List ℕ} {n₂ : ℕ} → Puts d₁ n₁ (answers w (lines-in [] symbols)) d₂ n₂
         → Begins d (opened-printed n w symbols) d₂ n₂
     unfolding opened-printed
-    opened-listed n h d₂ n₂ q =
+    opened-listed h {d₂} {n₂} q =
         let t = counts-answered w in
         let a : Puts d 0 (t ++ answers w (lines-in [] symbols)) d₂ n₂ =
-        puts-both d 0 t (answers w (lines-in [] symbols)) d₁ d₂ n₁ n₂ all-room (put-first d t d₁ n₁ counted-put) q in
-        rw h (begins d (t ++ answers w (lines-in [] symbols)) d₂ n₂ a)
+        puts-both d 0 t (answers w (lines-in [] symbols)) all-room (put-first d t counted-put) q in
+        rw h (begins d (t ++ answers w (lines-in [] symbols)) a)
 
 -- ---- a script's opening: a refusal other than 0, or a book that the buffers hold
 module _ (b : Buffers) (s : List ℕ) (x : Opened) (e : x ≡ told (opening as-script b s)) where
@@ -142,9 +142,9 @@ module _ (b : Buffers) (s : List ℕ) (x : Opened) (e : x ≡ told (opening as-s
     script-told : (n : ℕ) → told-as n (x .refusal) (x .place) ≡ with-refusal n (opening as-script b s)
     script-told n = ap (λ (y : Opened). told-as n (y .refusal) (y .place)) e
 
-    pub script-listed : (l : List ℕ) (n : ℕ) → Begins d (opened-printed (x .refusal) (view (x .counts) b′) symbols) l n
+    pub script-listed : {l : List ℕ} {n : ℕ} → Begins d (opened-printed (x .refusal) (view (x .counts) b′) symbols) l n
         → Prints b (λ b. opening as-script b s) symbols d (told-as n (x .refusal) (x .place)) l b′
-    script-listed l n m = (
+    script-listed {n = n} m = (
       script-told n ∙ ap (λ (k : ℕ). with-refusal k (opening as-script b s)) (m .0 ∙ ap length script-printed),
       m .1 ∙ ap (λ (k : List ℕ). front k d) script-printed,
       j,

@@ -69,16 +69,16 @@ module _ (d : List ℕ) (at : ℕ) {v : Version} (l : Locality) {d₁ : List ℕ
     index-nothing f p = rw (e, f) p
 
 -- ---- a symbol's line
-pub symbol-line-put : (d name : List ℕ) (v : Version) (l : Locality) (d₁ d₂ d₃ d₄ : List ℕ) (a b c r : ℕ) → length name + 48 ≤ length d
+pub symbol-line-put : (d name : List ℕ) (v : Version) (l : Locality) {d₁ d₂ d₃ d₄ : List ℕ} {a b c r : ℕ} → length name + 48 ≤ length d
     → Puts d 0 name d₁ a → Puts d₁ a (space ∷ []) d₂ b → Puts d₂ b (fields v l) d₃ c → Puts d₃ c line-end d₄ r → Begins d (symbol-line name v l) d₄ r
 unfolding symbol-line
-symbol-line-put d name v l d₁ d₂ d₃ d₄ a b c r room p q s t =
+symbol-line-put d name v l {d₁} {d₂} {d₄ = d₄} {a} {b} {r = r} room p q s t =
     let w : a ≡ 0 + length name = p .0 in
     let w₂ : b ≡ a + 1 = q .0 in
     let f = few-fields v l in
-    let x₁ : length d₁ ≡ length d = puts-long d 0 name d₁ a (omega arith) p in
-    let x₂ : length d₂ ≡ length d₁ = puts-long d₁ a (space ∷ []) d₂ b (omega arith) q in
+    let x₁ = puts-long d 0 name (omega arith) p in
+    let x₂ = puts-long d₁ a (space ∷ []) (omega arith) q in
     let l₃ = length-append (fields v l) line-end in
-    let y₃ : Puts d₂ b (fields v l ++ line-end) d₄ r = puts-both d₂ b (fields v l) line-end d₃ d₄ c r (omega arith) s t in
-    let y₂ : Puts d₁ a (space ∷ (fields v l ++ line-end)) d₄ r = puts-both d₁ a (space ∷ []) (fields v l ++ line-end) d₂ d₄ b r (omega arith) q y₃ in
-    begins d (symbol-line name v l) d₄ r (puts-both d 0 name (space ∷ (fields v l ++ line-end)) d₁ d₄ a r (omega arith) p y₂)
+    let y₃ : Puts d₂ b (fields v l ++ line-end) d₄ r = puts-both d₂ b (fields v l) line-end (omega arith) s t in
+    let y₂ : Puts d₁ a (space ∷ (fields v l ++ line-end)) d₄ r = puts-both d₁ a (space ∷ []) (fields v l ++ line-end) (omega arith) q y₃ in
+    begins d (symbol-line name v l) (puts-both d 0 name (space ∷ (fields v l ++ line-end)) (omega arith) p y₂)

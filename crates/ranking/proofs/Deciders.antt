@@ -124,7 +124,7 @@ module _ (n : ℕ) (m : Line → Bool) (ls : List Line) where
         (λ j h y. omega arith))
 
     none-matches : From (10 * n) → (j : ℕ) → j < length ls → m (line-at ls j) ≡ false
-    none-matches f j h = fails _ (λ y. omega (arith, f j h y, rank-below n (line-at ls j) (line-ranged j h)))
+    none-matches f j h = fails (λ y. omega (arith, f j h y, rank-below n (line-at ls j) (line-ranged j h)))
 
     decided-is : (o : Option ℕ) → Walked (10 * n) o → (i : ℕ) → o ≡ some i → Decides n m ls i
     decided-is o (decided-by k d) i e = subst (Decides n m ls) (Option·some-injective k i e) d

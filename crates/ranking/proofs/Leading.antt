@@ -72,7 +72,7 @@ module _ {n : ℕ} {m : Line → Bool} {ls : List Line} where
     below j h = rank-below n (line-at ls j) (ranged n (line-at ls j) (every-at (in-range n) ls j no-line g h))
 
     nothing-held : Held n m ls (length ls) best line → line ≡ length ls → (j : ℕ) → j < length ls → m (line-at ls j) ≡ false
-    nothing-held (nothing-yet e f) q j h = fails _ (λ y. omega (arith, z .least j h y, below j h))
+    nothing-held (nothing-yet e f) q j h = fails (λ y. omega (arith, z .least j h y, below j h))
     nothing-held (one h y e f) q j k = absurd (omega arith)
 
     one-held : Held n m ls (length ls) best line → (line ≡ length ls → ⊥) → Decides n m ls line

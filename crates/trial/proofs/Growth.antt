@@ -13,8 +13,8 @@ use Rattle.lists.proofs.Tests.{both}
 use Rattle.packing.specs.Padding.{pad}
 use Rattle.packing.specs.Tables.{Form, packed, rows}
 use Rattle.packing.proofs.PaddingLaws.{pad-unput}
-use Rattle.packing.proofs.TableLaws.{Laws, length-rows, packed-append, rows-append}
-use Rattle.packing.proofs.Packings.{Packs}
+use Rattle.packing.proofs.TableLaws.{Laws, packed-append, rows-append}
+use Rattle.packing.proofs.Packings.{Packs, rows-are}
 use Rattle.classes.specs.Classes.{class-number}
 use Rattle.storing.specs.Keeping.{Keep, kept, refused, keep}
 use Rattle.reading_cursors.specs.declared.Event.{Event}
@@ -104,44 +104,45 @@ module _ (b : Buffers) (w : Book) (k : eqb (w .kind) rust ≡ false) (h : 0 < le
   event-grows v g x l u e = rw e at (event-on v g x l)
 
 -- ---- zeros over what is behind
-module _ {X : Type 0} {ok ok′ : X → Bool} (F : Form X) (W : Laws F ok) (n k m j : ℕ) (l p l′ p′ : List ℕ) (xs ys zs : List X) (t : Packs F ok n k l p xs)
-    (u : Packs F ok′ m j l′ p′ ys) (e : ys ≡ xs ++ zs) where
-  rows-split : rows F 0 ys ≡ rows F 0 xs ++ rows F (0 + length (packed F xs)) zs
-  rows-split = ap (rows F 0) e ∙ rows-append F 0 xs zs
-
+module _ {X : Type 0} {ok ok′ : X → Bool} {F : Form X} {n k m j : ℕ} {l p l′ p′ : List ℕ} {xs ys : List X} (t : Packs F ok n k l p xs)
+    (u : Packs F ok′ m j l′ p′ ys) (zs : List X) (e : ys ≡ xs ++ zs) where
   packed-split : packed F ys ≡ packed F xs ++ packed F zs
   packed-split = ap (packed F) e ∙ packed-append F xs zs
-
-  pub fewer-rows : F .width * n ≤ F .width * m
-  fewer-rows =
-      let a : F .width * n ≡ length (rows F 0 xs) = ap (λ (i : ℕ). F .width * i) (t .count) ∙ sym (length-rows F W 0 xs) in
-      let b : F .width * m ≡ length (rows F 0 ys) = ap (λ (i : ℕ). F .width * i) (u .count) ∙ sym (length-rows F W 0 ys) in
-      omega (arith, ap length rows-split, length-append (rows F 0 xs) (rows F (0 + length (packed F xs)) zs))
 
   pub fewer-bytes : k ≤ j
   fewer-bytes = omega (arith, t .total, u .total, ap length packed-split, length-append (packed F xs) (packed F zs))
 
-  pub rows-back : length l′ ≡ length l → (l″ : List ℕ)
-      → l″ ≡ emptied l′ (F .width * n) (F .width * m) → l″ ≡ l
-  rows-back h l″ z =
-      let r = rows F (0 + length (packed F xs)) zs in
-      let a : F .width * n ≡ length (rows F 0 xs) = ap (λ (i : ℕ). F .width * i) (t .count) ∙ sym (length-rows F W 0 xs) in
-      let b : F .width * m ≡ length (rows F 0 ys) = ap (λ (i : ℕ). F .width * i) (u .count) ∙ sym (length-rows F W 0 ys) in
-      let d : F .width * m - F .width * n ≡ length r = omega (arith, ap length rows-split, length-append (rows F 0 xs) r) in
-      z
-      ∙ pad-unput (length l′) l′ (rows F 0 xs) r (F .width * n) (F .width * m - F .width * n) (u .lined ∙ ap (pad (length l′)) rows-split) a d
-      (omega (arith, u .rowroom, fewer-rows))
-      ∙ ap (λ (i : ℕ). pad i (rows F 0 xs)) h
-      ∙ sym (t .lined)
-
-  pub bytes-back : length p′ ≡ length p → (p″ : List ℕ) → p″ ≡ emptied p′ k j → p″ ≡ p
-  bytes-back h p″ z =
+  pub bytes-back : length p′ ≡ length p → {p″ : List ℕ} → p″ ≡ emptied p′ k j → p″ ≡ p
+  bytes-back h z =
       let d : j - k ≡ length (packed F zs) = omega (arith, t .total, u .total, ap length packed-split, length-append (packed F xs) (packed F zs)) in
       z
-      ∙ pad-unput (length p′) p′ (packed F xs) (packed F zs) k (j - k) (u .pooled ∙ ap (pad (length p′)) packed-split) (t .total) d
+      ∙ pad-unput (length p′) (packed F xs) (packed F zs) (u .pooled ∙ ap (pad (length p′)) packed-split) (t .total) d
       (omega (arith, u .byteroom, fewer-bytes))
       ∙ ap (λ (i : ℕ). pad i (packed F xs)) h
       ∙ sym (t .pooled)
+
+module _ {X : Type 0} {ok ok′ : X → Bool} {F : Form X} (W : Laws F ok) {n k m j : ℕ} {l p l′ p′ : List ℕ} {xs ys : List X} (t : Packs F ok n k l p xs)
+    (u : Packs F ok′ m j l′ p′ ys) (zs : List X) (e : ys ≡ xs ++ zs) where
+  rows-split : rows F 0 ys ≡ rows F 0 xs ++ rows F (0 + length (packed F xs)) zs
+  rows-split = ap (rows F 0) e ∙ rows-append F 0 xs zs
+
+  pub fewer-rows : F .width * n ≤ F .width * m
+  fewer-rows =
+      let a = rows-are W t in
+      let b = rows-are W u in
+      omega (arith, ap length rows-split, length-append (rows F 0 xs) (rows F (0 + length (packed F xs)) zs))
+
+  pub rows-back : length l′ ≡ length l → {l″ : List ℕ} → l″ ≡ emptied l′ (F .width * n) (F .width * m) → l″ ≡ l
+  rows-back h z =
+      let r = rows F (0 + length (packed F xs)) zs in
+      let a = rows-are W t in
+      let b = rows-are W u in
+      let d : F .width * m - F .width * n ≡ length r = omega (arith, ap length rows-split, length-append (rows F 0 xs) r) in
+      z
+      ∙ pad-unput (length l′) (rows F 0 xs) r (u .lined ∙ ap (pad (length l′)) rows-split) a d
+      (omega (arith, u .rowroom, fewer-rows))
+      ∙ ap (λ (i : ℕ). pad i (rows F 0 xs)) h
+      ∙ sym (t .lined)
 
 module _ (c k : Counts) (n m l q j l′ q′ j′ : List ℕ) (w v : Book) (t : Layout c (five n m l q j) w) (u : Layout k (five n m l′ q′ j′) v)
     (g : Grown w v) where
@@ -149,21 +150,16 @@ module _ (c k : Counts) (n m l q j l′ q′ j′ : List ℕ) (w v : Book) (t : 
   pub back-asks : Reaches c k l′ q′ j′
   unfolding line-form edit-form
   back-asks =
-      let a = fewer-rows line-form (line-laws (frame-of c)) (c .lines) (c .pool) (k .lines) (k .pool) l q l′ q′
-      (w .lines) (v .lines) (g .more) (t .lines) (u .lines) (g .lines) in
-      let b = fewer-bytes line-form (line-laws (frame-of c)) (c .lines) (c .pool) (k .lines) (k .pool) l q l′ q′
-      (w .lines) (v .lines) (g .more) (t .lines) (u .lines) (g .lines) in
-      let d = fewer-rows edit-form edit-laws (c .edits) 0 (k .edits) 0 j [] j′ [] (w .edits) (v .edits) (g .done) (t .edits) (u .edits) (g .edits) in
+      let a = fewer-rows (line-laws (frame-of c)) (t .lines) (u .lines) (g .more) (g .lines) in
+      let b = fewer-bytes (t .lines) (u .lines) (g .more) (g .lines) in
+      let d = fewer-rows edit-laws (t .edits) (u .edits) (g .done) (g .edits) in
       (omega (arith, a), u .lines .rowroom, b, u .lines .byteroom, omega (arith, d), u .edits .rowroom)
 
   -- the zeros are put there: l″ q″ j″ are the buffers behind that
   pub taken-back : Rooms (five n m l′ q′ j′) (five n m l q j) → (l″ q″ j″ : List ℕ) → Clears c k l′ q′ j′ l″ q″ j″ → five n m l″ q″ j″ ≡ five n m l q j
   unfolding line-form edit-form
   taken-back r l″ q″ j″ a =
-      let x = rows-back line-form (line-laws (frame-of c)) (c .lines) (c .pool) (k .lines) (k .pool) l q l′ q′
-      (w .lines) (v .lines) (g .more) (t .lines) (u .lines) (g .lines) (r .lines) l″ (a .0) in
-      let y = bytes-back line-form (line-laws (frame-of c)) (c .lines) (c .pool) (k .lines) (k .pool) l q l′ q′
-      (w .lines) (v .lines) (g .more) (t .lines) (u .lines) (g .lines) (r .pool) q″ (a .1) in
-      let z = rows-back edit-form edit-laws (c .edits) 0 (k .edits) 0 j [] j′ []
-      (w .edits) (v .edits) (g .done) (t .edits) (u .edits) (g .edits) (r .journal) j″ (a .2) in
+      let x = rows-back (line-laws (frame-of c)) (t .lines) (u .lines) (g .more) (g .lines) (r .lines) (a .0) in
+      let y = bytes-back (t .lines) (u .lines) (g .more) (g .lines) (r .pool) (a .1) in
+      let z = rows-back edit-laws (t .edits) (u .edits) (g .done) (g .edits) (r .journal) (a .2) in
       λ i. five n m (x i) (y i) (z i)

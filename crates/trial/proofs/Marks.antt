@@ -17,15 +17,13 @@ use Rattle.book.proofs.LineRows.{line-in-range}
 use Rattle.book.proofs.Views.{Layout}
 
 -- the numbers of line i
-module _ (c : Counts) (b : Buffers) (w : Book) (t : Layout c b w) (i : ℕ) (h : i < c .lines) where
+module _ {c : Counts} {b : Buffers} {w : Book} (t : Layout c b w) (i : ℕ) (h : i < c .lines) where
   pub line-within : i < length (w .lines)
   line-within = omega (arith, t .lines .count)
 
   pub line-code : getD (b .lines) (line-width * i + 1) 0 ≡ code-of (line-at (w .lines) i)
   unfolding line-form
-  line-code =
-      row-cell line-form (line-laws (frame-of c)) (c .lines) (c .pool) (b .lines) (b .pool) (w .lines) (t .lines) i no-line
-      line-within 1 (omega arith)
+  line-code = row-cell (line-laws (frame-of c)) (t .lines) i no-line line-within 1 (omega arith)
 
   pub line-right : line-ok (frame-of c) (line-at (w .lines) i) ≡ true
   line-right = every-at (line-ok (frame-of c)) (w .lines) i no-line (t .lines .all) line-within

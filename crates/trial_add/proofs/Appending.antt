@@ -11,6 +11,7 @@ use lib.Seq.{paste}
 use Rattle.numbers.specs.Limits.{pool-limit}
 use Rattle.numbers.specs.Refusals.{no-room}
 use Rattle.packing.specs.Tables.{packed}
+use Rattle.packing.proofs.Packings.{bytes-laid, bytes-more, row-laid}
 use Rattle.numbers.specs.declared.Edition.{Edition}
 use Rattle.classes.specs.declared.Class.{Class}
 use Rattle.storing.specs.declared.Stored.{Stored}
@@ -48,7 +49,6 @@ use Rattle.trial.specs.declared.Edited.{Edited}
 use Rattle.trial.specs.declared.Edited.the-variants as answer
 use Rattle.trial.specs.Changes.{Change, Makes, after, edited, no as says-no, to}
 use Rattle.trial.specs.Trial.{append, append-kept, unplaced, with-line}
-use Rattle.trial_add.proofs.Laying.{bytes-laid, bytes-more, row-laid}
 
 -- ---- what refuses a token that has no row: r is what `store_token` answers with no room at all
 module _ (x : Edition) (frame : Frame) (t : List ℕ) (y : x ≡ edition-of frame) (r : Stored) (u : r ≡ keep-answer (keep x t) 0) where
@@ -152,8 +152,7 @@ module _ {c : Counts} {b : Buffers} (layout : Layout c b (book-of c b)) where
         unfolding counts-of line-form
         counts-more i z =
             let a : c .lines + 1 ≡ length (book .lines ++ line ∷ []) = omega (arith, layout .lines .count, length-append (book .lines) (line ∷ [])) in
-            let d : c .pool + length bs ≡ length (packed line-form (book .lines ++ line ∷ []))
-            = bytes-more line-form (line-laws (frame-of c)) (c .lines) (c .pool) (b .lines) (b .pool) (book .lines) (layout .lines) line in
+            let d : c .pool + length bs ≡ length (packed line-form (book .lines ++ line ∷ [])) = bytes-more (layout .lines) line in
             let e : c .edits + 1 ≡ length (book .edits ++ record { what = add; line = length (book .lines) } ∷ [])
             = omega (arith, layout .edits .count, length-append (book .edits) (record { what = add; line = length (book .lines) } ∷ [])) in
             rw z (λ v. record {
@@ -174,12 +173,11 @@ module _ {c : Counts} {b : Buffers} (layout : Layout c b (book-of c b)) where
         unfolding laid-out line-form edit-form
         buffers-more i class code l′ j′ h z w u a p d =
             let e : code-of line ≡ code = omega arith in
-            let lines-laid = row-laid line-form (line-laws (frame-of c)) (c .lines) (c .pool) (b .lines) (b .pool) (book .lines) (layout .lines) line l′
+            let lines-laid = row-laid (line-laws (frame-of c)) (layout .lines) line {l′ = l′}
             (omega (arith, row-within (b .lines) (c .lines) f)) (rw (e, ← z) a) in
-            let pool-laid = bytes-laid line-form (line-laws (frame-of c)) (c .lines) (c .pool) (b .lines) (b .pool) (book .lines) (layout .lines) line
-            q′ (omega (arith, room-length (b .pool))) p in
-            let journal-laid = row-laid edit-form edit-laws (c .edits) 0 (b .journal) [] (book .edits) (layout .edits)
-            (record { what = add; line = length (book .lines) }) j′ (omega (arith, edit-within (b .journal) (c .edits) g)) (rw (← layout .lines .count) d) in
+            let pool-laid = bytes-laid (layout .lines) line (omega (arith, room-length (b .pool))) p in
+            let journal-laid = row-laid edit-laws (layout .edits) (record { what = add; line = length (book .lines) }) {l′ = j′}
+            (omega (arith, edit-within (b .journal) (c .edits) g)) (rw (← layout .lines .count) d) in
             λ v. record { nodes = layout .nodes .lined v; names = layout .nodes .pooled v; lines = lines-laid v; pool = pool-laid v; journal = journal-laid v }
 
       pub append-made : (f : fits-row (b .lines) (c .lines) ≡ true) (g : edit-row (b .journal) (c .edits) ≡ true)

@@ -1,3 +1,2 @@
 mod AskedAdd
-pub mod Laying
 pub mod Appending

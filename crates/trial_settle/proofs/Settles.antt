@@ -9,8 +9,7 @@ use Rattle.packing.specs.Padding.{all-zero, pad, zeros}
 use Rattle.lists.specs.Each.{every}
 use Rattle.packing.specs.Tables.{rows, things}
 use Rattle.packing.proofs.PaddingLaws.{front-cleared, pad-rest}
-use Rattle.packing.proofs.TableLaws.{length-rows}
-use Rattle.packing.proofs.Packings.{is-packs}
+use Rattle.packing.proofs.Packings.{is-packs, rows-are}
 use Rattle.book.specs.declared.Counts.{Counts}
 use Rattle.book.specs.Edits.{stands}
 use Rattle.book.specs.Layout.{Buffers, counts-of, counts-with, edit-form, edit-width, five, frame-of, laid-out, line-form, line-width}
@@ -44,7 +43,7 @@ module _ (c : Counts) (b : Buffers) (g : laid c b ≡ true) where
         total = c .pool;
         few-lines = t .limits .lines;
         few-bytes = t .limits .pool;
-        lines = is-packs line-form (line-laws (frame-of c)) (c .lines) (c .pool) (b .lines) (b .pool) (book-of c b .lines) (t .lines) .0;
+        lines = is-packs (line-laws (frame-of c)) (t .lines) .0;
       }
 
   -- none is struck, and nothing is changed
@@ -60,10 +59,8 @@ module _ (c : Counts) (b : Buffers) (g : laid c b ≡ true) where
   journal-zero =
       let t = laid-packs c b g .edits in
       let es = book-of c b .edits in
-      let n : edit-width * c .edits ≡ length (rows edit-form 0 es)
-      = ap (λ (k : ℕ). edit-width * k) (t .count) ∙ sym (length-rows edit-form edit-laws 0 es) in
       ap (λ (j : List ℕ). all-zero (drop (edit-width * c .edits) j)) (t .lined)
-      ∙ ap (λ (k : ℕ). all-zero (drop k (pad (length (b .journal)) (rows edit-form 0 es)))) n
+      ∙ ap (λ (k : ℕ). all-zero (drop k (pad (length (b .journal)) (rows edit-form 0 es)))) (rows-are edit-laws t)
       ∙ pad-rest (length (b .journal)) (rows edit-form 0 es)
 
   -- the lines that stand are packed, and the journal, whose edits' rows ys are cleared, is empty
@@ -75,7 +72,7 @@ module _ (c : Counts) (b : Buffers) (g : laid c b ≡ true) where
   unfolding settled book-of counts-of laid-out rows edited after
   settle-done x r d l′ p′ ys e s a q k =
       let t = laid-packs c b g in
-      let j = front-cleared (b .journal) ys (edit-width * c .edits) journal-room journal-zero q in
+      let j = front-cleared (b .journal) (edit-width * c .edits) journal-room journal-zero q in
       rw (← e, s, k) (
         λ i. answer.Done (record { kind = c .kind; nodes = t .nodes .count i; names = t .nodes .total i; lines = a .lines i; pool = a .pool i; edits = 0 }),
         λ i. record { nodes = t .nodes .lined i; names = t .nodes .pooled i; lines = a .lined i; pool = a .pooled i; journal = j i },

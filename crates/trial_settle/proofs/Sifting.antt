@@ -33,17 +33,15 @@ pub record Sifting (n : ℕ) (l₀ p₀ l p : List ℕ) (i read j written : ℕ)
   pub byteroom : asked .total ≤ length p
   pub midway : Midway line-form (things line-form n l₀ p₀) (standing (take i (things line-form n l₀ p₀))) l₀ p₀ l p i read j written
 
-module _ (n : ℕ) (l₀ p₀ : List ℕ) where
-  abbrev lines : List Line
-  lines = things line-form n l₀ p₀
-
-  packing : (a : Packed n l₀ p₀) → Packs line-form (line-ok (a .frame)) n (a .total) l₀ p₀ lines
+module _ {n : ℕ} {l₀ p₀ : List ℕ} where
+  packing : (a : Packed n l₀ p₀) → Packs line-form (line-ok (a .frame)) n (a .total) l₀ p₀ (things line-form n l₀ p₀)
   packing a = lines-packed (a .frame) n (a .total) l₀ p₀ (a .lines)
 
-  sifting : (a : Packed n l₀ p₀) (l p : List ℕ) (i read j written : ℕ) → read ≤ a .total
-      → Midway line-form lines (standing (take i lines)) l₀ p₀ l p i read j written → Sifting n l₀ p₀ l p i read j written
+  sifting : (a : Packed n l₀ p₀) {l p : List ℕ} {i read j written : ℕ} → read ≤ a .total
+      → Midway line-form (things line-form n l₀ p₀) (standing (take i (things line-form n l₀ p₀))) l₀ p₀ l p i read j written
+      → Sifting n l₀ p₀ l p i read j written
   unfolding line-form
-  sifting a l p i read j written h m =
+  sifting a h m =
       let t = packing a in
       record {
         asked = a;
@@ -59,9 +57,12 @@ module _ (n : ℕ) (l₀ p₀ : List ℕ) where
   -- nothing is read at first
   pub sift-starts : Packed n l₀ p₀ → Sifting n l₀ p₀ l₀ p₀ 0 0 0 0
   unfolding standing
-  sift-starts a = sifting a l₀ p₀ 0 0 0 0 (omega arith) (midway-start line-form (line-laws (a .frame)) n (a .total) l₀ p₀ lines (packing a))
+  sift-starts a = sifting a (omega arith) midway-start
 
-  module _ (l p : List ℕ) (i read j written : ℕ) (s : Sifting n l₀ p₀ l p i read j written) where
+  module _ {l p : List ℕ} {i read j written : ℕ} (s : Sifting n l₀ p₀ l p i read j written) where
+    abbrev lines : List Line
+    lines = things line-form n l₀ p₀
+
     module _ (h : i < n) where
       below : i < length lines
       below = omega (arith, packing (s .asked) .count)
@@ -69,10 +70,7 @@ module _ (n : ℕ) (l₀ p₀ : List ℕ) where
       -- the numbers of row i are those of line i, and so are the bytes from `read` on
       cell-now : (v : ℕ) → v < line-width → getD l (line-width * i + v) 0 ≡ getD (line-form .row read (line-at lines i)) v 0
       unfolding line-form
-      cell-now v g =
-          let a = s .asked in
-          midway-cell line-form (line-laws (a .frame)) n (a .total) l₀ p₀ lines (packing a) _
-          l p i read j written (s .midway) no-line below v g
+      cell-now v g = midway-cell (line-laws (s .asked .frame)) (packing (s .asked)) (s .midway) no-line below v g
 
       node-now : getD l (line-width * i) 0 ≡ line-at lines i .node
       unfolding line-form
@@ -88,9 +86,7 @@ module _ (n : ℕ) (l₀ p₀ : List ℕ) where
 
       bytes-now : take (length (line-at lines i .bytes)) (drop read p) ≡ line-at lines i .bytes
       unfolding line-form
-      bytes-now =
-          let a = s .asked in
-          midway-bytes line-form (line-laws (a .frame)) n (a .total) l₀ p₀ lines (packing a) _ l p i read j written (s .midway) no-line below
+      bytes-now = midway-bytes (packing (s .asked)) (s .midway) no-line below
 
       line-ranged : Ranged (s .asked .frame .nodes) (line-at lines i)
       line-ranged =
@@ -102,33 +98,28 @@ module _ (n : ℕ) (l₀ p₀ : List ℕ) where
       pub sift-fits : read + getD l (line-width * i + 3) 0 ≤ s .asked .total
       unfolding line-form
       sift-fits =
-          let a = s .asked in
-          let w : read + length (line-at lines i .bytes) ≤ a .total
-          = midway-within line-form (line-laws (a .frame)) n (a .total) l₀ p₀ lines (packing a) _
-          l p i read j written (s .midway) no-line below in
+          let w : read + length (line-at lines i .bytes) ≤ s .asked .total = midway-within (packing (s .asked)) (s .midway) no-line below in
           omega (arith, size-now)
 
       -- a struck line is left out
-      pub sift-skips : (x : Bool) → x ≡ has-mark (getD l (line-width * i + 1) 0) → x ≡ true
+      pub sift-skips : {x : Bool} → x ≡ has-mark (getD l (line-width * i + 1) 0) → x ≡ true
           → Sifting n l₀ p₀ l p (i + 1) (read + getD l (line-width * i + 3) 0) j written
       unfolding line-form
-      sift-skips x v t =
+      sift-skips v t =
           let a = s .asked in
           let g = leb-true struck-mark (getD l (line-width * i + 1) 0) (sym v ∙ t) in
           let f : line-at lines i .struck ≡ 0 → ⊥ = λ z. omega (arith, code-now, line-ranged) in
           let e : standing (take (i + 1) lines) ≡ standing (take i lines) = standing-struck lines i below (ne-eqb (line-at lines i .struck) 0 f) in
-          sifting a l p (i + 1) (read + getD l (line-width * i + 3) 0) j written sift-fits
-          (rw (e, size-now)
-          (midway-skip line-form (line-laws (a .frame)) n (a .total) l₀ p₀ lines (packing a) _ l p i read j written (s .midway) no-line below))
+          sifting a sift-fits (rw (e, size-now) (midway-skip (packing a) (s .midway) no-line below))
 
       -- a line that stands is packed
-      pub sift-keeps : (l′ p′ : List ℕ) (u : Bool) → u ≡ has-mark (getD l (line-width * i + 1) 0) → u ≡ false
-          → l′
-          ≡ paste l (line-width * j) (row-of-line (getD l (line-width * i) 0) (getD l (line-width * i + 1) 0) written (getD l (line-width * i + 3) 0)) line-width
+      pub sift-keeps : {l′ p′ : List ℕ} {u : Bool} → u ≡ has-mark (getD l (line-width * i + 1) 0) → u ≡ false
+          → l′ ≡ paste l (line-width * j) (row-of-line (getD l (line-width * i) 0) (getD l (line-width * i + 1) 0) written (getD l (line-width * i + 3) 0))
+          line-width
           → p′ ≡ paste p written (take (getD l (line-width * i + 3) 0) (drop read p)) (getD l (line-width * i + 3) 0)
           → Sifting n l₀ p₀ l′ p′ (i + 1) (read + getD l (line-width * i + 3) 0) (j + 1) (written + getD l (line-width * i + 3) 0)
       unfolding line-form
-      sift-keeps l′ p′ u v t el ep =
+      sift-keeps {l′} {p′} v t el ep =
           let a = s .asked in
           let g = leb-false struck-mark (getD l (line-width * i + 1) 0) (sym v ∙ t) in
           let x : Line = line-at lines i in
@@ -140,28 +131,25 @@ module _ (n : ℕ) (l₀ p₀ : List ℕ) where
           = ep
           ∙ ap (λ (k : ℕ). paste p written (take k (drop read p)) k) size-now
           ∙ ap (λ (b : List ℕ). paste p written b (length (x .bytes))) bytes-now in
-          sifting a l′ p′ (i + 1) (read + getD l (line-width * i + 3) 0) (j + 1) (written + getD l (line-width * i + 3) 0) sift-fits
-          (rw (e, size-now)
-          (midway-keep line-form (line-laws (a .frame)) n (a .total) l₀ p₀ lines (packing a) (standing (take i lines))
-          l p i read j written (s .midway) no-line below l′ p′ el′ ep′))
+          sifting a sift-fits (rw (e, size-now) (midway-keep (line-laws (a .frame)) (packing a) (s .midway) no-line below el′ ep′))
 
     -- all are read: ys and zs are what the cleared parts hold
-    pub sift-ends : (ys zs : List ℕ) → n ≤ i
+    pub sift-ends : {ys zs : List ℕ} → n ≤ i
         → ys ≡ zeros (length (take (line-width * n - line-width * j) (drop (line-width * j) l)))
         → zs ≡ zeros (length (take (read - written) (drop written p)))
         → Settled n l₀ p₀ (take (line-width * j) l ++ (ys ++ drop (line-width * n - line-width * j) (drop (line-width * j) l)))
         (take written p ++ (zs ++ drop (read - written) (drop written p)))
         (record { lines = j; pool = written })
     unfolding line-form
-    sift-ends ys zs h el ep =
+    sift-ends h el ep =
         let a = s .asked in
         let e : i ≡ n = omega (arith, s .within) in
         let t : take i lines ≡ lines = take-all i lines (omega (arith, packing a .count)) in
         record {
           lines = s .midway .count ∙ ap (λ (q : List Line). length (standing q)) t;
           pool = s .midway .total ∙ ap (λ (q : List Line). length (packed line-form (standing q))) t;
-          lined = midway-rows line-form (line-laws (a .frame)) n (a .total) l₀ p₀ lines (packing a) _ l p i read j written (s .midway) e ys el
+          lined = midway-rows (line-laws (a .frame)) (packing a) (s .midway) e el
               ∙ ap (λ (q : List Line). pad (length l₀) (rows line-form 0 (standing q))) t;
-          pooled = midway-packed line-form (line-laws (a .frame)) n (a .total) l₀ p₀ lines (packing a) _ l p i read j written (s .midway) e zs ep
+          pooled = midway-packed (packing a) (s .midway) e ep
               ∙ ap (λ (q : List Line). pad (length p₀) (packed line-form (standing q))) t;
         }

@@ -31,7 +31,7 @@ use Rattle.trial.proofs.Marks.{code-stands, code-struck, line-code, line-right,
 use Rattle.trial.proofs.Answers.{Shown, layout-answers, refusal-answers, shown}
 
 -- ---- what a strike makes of the book
-module _ (c : Counts) (b : Buffers) (w : Book) (t : Layout c b w) (i : ℕ) where
+module _ {c : Counts} {b : Buffers} {w : Book} (t : Layout c b w) (i : ℕ) where
   past-line : c .lines ≤ i → strike-line b w i ≡ no no-such
   unfolding strike-line
   past-line g = let f : length (w .lines) ≤ i = omega (arith, t .lines .count) in rw (le-ltb i (length (w .lines)) f)
@@ -39,26 +39,26 @@ module _ (c : Counts) (b : Buffers) (w : Book) (t : Layout c b w) (i : ℕ) wher
   module _ (h : i < c .lines) where
     struck-line : struck-mark ≤ getD (b .lines) (line-width * i + 1) 0 → strike-line b w i ≡ no no-such
     unfolding strike-line
-    struck-line g = rw (lt-ltb _ _ (line-within c b w t i h), code-struck c b w t i h g)
+    struck-line g = rw (lt-ltb _ _ (line-within t i h), code-struck t i h g)
 
     module _ (g : getD (b .lines) (line-width * i + 1) 0 < struck-mark) where
       no-row : edit-row (b .journal) (c .edits) ≡ false → strike-line b w i ≡ no no-room
       unfolding strike-line edit-room
-      no-row f = rw (lt-ltb _ _ (line-within c b w t i h), eq-eqb _ _ (code-stands c b w t i h g), ← t .edits .count, f)
+      no-row f = rw (lt-ltb _ _ (line-within t i h), eq-eqb _ _ (code-stands t i h g), ← t .edits .count, f)
 
       module _ (f : edit-row (b .journal) (c .edits) ≡ true) where
         a-row : strike-line b w i ≡ to (with-strike w i)
         unfolding strike-line edit-room
-        a-row = rw (lt-ltb _ _ (line-within c b w t i h), eq-eqb _ _ (code-stands c b w t i h g), ← t .edits .count, f)
+        a-row = rw (lt-ltb _ _ (line-within t i h), eq-eqb _ _ (code-stands t i h g), ← t .edits .count, f)
 
-        struck-layout : (l′ j′ : List ℕ) → l′ ≡ set (b .lines) (line-width * i + 1) (getD (b .lines) (line-width * i + 1) 0 + struck-mark)
+        struck-layout : {l′ j′ : List ℕ} → l′ ≡ set (b .lines) (line-width * i + 1) (getD (b .lines) (line-width * i + 1) 0 + struck-mark)
             → j′ ≡ paste (b .journal) (edit-width * c .edits) (strike ∷ i ∷ []) edit-width
             → Layout (counts-with c (c .lines) (c .pool) (c .edits + 1)) (five (b .nodes) (b .names) l′ (b .pool) j′) (with-strike w i)
         unfolding line-form edit-form edit-ok
-        struck-layout l′ j′ el ej =
+        struck-layout el ej =
             let x = line-at (w .lines) i in
             let s : getD (b .lines) (line-width * i + 1) 0 + struck-mark ≡ code-of (marked 1 x)
-            = omega (arith, line-code c b w t i h, code-stands c b w t i h g) in
+            = omega (arith, line-code t i h, code-stands t i h g) in
             record {
               kind = t .kind;
               limits = record {
@@ -68,11 +68,10 @@ module _ (c : Counts) (b : Buffers) (w : Book) (t : Layout c b w) (i : ℕ) wher
                 edits = omega (arith, edit-refusal (b .journal) (c .edits) f);
               };
               nodes = t .nodes;
-              lines = set-thing line-form (line-laws (frame-of c)) (c .lines) (c .pool) (b .lines) (b .pool) (w .lines) (t .lines) i no-line
-                  (line-within c b w t i h) 1 _
-                  (marked 1 x) l′ (omega arith) (marked-ok (frame-of c) 1 x (omega arith) (line-right c b w t i h)) refl
+              lines = set-thing (line-laws (frame-of c)) (t .lines) i no-line (line-within t i h) 1 _
+                  (marked 1 x) (omega arith) (marked-ok (frame-of c) 1 x (omega arith) (line-right t i h)) refl
                   (λ o. ap (λ (k : ℕ). row-of-line (x .node) k o (length (x .bytes))) s) el;
-              edits = put-thing edit-form edit-laws (c .edits) 0 (b .journal) [] (w .edits) (t .edits) (record { what = strike; line = i }) j′ [] refl
+              edits = put-thing edit-laws (t .edits) (record { what = strike; line = i }) refl
                   (omega (arith, edit-within (b .journal) (c .edits) f)) (omega arith) ej refl;
             }
 
@@ -108,24 +107,24 @@ module _ (c : Counts) (b : Buffers) (i : ℕ) (x : Bool) (e : x ≡ holds c b) w
       asks-line = rw (shown c b x e h .viewed, ne-eqb _ _ k)
 
       pub strike-past : c .lines ≤ i → Strikes c b i (answer.Refused no-such) b
-      strike-past g = refusal-answers b _ no-such (asks-line ∙ past-line c b _ (shown c b x e h .layout) i g)
+      strike-past g = refusal-answers b _ no-such (asks-line ∙ past-line (shown c b x e h .layout) i g)
 
       pub strike-told : i < c .lines → Told c b i
       strike-told g = record { book = shown c b x e h; asks = asks-line; within = g }
 
 module _ {c : Counts} {b : Buffers} {i : ℕ} (t : Told c b i) where
   pub strike-line-room : line-width * i + 1 < length (b .lines)
-  strike-line-room = omega (arith, line-room c b _ (t .book .layout) i (t .within))
+  strike-line-room = omega (arith, line-room (t .book .layout) i (t .within))
 
   module _ (x : Bool) (e : x ≡ has-mark (getD (b .lines) (line-width * i + 1) 0)) where
     pub strike-struck : x ≡ true → Strikes c b i (answer.Refused no-such) b
-    strike-struck h = refusal-answers b _ no-such (t .asks ∙ struck-line c b _ (t .book .layout) i (t .within) (leb-true _ _ (sym e ∙ h)))
+    strike-struck h = refusal-answers b _ no-such (t .asks ∙ struck-line (t .book .layout) i (t .within) (leb-true _ _ (sym e ∙ h)))
 
     module _ (h : x ≡ false) (y : Bool) (f : y ≡ edit-row (b .journal) (c .edits)) where
       pub strike-no-room : not y ≡ true → Strikes c b i (answer.Refused no-room) b
       strike-no-room o =
           refusal-answers b _ no-room
-          (t .asks ∙ no-row c b _ (t .book .layout) i (t .within) (leb-false _ _ (sym e ∙ h)) (sym f ∙ not-true y o))
+          (t .asks ∙ no-row (t .book .layout) i (t .within) (leb-false _ _ (sym e ∙ h)) (sym f ∙ not-true y o))
 
       pub strike-roomy : not y ≡ false → Roomy c b i
       strike-roomy o = record { told = t; stands = leb-false _ _ (sym e ∙ h); row = sym f ∙ not-false y o }
@@ -145,8 +144,8 @@ module _ {c : Counts} {b : Buffers} {i : ℕ} (r : Roomy c b i) where
       let t = r .told in
       rw ed
       (layout-answers _ b (five (b .nodes) (b .names) l′ (b .pool) j′) _ _
-      (t .asks ∙ a-row c b _ (t .book .layout) i (t .within) (r .stands) (r .row))
-      (struck-layout c b _ (t .book .layout) i (t .within) (r .stands) (r .row) l′ j′ el ej)
+      (t .asks ∙ a-row (t .book .layout) i (t .within) (r .stands) (r .row))
+      (struck-layout (t .book .layout) i (t .within) (r .stands) (r .row) el ej)
       (record {
         nodes = refl;
         names = refl;

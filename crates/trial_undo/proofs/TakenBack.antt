@@ -90,7 +90,7 @@ last-apart xs k d e =
     sym (take-length xs) ∙ ap (λ (m : ℕ). take m xs) z ∙ take-suc xs k d (omega arith)
 
 -- ---- what stands in the buffers of a book with an edit
-module _ (c : Counts) (b : Buffers) (w : Book) (t : Layout c b w) (f : journal-fits (w .edits) (w .lines) ≡ true) (z : c .edits ≡ 0 → ⊥) where
+module _ {c : Counts} {b : Buffers} {w : Book} (t : Layout c b w) (f : journal-fits (w .edits) (w .lines) ≡ true) (z : c .edits ≡ 0 → ⊥) where
   abbrev behind : ℕ
   behind = length (w .edits) - 1
 
@@ -115,7 +115,7 @@ module _ (c : Counts) (b : Buffers) (w : Book) (t : Layout c b w) (f : journal-f
   unfolding edit-form
   edit-cell k h =
       ap (λ (m : ℕ). getD (b .journal) (edit-width * m + k) 0) (sym behind-is)
-      ∙ row-cell edit-form edit-laws (c .edits) 0 (b .journal) [] (w .edits) (t .edits) behind _ (omega (arith, some-edits)) k h
+      ∙ row-cell edit-laws (t .edits) behind _ (omega (arith, some-edits)) k h
 
   edit-what : what-told c (b .journal) ≡ latest (w .edits) .what
   edit-what =
@@ -129,12 +129,11 @@ module _ (c : Counts) (b : Buffers) (w : Book) (t : Layout c b w) (f : journal-f
   unfolding undo-asked without-latest
   undone ls e = let n : length (w .edits) ≡ 0 → ⊥ = λ q. omega (arith, q, some-edits) in rw (ne-eqb _ _ n, e)
 
-  edits-behind : (j′ : List ℕ) → j′ ≡ journal-back c (b .journal) → Packs edit-form edit-ok (c .edits - 1) 0 j′ [] (take behind (w .edits))
+  edits-behind : {j′ : List ℕ} → j′ ≡ journal-back c (b .journal) → Packs edit-form edit-ok (c .edits - 1) 0 j′ [] (take behind (w .edits))
   unfolding edit-form journal-back
-  edits-behind j′ e =
-      unput-thing edit-form edit-laws (c .edits) 0 (b .journal) [] (w .edits) (t .edits) (latest (w .edits)) (c .edits - 1) 0 (take behind (w .edits)) j′ []
-      last-edit (sym behind-is ∙ sym (length-take-le behind (w .edits) (omega (arith, some-edits)))) (ap length (sym (no-bytes (take behind (w .edits)))))
-      e refl
+  edits-behind e =
+      unput-thing edit-laws (t .edits) (latest (w .edits)) last-edit
+      (sym behind-is ∙ sym (length-take-le behind (w .edits) (omega (arith, some-edits)))) (ap length (sym (no-bytes (take behind (w .edits))))) e refl
 
   -- the line that the edit tells
   abbrev i : ℕ
@@ -153,26 +152,24 @@ module _ (c : Counts) (b : Buffers) (w : Book) (t : Layout c b w) (f : journal-f
 
     start-told : start-of (b .lines) i ≡ length (packed line-form (take i (w .lines)))
     unfolding line-form
-    start-told =
-        row-cell line-form (line-laws (frame-of c)) (c .lines) (c .pool) (b .lines) (b .pool) (w .lines) (t .lines) i no-line
-        (line-within c b w t i added-at) 2 (omega arith)
+    start-told = row-cell (line-laws (frame-of c)) (t .lines) i no-line (line-within t i added-at) 2 (omega arith)
 
     ends-told : c .pool ≡ start-of (b .lines) i + length (line-at (w .lines) i .bytes)
     unfolding line-form
     ends-told =
-        let k = packed-next line-form (line-laws (frame-of c)) (w .lines) i no-line (line-within c b w t i added-at) in
+        let k = packed-next line-form (w .lines) i no-line (line-within t i added-at) in
         let a : take (i + 1) (w .lines) ≡ w .lines = rw (← last-line .0) (take-length (w .lines)) in
         let n = ap (λ (xs : List Line). length (packed line-form xs)) a in
         omega (arith, t .lines .total, k, n, start-told)
 
     add-room : (line-width * i + line-width ≤ length (b .lines)) × (start-of (b .lines) i ≤ c .pool) × (c .pool ≤ length (b .pool)) × (1 ≤ c .lines)
-    add-room = (line-room c b w t i added-at, omega (arith, ends-told), t .lines .byteroom, omega (arith, added-at))
+    add-room = (line-room t i added-at, omega (arith, ends-told), t .lines .byteroom, omega (arith, added-at))
 
-    added-layout : (l′ p′ j′ : List ℕ) → l′ ≡ row-back (b .lines) i → p′ ≡ emptied (b .pool) (start-of (b .lines) i) (c .pool)
+    added-layout : {l′ p′ j′ : List ℕ} → l′ ≡ row-back (b .lines) i → p′ ≡ emptied (b .pool) (start-of (b .lines) i) (c .pool)
         → j′ ≡ journal-back c (b .journal)
         → Layout (counts-with c (c .lines - 1) (start-of (b .lines) i) (c .edits - 1)) (five (b .nodes) (b .names) l′ p′ j′) (without (take i (w .lines)))
     unfolding line-form
-    added-layout l′ p′ j′ el ep ej =
+    added-layout el ep ej =
         let s = start-of (b .lines) i in
         let k : c .pool - s ≡ length (line-at (w .lines) i .bytes) = omega (arith, ends-told) in
         let q : i ≡ c .lines - 1 = omega (arith, t .lines .count, last-line .0) in
@@ -185,11 +182,10 @@ module _ (c : Counts) (b : Buffers) (w : Book) (t : Layout c b w) (f : journal-f
             edits = omega (arith, t .limits .edits);
           };
           nodes = t .nodes;
-          lines = unput-thing line-form (line-laws (frame-of c)) (c .lines) (c .pool) (b .lines) (b .pool) (w .lines) (t .lines)
-              (line-at (w .lines) i) (c .lines - 1) s (take i (w .lines)) l′ p′ (last-apart (w .lines) i no-line (last-line .0))
+          lines = unput-thing (line-laws (frame-of c)) (t .lines) (line-at (w .lines) i) (last-apart (w .lines) i no-line (last-line .0))
               (sym q ∙ sym (length-take-le i (w .lines) (omega (arith, last-line .0)))) start-told
               (el ∙ ap (row-back (b .lines)) q) (ep ∙ ap (λ (m : ℕ). paste (b .pool) s (zeros m) m) k);
-          edits = edits-behind j′ ej;
+          edits = edits-behind ej;
         }
 
   -- ---- a strike
@@ -203,28 +199,28 @@ module _ (c : Counts) (b : Buffers) (w : Book) (t : Layout c b w) (f : journal-f
 
     struck-code : code-told (b .lines) i ≡ code-of (marked 0 (line-at (w .lines) i)) + struck-mark
     struck-code =
-        let r = line-ranged c b w t i struck-at in
+        let r = line-ranged t i struck-at in
         let s : line-at (w .lines) i .struck ≡ 1 = omega (arith, r .struck, struck-line .1) in
-        omega (arith, line-code c b w t i struck-at, s)
+        omega (arith, line-code t i struck-at, s)
 
     strike-room : (line-width * i + line-width ≤ length (b .lines)) × (struck-mark ≤ code-told (b .lines) i)
-    strike-room = (line-room c b w t i struck-at, omega (arith, struck-code))
+    strike-room = (line-room t i struck-at, omega (arith, struck-code))
 
-    stood-layout : (l′ j′ : List ℕ) → l′ ≡ unstruck (b .lines) i → j′ ≡ journal-back c (b .journal)
+    stood-layout : {l′ j′ : List ℕ} → l′ ≡ unstruck (b .lines) i → j′ ≡ journal-back c (b .journal)
         → Layout (counts-with c (c .lines) (c .pool) (c .edits - 1)) (five (b .nodes) (b .names) l′ (b .pool) j′)
         (without (set (w .lines) i (marked 0 (line-at (w .lines) i))))
     unfolding line-form
-    stood-layout l′ j′ el ej =
+    stood-layout el ej =
         let x = line-at (w .lines) i in
         let s : code-told (b .lines) i - struck-mark ≡ code-of (marked 0 x) = omega (arith, struck-code) in
         record {
           kind = t .kind;
           limits = record { nodes = t .limits .nodes; lines = t .limits .lines; pool = t .limits .pool; edits = omega (arith, t .limits .edits) };
           nodes = t .nodes;
-          lines = set-thing line-form (line-laws (frame-of c)) (c .lines) (c .pool) (b .lines) (b .pool) (w .lines) (t .lines) i no-line
-              (struck-line .0) 1 _ (marked 0 x) l′ (omega arith) (marked-ok (frame-of c) 0 x (omega arith) (line-right c b w t i struck-at)) refl
+          lines = set-thing (line-laws (frame-of c)) (t .lines) i no-line
+              (struck-line .0) 1 _ (marked 0 x) (omega arith) (marked-ok (frame-of c) 0 x (omega arith) (line-right t i struck-at)) refl
               (λ o. ap (λ (k : ℕ). row-of-line (x .node) k o (length (x .bytes))) s) el;
-          edits = edits-behind j′ ej;
+          edits = edits-behind ej;
         }
 
 -- ---- undo_latest: r is answered, and b′ left
@@ -248,15 +244,15 @@ module _ {c : Counts} {b : Buffers} (here : Shown c b) (z : c .edits ≡ 0 → �
   pub undo-able : Undoable c (b .lines) (b .pool) (b .journal)
   undo-able = record {
     some-edit = omega (arith, z);
-    row = row-there c b _ (here .layout) (here .fitting) z;
-    of-add = add-room c b _ (here .layout) (here .fitting) z;
-    of-strike = strike-room c b _ (here .layout) (here .fitting) z;
+    row = row-there (here .layout) (here .fitting) z;
+    of-add = add-room (here .layout) (here .fitting) z;
+    of-strike = strike-room (here .layout) (here .fitting) z;
   }
 
   -- and what that comes to
   asks : (ls : List Line) → take-back (latest (book-of c b .edits)) (book-of c b .lines) ≡ some ls
-      → undo-asked (view c b) ≡ to (without c b _ (here .layout) (here .fitting) z ls)
-  asks ls e = ap undo-asked (here .viewed) ∙ undone c b _ (here .layout) (here .fitting) z ls e
+      → undo-asked (view c b) ≡ to (without (here .layout) (here .fitting) z ls)
+  asks ls e = ap undo-asked (here .viewed) ∙ undone (here .layout) (here .fitting) z ls e
 
   same-journal : (j′ : List ℕ) → j′ ≡ journal-back c (b .journal) → length j′ ≡ length (b .journal)
   unfolding journal-back
@@ -273,8 +269,8 @@ module _ {c : Counts} {b : Buffers} (here : Shown c b) (z : c .edits ≡ 0 → �
         let q : s + (c .pool - s) ≤ length (b .pool) = omega (arith, r) in
         let o : length (zeros (c .pool - s)) ≡ c .pool - s = length-replicate (c .pool - s) 0 in
         layout-answers _ b (five (b .nodes) (b .names) l′ p′ j′) _ _
-        (asks _ (last-line c b _ (here .layout) (here .fitting) z g .1))
-        (added-layout c b _ (here .layout) (here .fitting) z g l′ p′ j′ el ep ej)
+        (asks _ (last-line (here .layout) (here .fitting) z g .1))
+        (added-layout (here .layout) (here .fitting) z g el ep ej)
         (record {
           nodes = refl;
           names = refl;
@@ -287,8 +283,8 @@ module _ {c : Counts} {b : Buffers} (here : Shown c b) (z : c .edits ≡ 0 → �
         → Undoes c b (answer.Done (counts-with c (c .lines) (c .pool) (c .edits - 1))) (five (b .nodes) (b .names) l′ (b .pool) j′)
     undo-struck g el =
         layout-answers _ b (five (b .nodes) (b .names) l′ (b .pool) j′) _ _
-        (asks _ (struck-line c b _ (here .layout) (here .fitting) z g .2))
-        (stood-layout c b _ (here .layout) (here .fitting) z g l′ j′ el ej)
+        (asks _ (struck-line (here .layout) (here .fitting) z g .2))
+        (stood-layout (here .layout) (here .fitting) z g el ej)
         (record {
           nodes = refl;
           names = refl;

@@ -9,7 +9,7 @@ add-t22 : tie.Need-add-t22
 add-t22 c =
     let at-args = c .before .before .before .before .before .before .before .before .before .before .before .before .before .before .before .before .before .before .before in
     let known = at-args .good in
-    blank-fits (at-args .args .line .now) _ _ (c .before .byte-at3 .ensures) (c .if3 .left) (omega arith)
+    blank-fits (at-args .args .line .now) _ (c .before .byte-at3 .ensures) (c .if3 .left) (omega arith)
 
 pub add-command-spec : {M : Type 1} → statement M
 add-command-spec =

@@ -25,7 +25,7 @@ returns c =
     let a = at-args .args in
     let p = at-put-spaced .put-spaced in
     let q = at-put-text .put-text in
-    numbered-put (a .out .now) (a .n) (p .last .0) (q .last .0) (p .result) (q .result) (a .word .now) (at-args .pre) (p .ensures) (q .ensures)
+    numbered-put (a .out .now) (a .n) (a .word .now) (at-args .pre) (p .ensures) (q .ensures)
 
 pub put-numbered-spec : {M : Type 1} → statement M
 put-numbered-spec =

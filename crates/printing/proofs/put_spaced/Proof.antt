@@ -14,8 +14,7 @@ returns c =
     let p = at-put-text .put-text in
     let q = at-put-text2 .put-text2 in
     let s = at-put-number .put-number in
-    spaced-put (a .out .now) (a .n) (p .last .0) (q .last .0) (s .last .0) (p .result) (q .result) (s .result) (a .at) (a .word .now) (at-args .pre)
-    (p .ensures) (q .ensures) (s .ensures)
+    spaced-put (a .out .now) (a .n) (a .at) (a .word .now) (at-args .pre) (p .ensures) (q .ensures) (s .ensures)
 
 pub put-spaced-spec : {M : Type 1} → statement M
 put-spaced-spec =

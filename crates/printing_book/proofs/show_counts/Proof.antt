@@ -23,7 +23,7 @@ abbrev start : tie.After-put-spaced → tie.Start
 start c = c .before .before .before .before
 
 kind : (c : tie.After-put-spaced) → Stands (start c) 15 to-kind (c .put-spaced .last .0) (c .put-spaced .result)
-kind c = spaced-placed _ 0 kind-word (start c .args .c .kind) _ _ (omega (arith, ample (start c))) (c .put-spaced .ensures)
+kind c = spaced-placed _ 0 kind-word (start c .args .c .kind) (omega (arith, ample (start c))) (c .put-spaced .ensures)
 
 -- behind the second
 abbrev start2 : tie.After-put-spaced2 → tie.Start
@@ -32,7 +32,7 @@ start2 c = start (c .before .before .before .before .before)
 nodes : (c : tie.After-put-spaced2) → Stands (start2 c) 32 to-nodes (c .put-spaced2 .last .0) (c .put-spaced2 .result)
 nodes c =
     let p = kind (c .before .before .before .before .before) in
-    spaced-behind p (space ∷ nodes-word) (start2 c .args .c .nodes) _ _ (omega (arith, ample (start2 c))) (c .put-spaced2 .ensures)
+    spaced-behind p (space ∷ nodes-word) (start2 c .args .c .nodes) (omega (arith, ample (start2 c))) (c .put-spaced2 .ensures)
 
 -- behind the third
 abbrev start3 : tie.After-put-spaced3 → tie.Start
@@ -41,7 +41,7 @@ start3 c = start2 (c .before .before .before .before .before)
 names : (c : tie.After-put-spaced3) → Stands (start3 c) 49 to-names (c .put-spaced3 .last .0) (c .put-spaced3 .result)
 names c =
     let p = nodes (c .before .before .before .before .before) in
-    spaced-behind p (space ∷ names-word) (start3 c .args .c .names) _ _ (omega (arith, ample (start3 c))) (c .put-spaced3 .ensures)
+    spaced-behind p (space ∷ names-word) (start3 c .args .c .names) (omega (arith, ample (start3 c))) (c .put-spaced3 .ensures)
 
 -- behind the fourth
 abbrev start4 : tie.After-put-spaced4 → tie.Start
@@ -50,7 +50,7 @@ start4 c = start3 (c .before .before .before .before .before)
 lines : (c : tie.After-put-spaced4) → Stands (start4 c) 66 to-lines (c .put-spaced4 .last .0) (c .put-spaced4 .result)
 lines c =
     let p = names (c .before .before .before .before .before) in
-    spaced-behind p (space ∷ lines-word) (start4 c .args .c .lines) _ _ (omega (arith, ample (start4 c))) (c .put-spaced4 .ensures)
+    spaced-behind p (space ∷ lines-word) (start4 c .args .c .lines) (omega (arith, ample (start4 c))) (c .put-spaced4 .ensures)
 
 -- behind the fifth
 abbrev start5 : tie.After-put-spaced5 → tie.Start
@@ -59,7 +59,7 @@ start5 c = start4 (c .before .before .before .before .before)
 pool : (c : tie.After-put-spaced5) → Stands (start5 c) 82 to-pool (c .put-spaced5 .last .0) (c .put-spaced5 .result)
 pool c =
     let p = lines (c .before .before .before .before .before) in
-    spaced-behind p (space ∷ pool-word) (start5 c .args .c .pool) _ _ (omega (arith, ample (start5 c))) (c .put-spaced5 .ensures)
+    spaced-behind p (space ∷ pool-word) (start5 c .args .c .pool) (omega (arith, ample (start5 c))) (c .put-spaced5 .ensures)
 
 -- behind the sixth
 abbrev start6 : tie.After-put-spaced6 → tie.Start
@@ -68,7 +68,7 @@ start6 c = start5 (c .before .before .before .before .before)
 edits : (c : tie.After-put-spaced6) → Stands (start6 c) 99 to-edits (c .put-spaced6 .last .0) (c .put-spaced6 .result)
 edits c =
     let p = pool (c .before .before .before .before .before) in
-    spaced-behind p (space ∷ edits-word) (start6 c .args .c .edits) _ _ (omega (arith, ample (start6 c))) (c .put-spaced6 .ensures)
+    spaced-behind p (space ∷ edits-word) (start6 c .args .c .edits) (omega (arith, ample (start6 c))) (c .put-spaced6 .ensures)
 
 -- ---- the needs
 put-spaced-requires : tie.Need-put-spaced-requires
@@ -109,13 +109,13 @@ same-length : tie.Need-same-length
 same-length c =
     let q = c .before .before in
     let p = q .before .before .before .before .before in
-    counts-long (start6 p .args .c) (ample (start6 p)) (edits p) _ _ (q .put-text .ensures)
+    counts-long (start6 p .args .c) (ample (start6 p)) (edits p) (q .put-text .ensures)
 
 returns : tie.Need-returns
 returns c =
     let q = c .before .before in
     let p = q .before .before .before .before .before in
-    counts-put (start6 p .args .c) (ample (start6 p)) (edits p) _ _ (q .put-text .ensures)
+    counts-put (start6 p .args .c) (ample (start6 p)) (edits p) (q .put-text .ensures)
 
 pub show-counts-spec : {M : Type 1} → statement M
 show-counts-spec =

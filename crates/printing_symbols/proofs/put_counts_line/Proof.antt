@@ -35,9 +35,7 @@ returns c =
     let s = at-put-text2 .put-text2 in
     let t = at-put-number2 .put-number2 in
     let u = at-put-text3 .put-text3 in
-    counts-line-put (a .out .now) (a .n) (a .p) (p .last .0) (q .last .0) (s .last .0) (t .last .0) (u .last .0) (p .result)
-    (q .result) (s .result) (t .result) (u .result) (at-args .pre) (p .ensures) (q .ensures) (s .ensures) (t .ensures)
-    (u .ensures)
+    counts-line-put (a .out .now) (a .n) (a .p) (at-args .pre) (p .ensures) (q .ensures) (s .ensures) (t .ensures) (u .ensures)
 
 pub put-counts-line-spec : {M : Type 1} → statement M
 put-counts-line-spec =

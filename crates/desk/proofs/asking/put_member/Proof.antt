@@ -19,10 +19,8 @@ returns c =
     let at-put-text = at-put-text2 .before .before .before .before .before in
     let at-args = at-put-text .before .before .before .before in
     let a = at-args .args in
-    within-put (a .out .now) (a .name .now) (a .m) (at-put-text .put-text .last .0) (at-put-text2 .put-text2 .last .0)
-    (at-put-text .put-text .result) (at-put-text2 .put-text2 .result) (at-args .pre) (at-put-text .put-text .ensures)
-    (at-put-text2 .put-text2 .ensures) _ (at-put-text3 .put-text3 .result) (at-enum-told .enum-told .given .1)
-    (at-put-text3 .put-text3 .ensures)
+    within-put (a .out .now) (a .name .now) (a .m) (at-args .pre) (at-put-text .put-text .ensures) (at-put-text2 .put-text2 .ensures)
+    (at-enum-told .enum-told .given .1) (at-put-text3 .put-text3 .ensures)
 
 returns-2 : tie.Need-returns-2
 returns-2 c =
@@ -32,10 +30,8 @@ returns-2 c =
     let at-put-text = at-put-text2 .before .before .before .before .before in
     let at-args = at-put-text .before .before .before .before in
     let a = at-args .args in
-    without-put (a .out .now) (a .name .now) (a .m) (at-put-text .put-text .last .0) (at-put-text2 .put-text2 .last .0)
-    (at-put-text .put-text .result) (at-put-text2 .put-text2 .result) (at-args .pre) (at-put-text .put-text .ensures)
-    (at-put-text2 .put-text2 .ensures) _ (at-put-text4 .put-text4 .result) (at-enum-told2 .enum-told2 .given .1)
-    (at-put-text4 .put-text4 .ensures)
+    without-put (a .out .now) (a .name .now) (a .m) (at-args .pre) (at-put-text .put-text .ensures) (at-put-text2 .put-text2 .ensures)
+    (at-enum-told2 .enum-told2 .given .1) (at-put-text4 .put-text4 .ensures)
 
 returns-3 : tie.Need-returns-3
 returns-3 c =
@@ -46,11 +42,8 @@ returns-3 c =
     let at-put-text = at-put-text2 .before .before .before .before .before in
     let at-args = at-put-text .before .before .before .before in
     let a = at-args .args in
-    refused-put (a .out .now) (a .name .now) (a .m) (at-put-text .put-text .last .0) (at-put-text2 .put-text2 .last .0)
-    (at-put-text .put-text .result) (at-put-text2 .put-text2 .result) (at-args .pre) (at-put-text .put-text .ensures)
-    (at-put-text2 .put-text2 .ensures) _ (at-put-refused-fields .put-refused-fields .last .0) _
-    (at-put-refused-fields .put-refused-fields .result) (at-put-text5 .put-text5 .result) (at-m .m .given .1)
-    (at-put-refused-fields .put-refused-fields .ensures) (at-put-text5 .put-text5 .ensures)
+    refused-put (a .out .now) (a .name .now) (a .m) (at-args .pre) (at-put-text .put-text .ensures) (at-put-text2 .put-text2 .ensures)
+    (at-m .m .given .1) (at-put-refused-fields .put-refused-fields .ensures) (at-put-text5 .put-text5 .ensures)
 
 pub put-member-spec : {M : Type 1} → statement M
 put-member-spec =

@@ -24,7 +24,7 @@ returns c =
     let p = q .before .before .before .before in
     let s = p .before .before .before .before .before .before .before in
     let a = s .args in
-    pair-put (a .out .now) (a .at) (a .word .now) (a .n) (a .l .now) (a .second .now) (a .m) (a .bytes .now) _ _ _ _ (s .pre .2)
+    pair-put (a .out .now) (a .at) (a .word .now) (a .n) (a .l .now) (a .second .now) (a .m) (a .bytes .now) (s .pre .2)
     (p .before .before .shared-slice-known4 .given) (p .put-buffer .ensures) (q .put-byte-buffer .ensures)
 
 pub put-pair-spec : {M : Type 1} → statement M

@@ -29,28 +29,28 @@ put-pair-requires-2 : tie.Need-put-pair-requires-2
 put-pair-requires-2 c κs =
     let p = c .before .before .before .before .before .before .before in
     let k = ready (p .before) in
-    (k .held .lines, k .held .pool, lines-room k _ _ (p .put-pair .ensures))
+    (k .held .lines, k .held .pool, lines-room k (p .put-pair .ensures))
 
 put-buffer-requires : tie.Need-put-buffer-requires
 put-buffer-requires c κs =
     let q = c .before .before .before .before .before in
     let p = q .before .before .before .before .before .before .before .before in
     let k = ready (p .before) in
-    (k .held .journal, journal-room k _ _ (p .put-pair .ensures) _ _ (q .put-pair2 .ensures))
+    (k .held .journal, journal-room k (p .put-pair .ensures) (q .put-pair2 .ensures))
 
 same-length : tie.Need-same-length
 same-length c =
     let u = c .before .before in
     let q = u .before .before .before .before .before .before in
     let p = q .before .before .before .before .before .before .before .before in
-    dump-long (ready (p .before)) _ _ (p .put-pair .ensures) _ _ (q .put-pair2 .ensures) _ _ (u .put-buffer .ensures)
+    dump-long (ready (p .before)) (p .put-pair .ensures) (q .put-pair2 .ensures) (u .put-buffer .ensures)
 
 returns : tie.Need-returns
 returns c =
     let u = c .before .before in
     let q = u .before .before .before .before .before .before in
     let p = q .before .before .before .before .before .before .before .before in
-    dump-put (ready (p .before)) _ _ (p .put-pair .ensures) _ _ (q .put-pair2 .ensures) _ _ (u .put-buffer .ensures)
+    dump-put (ready (p .before)) (p .put-pair .ensures) (q .put-pair2 .ensures) (u .put-buffer .ensures)
 
 pub show-dump-spec : {M : Type 1} → statement M
 show-dump-spec =

@@ -27,7 +27,7 @@ abbrev start : tie.After-put-spaced → tie.Start
 start c = parted c .before .before .before .before .before
 
 node : (c : tie.After-put-spaced) → Stands (start c) 11 to-node (c .put-spaced .last .0) (c .put-spaced .result)
-node c = spaced-placed _ _ [] (line (start c) .node) _ _ (omega (arith, start c .pre .0)) (c .put-spaced .ensures)
+node c = spaced-placed _ _ [] (line (start c) .node) (omega (arith, start c .pre .0)) (c .put-spaced .ensures)
 
 -- behind the second
 abbrev start2 : tie.After-put-spaced2 → tie.Start
@@ -36,7 +36,7 @@ start2 c = start (c .before .before .before .before .before)
 class : (c : tie.After-put-spaced2) → Stands (start2 c) 22 to-class (c .put-spaced2 .last .0) (c .put-spaced2 .result)
 class c =
     let q = c .before .before .before .before .before in
-    told-behind (node q) [] (line (start2 c) .class) _ _ (omega (arith, start2 c .pre .0)) (c .put-spaced2 .ensures) (parted q .before .before .class-of .ensures)
+    told-behind (node q) [] (line (start2 c) .class) (omega (arith, start2 c .pre .0)) (c .put-spaced2 .ensures) (parted q .before .before .class-of .ensures)
 
 -- behind the third
 abbrev start3 : tie.After-put-spaced3 → tie.Start
@@ -46,7 +46,7 @@ section : (c : tie.After-put-spaced3) → Stands (start3 c) 33 to-section (c .pu
 section c =
     let q = c .before .before .before .before .before in
     let e = parted (q .before .before .before .before .before) .before .section-of .ensures in
-    told-behind (class q) [] (line (start3 c) .section) _ _ (omega (arith, start3 c .pre .0)) (c .put-spaced3 .ensures) e
+    told-behind (class q) [] (line (start3 c) .section) (omega (arith, start3 c .pre .0)) (c .put-spaced3 .ensures) e
 
 -- behind the fourth
 abbrev start4 : tie.After-put-spaced4 → tie.Start
@@ -56,7 +56,7 @@ language : (c : tie.After-put-spaced4) → Stands (start4 c) 44 to-language (c .
 language c =
     let q = c .before .before .before .before .before in
     let e = parted (q .before .before .before .before .before .before .before .before .before .before) .language-of .ensures in
-    told-behind (section q) [] (line (start4 c) .language) _ _ (omega (arith, start4 c .pre .0)) (c .put-spaced4 .ensures) e
+    told-behind (section q) [] (line (start4 c) .language) (omega (arith, start4 c .pre .0)) (c .put-spaced4 .ensures) e
 
 -- behind the fifth
 abbrev start5 : tie.After-put-spaced5 → tie.Start
@@ -65,7 +65,7 @@ start5 c = start4 (c .before .before .before .before .before)
 struck : (c : tie.After-put-spaced5) → Stands (start5 c) 55 to-struck (c .put-spaced5 .last .0) (c .put-spaced5 .result)
 struck c =
     let p = language (c .before .before .before .before .before) in
-    spaced-behind p [] (line (start5 c) .struck) _ _ (omega (arith, start5 c .pre .0)) (c .put-spaced5 .ensures)
+    spaced-behind p [] (line (start5 c) .struck) (omega (arith, start5 c .pre .0)) (c .put-spaced5 .ensures)
 
 -- ---- the needs
 put-spaced-requires-2 : tie.Need-put-spaced-requires-2
@@ -98,7 +98,7 @@ returns c =
     let q = c .before .before in
     let p = q .before .before .before .before .before in
     let x = line (start5 p) in
-    fields-put x (spaced-behind (struck p) [] (length (x .bytes)) _ _ (omega (arith, start5 p .pre .0)) (q .put-spaced6 .ensures))
+    fields-put x (spaced-behind (struck p) [] (length (x .bytes)) (omega (arith, start5 p .pre .0)) (q .put-spaced6 .ensures))
 
 pub put-fields-spec : {M : Type 1} → statement M
 put-fields-spec =

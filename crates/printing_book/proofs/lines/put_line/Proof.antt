@@ -52,9 +52,8 @@ returns c =
     let s = at-put-text .put-text in
     let t = at-put-text2 .put-text2 in
     let u = at-put-text3 .put-text3 in
-    line-put (a .out .now) (a .at) (line-of (a .node) (a .code) (a .bytes .now)) (a .line) (p .last .0) (q .last .0) (s .last .0) (t .last .0)
-    (u .last .0) (p .result) (q .result) (s .result) (t .result) (u .result)
-    (at-args .pre .0) (p .ensures) (q .ensures) (s .ensures) (t .ensures) (u .ensures)
+    line-put (a .out .now) (a .at) (line-of (a .node) (a .code) (a .bytes .now)) (a .line) (at-args .pre .0)
+    (p .ensures) (q .ensures) (s .ensures) (t .ensures) (u .ensures)
 
 pub put-line-spec : {M : Type 1} → statement M
 put-line-spec =

@@ -10,7 +10,7 @@ returns c =
     let at-args = at-put-refused-line .before .before .before in
     let a = at-args .args in
     let p = at-put-refused-line .put-refused-line in
-    refused-listed (a .no) (a .place) (a .out .now) (p .last .0) (p .result) (p .ensures)
+    refused-listed (a .no) (a .place) (a .out .now) (p .ensures)
 
 pub render-listing-refused-spec : {M : Type 1} → statement M
 render-listing-refused-spec = tie.close (tie.spec (λ c κs. search needs) (λ c. search needs) returns)

@@ -14,7 +14,7 @@ returns c =
     let a = at-args .args in
     let p = at-refused .put-refused-line in
     opened-refused (view (a .c) (five (a .nodes .now) (a .names .now) (a .lines .now) (a .pool .now) (a .journal .now))) (a .symbols .now)
-    (a .out .now) (at-args .pre .0) (a .refusal) (at-if1 .if1 .taken) (p .last .0) (p .result) (p .ensures)
+    (a .out .now) (at-args .pre .0) (at-if1 .if1 .taken) (p .ensures)
 
 render-symbols-requires : tie.Need-render-symbols-requires
 render-symbols-requires c κs =
@@ -24,7 +24,7 @@ render-symbols-requires c κs =
     let a = at-args .args in
     let p = at-counts .render-counts in (
       symbols-room (view (a .c) (five (a .nodes .now) (a .names .now) (a .lines .now) (a .pool .now) (a .journal .now))) (a .symbols .now)
-          (a .out .now) (at-args .pre .0) (at-args .pre .1) _ (p .result) (p .ensures),
+          (a .out .now) (at-args .pre .0) (at-args .pre .1) (p .ensures),
       at-args .pre .2 (at-if1 .if1 .left),
     )
 
@@ -38,7 +38,7 @@ returns-2 c =
     let p = at-counts .render-counts in
     let q = at-symbols .render-symbols in
     opened-listed (view (a .c) (five (a .nodes .now) (a .names .now) (a .lines .now) (a .pool .now) (a .journal .now))) (a .symbols .now)
-    (a .out .now) (at-args .pre .0) (at-args .pre .1) _ (p .result) (p .ensures) (a .refusal) (at-if1 .if1 .left) _ (q .result) (q .ensures)
+    (a .out .now) (at-args .pre .0) (at-args .pre .1) (p .ensures) (at-if1 .if1 .left) (q .ensures)
 
 pub render-opened-spec : {M : Type 1} → statement M
 render-opened-spec =

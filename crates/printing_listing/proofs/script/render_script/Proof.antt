@@ -28,7 +28,7 @@ returns c =
     let p = at-opened .render-opened in
     script-listed (five (a .nodes .now) (a .names .now) (a .lines .now) (a .pool .now) (a .journal .now)) (a .script .now) (w .result) (w .ensures .0)
     (a .symbols .now) (a .out .now) (five (w .last .1 .0) (w .last .1 .1 .0) (w .last .1 .1 .1 .0) (w .last .1 .1 .1 .1 .0) (w .last .1 .1 .1 .1 .1 .0))
-    (w .ensures .1) _ (p .result) (p .ensures)
+    (w .ensures .1) (p .ensures)
 
 pub render-script-spec : {M : Type 1} → statement M
 render-script-spec =

@@ -28,8 +28,7 @@ returns c =
     let p = at-put-number .put-number in
     let q = at-put-text .put-text in
     rw (← i .ensures)
-    (index-put (a .out .now) (a .at) (i .result) (p .last .0) (q .last .0) (p .result) (q .result) (a .behind .now)
-    (at-args .pre .0) (at-args .pre .1) (p .ensures) (q .ensures))
+    (index-put (a .out .now) (a .at) (i .result) (a .behind .now) (at-args .pre .0) (at-args .pre .1) (p .ensures) (q .ensures))
 
 pub put-index-spec : {M : Type 1} → statement M
 put-index-spec = tie.close (tie.spec (λ c κs. search needs) put-number-requires put-text-requires same-length returns)

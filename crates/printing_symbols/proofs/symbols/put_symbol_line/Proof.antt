@@ -22,8 +22,7 @@ returns c =
     let q = at-put-text2 .put-text2 in
     let s = at-put-fields .put-fields in
     let t = at-put-text3 .put-text3 in
-    symbol-line-put (a .out .now) (a .name .now) (a .v) (a .l) (p .last .0) (q .last .0) (s .last .0) (t .last .0) (p .result)
-    (q .result) (s .result) (t .result) (at-args .pre) (p .ensures) (q .ensures) (s .ensures) (t .ensures)
+    symbol-line-put (a .out .now) (a .name .now) (a .v) (a .l) (at-args .pre) (p .ensures) (q .ensures) (s .ensures) (t .ensures)
 
 pub put-symbol-line-spec : {M : Type 1} → statement M
 put-symbol-line-spec =

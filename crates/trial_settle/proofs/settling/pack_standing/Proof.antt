@@ -18,14 +18,12 @@ turn : (c : tie.After-slice-known5 Inv-loop μ-loop)
     → let t = c .before .before .before .before .loop in t .read + getD (t .lines) (line-width * t .i + 3) 0 ≤ t .inv .asked .total
 turn c =
     let u = c .before .before .before in
-    let t = u .before .loop in
-    sift-fits _ _ _ (t .lines) (t .pool) (t .i) (t .read) (t .j) (t .written) (t .inv) (u .loop-test .taken)
+    sift-fits (u .before .loop .inv) (u .loop-test .taken)
 
 loop-again : tie.Need-loop-again Inv-loop μ-loop
 loop-again c =
     let u = c .before .before .before .before .before in
-    let t = u .before .loop in
-    sift-skips _ _ _ (t .lines) (t .pool) (t .i) (t .read) (t .j) (t .written) (t .inv) (u .loop-test .taken) _ (c .before .is-struck .ensures) (c .if1 .taken)
+    sift-skips (u .before .loop .inv) (u .loop-test .taken) (c .before .is-struck .ensures) (c .if1 .taken)
 
 add-written : tie.Need-add-written Inv-loop μ-loop
 add-written c = omega (arith, turn (c .before .before .before .before .before .before .before .before .before .before))
@@ -35,16 +33,13 @@ loop-again-2 c =
     let r = c .before .before .before .before .before .before in
     let k = r .before .before in
     let u = k .before .before .before .before .before in
-    let t = u .before .loop in
-    sift-keeps _ _ _ (t .lines) (t .pool) (t .i) (t .read) (t .j) (t .written) (t .inv) (u .loop-test .taken) _ _
-    _ (k .before .is-struck .ensures) (k .if1 .left) (r .put-line .ensures) (c .before .before .move-down .ensures)
+    sift-keeps (u .before .loop .inv) (u .loop-test .taken) (k .before .is-struck .ensures) (k .if1 .left) (r .put-line .ensures)
+    (c .before .before .move-down .ensures)
 
 returns : tie.Need-returns Inv-loop μ-loop
 returns c =
     let r = c .before .before .before .before .before .before in
-    let t = r .before .before .before .loop in
-    sift-ends _ _ _ (t .lines) (t .pool) (t .i) (t .read) (t .j) (t .written) (t .inv) _ _ (r .before .before .loop-test .left)
-    (r .clear-numbers .ensures) (c .before .before .clear-bytes .ensures)
+    sift-ends (r .before .before .before .loop .inv) (r .before .before .loop-test .left) (r .clear-numbers .ensures) (c .before .before .clear-bytes .ensures)
 
 pub pack-standing-spec : {M : Type 1} → statement M
 pack-standing-spec =
