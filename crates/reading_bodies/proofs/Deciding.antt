@@ -4,6 +4,7 @@ use mathlib.Core.Path.{_≡_, sym, _∙_}
 use mathlib.Core.List.{List}
 use mathlib.Core.Bool.{Bool, true, false, cond}
 use native.Mathlib.Omega.{arith}
+use borrow.Author.Needs.{needs}
 use borrow.Author.Tests.{eq-eqb, ne-eqb, lt-ltb, le-ltb}
 use mir.Syntax.{w64}
 use mir.Val.{Fits}
@@ -78,5 +79,5 @@ module _ (c : Cursor) (s : List ℕ) (p : ℕ) (f : Found) (e : f ≡ first-from
     pub parent-fits : Fits w64 (length s) → Fits w64 (q + 1)
     parent-fits n = omega (arith, found .within)
 
--- a step that goes by bytes, words, limits and places
-pub ruleset ways = (steps, taken, left, byte-is, byte-not, eq-eqb, ne-eqb, lt-ltb, le-ltb, goes)
+-- a step that goes by bytes, words, limits and places, and what its calls ask: so one set answers every need of a function that reads one
+pub ruleset ways = (needs, steps, taken, left, byte-is, byte-not, eq-eqb, ne-eqb, lt-ltb, le-ltb, goes)
