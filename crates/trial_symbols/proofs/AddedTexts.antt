@@ -122,7 +122,7 @@ module _ {c : Counts} {place : ℕ} {s n m l q j l′ q′ j′ : List ℕ} {x :
   module _ {y : Step} (e : y ≡ next s x) where
     -- what is left, by the next step
     left-to-read : (z : Step) → y ≡ z → change ≡ add-reading lent s (i .book) (on-step z (λ d. reading-from s d))
-    left-to-read z w = i .whole ∙ ap (add-reading lent s (i .book)) (reading-step s x (i .stands) ∙ rw (← e, w))
+    left-to-read z w = i .whole ∙ ap (add-reading lent s (i .book)) (reading-step (i .stands) ∙ rw (← e, w))
 
     -- the text has ended
     pub going-ends : y ≡ End → Adds (answer.Done k) lent-now
@@ -136,11 +136,11 @@ module _ {c : Counts} {place : ℕ} {s n m l q j l′ q′ j′ : List ℕ} {x :
 
     module _ {v : Event} {d : Cursor} (z : y ≡ Go v d) where
       pub event-lies : Lies s v
-      event-lies = parts-lie s v (next-parts s x (i .marked) v d (sym e ∙ z) .0)
+      event-lies = parts-lie s v (next-parts s x (i .marked) (sym e ∙ z) .0)
 
       pub going-onward : length s + 2 - d .at < length s + 2 - x .at
       going-onward =
-          let o = next-onward s x d v (i .stands .fresh) (sym e ∙ z) in
+          let o = next-onward (i .stands) (sym e ∙ z) in
           omega (arith, o .onward, o .within)
 
       -- r is what it answers, and l₁ q₁ j₁ are the buffers behind it
@@ -192,8 +192,8 @@ module _ {c : Counts} {place : ℕ} {s n m l q j l′ q′ j′ : List ℕ} {x :
             let o : five n m l₁ q₁ j₁ ≡ laid-out lent b = w .laid ∙ laid-out-same lent-now lent b (i .rooms) in
             record {
               asked = i .asked;
-              stands = next-stands s x d v (i .stands) (sym e ∙ z);
-              marked = next-parts s x (i .marked) v d (sym e ∙ z) .1;
+              stands = next-stands (i .stands) (sym e ∙ z);
+              marked = next-parts s x (i .marked) (sym e ∙ z) .1;
               book = b;
               layout = subst (λ (y : Counts). Layout y (five n m l₁ q₁ j₁) b) (sym (w .counts))
                   (subst (λ (y : Buffers). Layout (counts-of b) y b) (sym o) (fits-layout lent b (g .fits)));
