@@ -4,7 +4,6 @@ use mathlib.Core.Path.{_≡_, sym, _∙_}
 use mathlib.Core.List.{List}
 use mathlib.Core.Bool.{Bool, true, false, cond}
 use native.Mathlib.Omega.{arith}
-use borrow.Author.Needs.{needs}
 use borrow.Author.Tests.{eq-eqb, ne-eqb, lt-ltb, le-ltb}
 use mir.Syntax.{w64}
 use mir.Val.{Fits}
@@ -80,4 +79,4 @@ module _ (c : Cursor) (s : List ℕ) (p : ℕ) (f : Found) (e : f ≡ first-from
     parent-fits n = omega (arith, found .within)
 
 -- a step that goes by bytes, words, limits and places, and what its calls ask: so one set answers every need of a function that reads one
-pub ruleset ways = (needs, steps, taken, left, byte-is, byte-not, eq-eqb, ne-eqb, lt-ltb, le-ltb, goes)
+pub ruleset ways = (steps, taken, left, byte-is, byte-not, eq-eqb, ne-eqb, lt-ltb, le-ltb, goes)
