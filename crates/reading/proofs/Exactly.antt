@@ -39,7 +39,7 @@ use Rattle.reading.proofs.Absence.{nowhere-none, pair-found, skip-blank
 use Rattle.reading.specs.Standing.{Standing}
 use Rattle.reading.proofs.Onward.{start-stands, next-stands, next-onward, reading-step}
 use Rattle.reading.proofs.Refusals.{too-long-exactly}
-use Rattle.reading.proofs.Coming.{name-goes, usual, token-end, Rest, skip-rest, script-rest, node-rest, opening-rest, body-rest, parent-rest, semicolon-rest, end-rest, list-rest, matcher-rest, block-rest, token-rest, bare-rest, no-more-rest, due-left, unreadable-refuses, unclosed-refuses, bad-extern-refuses}
+use Rattle.reading.proofs.Coming.{name-goes, usual, token-end, Rest, skip-rest, script-rest, node-rest, opening-rest, body-rest, parent-rest, semicolon-rest, end-rest, list-rest, matcher-rest, block-rest, token-rest, bare-rest, no-more-rest, Left, left, due-left, unreadable-refuses, unclosed-refuses, bad-extern-refuses}
 
 module _ (s : List ℕ) (c : Cursor) where
   -- ---- it refuses only so
@@ -53,12 +53,13 @@ module _ (s : List ℕ) (c : Cursor) where
   on-cond false f g = g refl
 
   module _ {r : Rule} {on : ℕ → Step} (f : (q : ℕ) → Comes s c r q → Says (on q)) where
-    skip-turn : {p : ℕ} → ((q : ℕ) → p < q → p < length s → Comes s c (skip-to r) q → Says (skipping c s q on)) → Comes s c (skip-to r) p → Turn (edition-at c) s p
-        → Says (skipping c s p on)
+    skip-turn : {p : ℕ} → ((q : ℕ) → p < q → p < length s → Comes s c (skip-to r) q → Says (skipping c s q on)) → Comes s c (skip-to r) p
+        → Turn (edition-at c) s p → Says (skipping c s p on)
     skip-turn {p} more w (stays e) = rw (skip-stays (edition-at c) s p e) (f p (skipped w e))
     skip-turn {p} more w (at-blank h e) = rw (skip-blank (edition-at c) s p e) (more (p + 1) (omega arith) h (past-blank w e))
     skip-turn {p} more w (at-line {q = q} h k e j) = rw (skip-line (edition-at c) s p e q j) (more (q + 1) (omega arith) (omega arith) (past-line w e j))
-    skip-turn {p} more w (at-comment {q = q} h k e i j) = rw (skip-comment (edition-at c) s p e i q j) (more (q + 2) (omega arith) (omega arith) (past-comment w e i j))
+    skip-turn {p} more w (at-comment {q = q} h k e i j) =
+        rw (skip-comment (edition-at c) s p e i q j) (more (q + 2) (omega arith) (omega arith) (past-comment w e i j))
     skip-turn {p} more w (in-line e n) = rw (skip-line-opens (edition-at c) s p e n) (refuses (three (line w e n)))
     skip-turn {p} more w (in-comment e i n) = rw (skip-comment-opens (edition-at c) s p e i n) (refuses (three (comment w e i n)))
 
@@ -149,7 +150,8 @@ module _ (s : List ℕ) (c : Cursor) where
       line-says (to z) = rw z goes
       line-says (not f) = refuses (f w)
 
-      go : (v : Bool) → to-closing (edition-at c) k s p ≡ v → Says (line-to c s place p (cond v (to-brace (edition-at c) s p) (to-semicolon (edition-at c) s p)))
+      go : (v : Bool) → to-closing (edition-at c) k s p ≡ v
+          → Says (line-to c s place p (cond v (to-brace (edition-at c) s p) (to-semicolon (edition-at c) s p)))
       go true h = line-says (brace-ended u h)
       go false h = line-says (semicolon-ended h)
 
@@ -268,6 +270,9 @@ module _ (s : List ℕ) (c : Cursor) where
         ne-eqb (c .place) in-bare-extern (λ z. omega arith),
       )
 
+  left-says : {r : Rule} {p : ℕ} → Left s c r p → Comes s c r p → Says s c (next s c)
+  left-says (left x z) w = rw z (rest-says s c x w)
+
   module _ {n p : ℕ} where
     said : Says s c (Refused n p) → Refusing s c n p
     said (refuses r) = r
@@ -275,9 +280,7 @@ module _ (s : List ℕ) (c : Cursor) where
     other : (n ≡ too-long → ⊥) → next s c ≡ Refused n p → Placed (c .place) → Refusing s c n p
     other h e (due d) =
         let o : Over s (c .place) → ⊥ = λ o. (let z : n ≡ too-long = cc (too-long-exactly s c .1 o) in h z) in
-        let l = due-left {s = s} {c = c} (c .place) refl o d in
-        let x : Says s c (next s c) = rw (l .same) (rest-says s c (l .rest) (starts o d)) in
-        said (rw e at x)
+        said (rw e at (left-says (due-left (c .place) refl o d) (starts o d)))
     other h e (past k) =
         let z : _≡_ {A = ℕ} 0 1 = cc (nothing-read k) in
         absurd (omega arith)
@@ -343,7 +346,8 @@ module _ (edition place : ℕ) (s : List ℕ) (n p : ℕ) where
   refused-so x = reached-same (x .reached) ∙ rw (reading-step (reached-stands (x .reached)), refuses-so s (x .cursor) (x .refusing))
 
   -- with at most m events to come
-  refused-in : (m : ℕ) {c : Cursor} → length s + 1 - c .at < m → Reaches edition place s c → reading-from s c .outcome ≡ refused n p → Refused-reading edition place s n p
+  refused-in : (m : ℕ) {c : Cursor} → length s + 1 - c .at < m → Reaches edition place s c → reading-from s c .outcome ≡ refused n p
+      → Refused-reading edition place s n p
   refused-in zero l r h = absurd (omega arith)
   refused-in (suc m) {c} l r h =
       go (next s c) refl (rw (reading-step (reached-stands r)) at h) (λ d e k. refused-in m (near k) (after r k))
@@ -354,7 +358,8 @@ module _ (edition place : ℕ) (s : List ℕ) (n p : ℕ) where
           omega (arith, o .onward, o .within)
 
       go : (t : Step) → next s c ≡ t → on-step t (λ d. reading-from s d) .outcome ≡ refused n p
-          → ((d : Cursor) (e : Event) → next s c ≡ Go e d → reading-from s d .outcome ≡ refused n p → Refused-reading edition place s n p) → Refused-reading edition place s n p
+          → ((d : Cursor) (e : Event) → next s c ≡ Go e d → reading-from s d .outcome ≡ refused n p → Refused-reading edition place s n p)
+          → Refused-reading edition place s n p
       go (Go e d) z k more = more d e z k
       go End z k more = absurd (true≢false (cc))
       go (Refused a b) z k more =

@@ -158,9 +158,9 @@ module _ (s : List ℕ) (c : Cursor) where
       in-script : {place : ℕ} → place < at-list → Near c place
       in-script {place} k = record { few = omega arith; same = lt-ltb place at-list k ∙ sym (lt-ltb (c .place) at-list l) }
 
-      name-to-comes : (p : ℕ) → Stopped s p → Comes s c (name-to c p (name-end s p))
+      name-to-comes : {p : ℕ} → Stopped s p → Comes s c (name-to c p (name-end s p))
       unfolding name-to
-      name-to-comes p t =
+      name-to-comes {p} t =
           on-cond (ltb p (name-end s p))
           (λ e.
           let k : p < name-end s p = ltb-true p (name-end s p) e in
@@ -169,14 +169,14 @@ module _ (s : List ℕ) (c : Cursor) where
           (in-script (omega arith)))
           (λ _. refused)
 
-      node-at-comes : (p : ℕ) → Stopped s p → Comes s c (node-at c s p)
+      node-at-comes : {p : ℕ} → Stopped s p → Comes s c (node-at c s p)
       unfolding node-at
-      node-at-comes p t = on-cond (eqb p (length s)) (λ _. done) (λ _. name-to-comes p t)
+      node-at-comes {p} t = on-cond (eqb p (length s)) (λ _. done) (λ _. name-to-comes t)
 
-      script-at-comes : (p : ℕ) → Stopped s p → Comes s c (script-at c s p)
+      script-at-comes : {p : ℕ} → Stopped s p → Comes s c (script-at c s p)
       unfolding script-at
-      script-at-comes p t =
-          on-cond (eqb (getD s p 0) opening-brace) (λ _. goes (body h refl) (in-script (omega arith))) (λ _. node-at-comes p t)
+      script-at-comes {p} t =
+          on-cond (eqb (getD s p 0) opening-brace) (λ _. goes (body h refl) (in-script (omega arith))) (λ _. node-at-comes t)
 
       parent-to-comes : (p : ℕ) (f : Found) → first-from (is semicolon) s p ≡ f → Comes s c (parent-to (in-section c 0) p f)
       unfolding parent-to
@@ -219,8 +219,8 @@ module _ (s : List ℕ) (c : Cursor) where
   unfolding next-script start-script go-node go-body go-sole
   next-script-comes l =
       on-cond (eqb (c .place) at-script)
-      (λ e. on-within script-limit (on-skipping (c .at) (λ p t. script-at-comes (rw (at-place e)) l p t)))
-      (λ f0. on-cond (eqb (c .place) at-node) (λ e. on-skipping (c .at) (λ p t. node-at-comes (rw (at-place e)) l p t))
+      (λ e. on-within script-limit (on-skipping (c .at) (λ _ t. script-at-comes (rw (at-place e)) l t)))
+      (λ f0. on-cond (eqb (c .place) at-node) (λ e. on-skipping (c .at) (λ _ t. node-at-comes (rw (at-place e)) l t))
       (λ f1. on-cond (eqb (c .place) at-body) (λ e. opening-at-comes (rw (at-place e)) refl (in-script (rw (at-place e)) l (omega arith)))
       (λ f2. on-cond (eqb (c .place) in-body) (λ e. on-skipping (c .at) (λ p _. body-at-comes (rw (at-place e)) l p))
       (λ f3. on-cond (eqb (c .place) in-body-extern)
