@@ -114,7 +114,7 @@ module _ (t : List ℕ) (r : Name-read t) (h : length t + 3 ≤ script-limit) wh
       let w : Whole s (reading reld at-script s) 0 t [] =
       script-reads no-semicolon no-such s t [] [] (r .some) (r .bytes) (r .free) refl refl (omega (arith, name-length t)) refl in
       let e : w .behind .at ≡ length s = w .at ∙ omega (arith, name-length t) in
-      w .reads ∙ rw (end-reads s (w .behind) (w .stands) (w .place) e, zero-add (length t))
+      w .reads ∙ rw (end-reads (w .stands) (w .place) e, zero-add (length t))
 
 module _ (t u : List ℕ) (r : Name-read t) (q : Name-read u) (free : every no-semicolon u ≡ true) (h : length (parent-script t u) ≤ script-limit) where
   abbrev text : List ℕ
@@ -134,10 +134,10 @@ module _ (t u : List ℕ) (r : Name-read t) (q : Name-read u) (free : every no-s
       script-reads no-semicolon no-such text u [] (spelled t u) (q .some) (q .bytes) (q .free) refl refl h u-first in
       let e : v .behind .at ≡ length u + 3 = v .at ∙ omega arith in
       let w : Whole text (reading-from text (v .behind)) (v .behind .at) t u =
-      node-reads no-semicolon no-such text t u [] (r .some) (r .bytes) (r .free) (q .free) free (v .behind) (v .stands) (v .place)
+      node-reads no-semicolon no-such text t u [] (r .some) (r .bytes) (r .free) (q .free) free (v .stands) (v .place)
       (t-behind (v .behind .at) e) in
       let d : w .behind .at ≡ length text = w .at ∙ omega (arith, parent-length t u) in
-      v .reads ∙ rw (w .reads, end-reads text (w .behind) (w .stands) (w .place) d, e, zero-add (length u))
+      v .reads ∙ rw (w .reads, end-reads (w .stands) (w .place) d, e, zero-add (length u))
 
 -- ---- the openings, in buffers with room for three nodes and the names m
 abbrev room : List ℕ → Buffers

@@ -117,16 +117,16 @@ module _ (place : ℕ) (b : Buffers) (s : List ℕ) (w : Book) (short : length s
           → build-reading place b s h (reading-within n s d) ≡ opens w → Viewable b w)
           → Viewable b w
       go (Go x d) q f more =
-          let p = next-parts s c (t .marked) x d q in
-          let o = next-origin s c x d (t .few) q in
-          let y = next-onward s c d x (k .fresh) q in
-          let j = next-stands s c d x k q in
+          let p = next-parts s c (t .marked) q in
+          let o = next-origin s c (t .few) q in
+          let y = next-onward k q in
+          let j = next-stands k q in
           let turn : Turn s c x d = record {
             parts = p .0;
             marked = p .1;
             origin = o .0;
             near = o .1;
-            spans = next-spans s c x d (t .few) q;
+            spans = next-spans s c (t .few) q;
             onward = y .onward;
             short = inside d j (o .1 .few);
           } in

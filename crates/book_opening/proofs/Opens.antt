@@ -80,7 +80,7 @@ module _ (place : ℕ) (s n m l q : List ℕ) where
     left-to-read : (y : Step) → x ≡ y
         → build-reading place (four n m l q) s nothing-yet (reading reld place s)
         ≡ build-reading place (four n′ m′ l′ q′) s (building g (four n′ m′ l′ q′)) (on-step y (λ d. reading-from s d))
-    left-to-read y z = i .whole ∙ ap (build-reading place (four n′ m′ l′ q′) s (building g (four n′ m′ l′ q′))) (reading-step s c (i .stands) ∙ rw (← k, z))
+    left-to-read y z = i .whole ∙ ap (build-reading place (four n′ m′ l′ q′) s (building g (four n′ m′ l′ q′))) (reading-step (i .stands) ∙ rw (← k, z))
 
     -- what `finished` asks
     pub finished-asks : (g .nodes ≤ node-limit) × (g .names ≤ script-limit * node-limit) × (g .lines ≤ line-limit) × (g .pool ≤ pool-limit)
@@ -107,11 +107,11 @@ module _ (place : ℕ) (s n m l q : List ℕ) where
 
     module _ (e : Event) (d : Cursor) (z : x ≡ Go e d) where
       pub event-lies : Lies s e
-      event-lies = parts-lie s e (next-parts s c (i .marked) e d (sym k ∙ z) .0)
+      event-lies = parts-lie s e (next-parts s c (i .marked) (sym k ∙ z) .0)
 
       pub going-onward : length s + 2 - d .at < length s + 2 - c .at
       going-onward =
-          let o = next-onward s c d e (i .stands .fresh) (sym k ∙ z) in
+          let o = next-onward (i .stands) (sym k ∙ z) in
           omega (arith, o .onward, o .within)
 
       -- the event is refused: v is what `take_event` answers
@@ -135,8 +135,8 @@ module _ (place : ℕ) (s n m l q : List ℕ) where
           let b : Alike (four n′ m′ l′ q′) (four n″ m″ l″ q″) = record { nodes = sym ln; names = sym lm; lines = sym ll; pool = sym lq } in
           let a = i .alike in
           record {
-            stands = next-stands s c d e (i .stands) (sym k ∙ z);
-            marked = next-parts s c (i .marked) e d (sym k ∙ z) .1;
+            stands = next-stands (i .stands) (sym k ∙ z);
+            marked = next-parts s c (i .marked) (sym k ∙ z) .1;
             holds = t .1;
             alike = record { nodes = a .nodes ∙ b .nodes; names = a .names ∙ b .names; lines = a .lines ∙ b .lines; pool = a .pool ∙ b .pool };
             whole = left-to-read (Go e d) z

@@ -87,10 +87,10 @@ module _ (s : List ℕ) where
             → ((d : Cursor) (h : Building) → Standing s d → Marked d → Within (build-reading place b s h (reading-within m s d)))
             → Within (build-reading place b s g (on-step t (λ d. reading-within m s d)))
         go (Go e d) z more =
-            let t = next-parts s c r e d z in
-            on-within (take-event b s g e) _ (event-within b g e (parts-lie s e (t .0))) (λ h. more d h (next-stands s c d e k z) (t .1))
+            let t = next-parts s c r z in
+            on-within (take-event b s g e) _ (event-within b g e (parts-lie s e (t .0))) (λ h. more d h (next-stands k z) (t .1))
         go End z more = tt
-        go (Refused n p) z more = standing-refuses s c k n p z .1
+        go (Refused n p) z more = standing-refuses k z .1
 
   module _ (how : How) (b : Buffers) where
     opening-within : Within (opening how b s)

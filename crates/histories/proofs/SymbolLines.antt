@@ -71,11 +71,11 @@ module _ (a b : Buffers) (r : Rooms a b) (w : Book) (k : eqb (w .kind) rust ≡ 
     where
       go : (q : Step) → next s c ≡ q → ((c : Cursor) → Marked c → Along (reading-within n s c)) → Along (on-step q (λ c′. reading-within n s c′))
       go (Go x c′) z more d es g =
-          let p = next-parts s c m x c′ z in
+          let p = next-parts s c m z in
           let d′ : Desk = with-event (edition-of (book-frame w)) s d x in
           on-leads d′ _ (add-event a s (book-with w (d .lines) es) x) _ (event-leads d es g x (p .0)) (λ fs o. more c′ (p .1) d′ fs o)
       go End z more d es g = done es g
-      go (Refused i p) z more d es g = declined (reader-numbered i (next-refuses s c i p z .0))
+      go (Refused i p) z more d es g = declined (reader-numbered i (next-refuses s c z .0))
 
   pub symbol-leads : (bare : Bool) (d : Desk) (es : List Edit) → Sound b w d es
       → Leads b w (with-events (edition-of (book-frame w)) s d (reading reld (symbol-place bare) s .events)) (symbol-asked a (some (book-with w (d .lines) es)) s bare)

@@ -72,11 +72,11 @@ pub data Ends (s : List ℕ) (p : ℕ) : TokenEnd → Type 0 where
   ends : {q : ℕ} → p < q → q < length s → Ends s p (To q)
   refuses : {n : ℕ} → of-grammar n ≡ true → Ends s p (Refused n)
 
-module _ (s : List ℕ) (p : ℕ) where
-  ends-cond : (t : Bool) {a b : TokenEnd} → Ends s p a → Ends s p b → Ends s p (cond t a b)
-  ends-cond true x y = x
-  ends-cond false x y = y
+ends-cond : {s : List ℕ} {p : ℕ} (t : Bool) {a b : TokenEnd} → Ends s p a → Ends s p b → Ends s p (cond t a b)
+ends-cond true x y = x
+ends-cond false x y = y
 
+module _ (s : List ℕ) (p : ℕ) where
   ends-found : (t : Test) (n : ℕ) → of-grammar n ≡ true → (f : Found) → first-from t s p ≡ f → Ends s p (end-at p n f)
   ends-found t n h (Here q) e = go (ltb p q) refl
     where
@@ -96,11 +96,11 @@ module _ (x : Edition) (s : List ℕ) (p : ℕ) where
 
   pub either-ends : Ends s p (to-either x s p)
   unfolding to-either
-  either-ends = ends-cond s p (brace-next x s p) brace-ends semicolon-ends
+  either-ends = ends-cond (brace-next x s p) brace-ends semicolon-ends
 
   pub bare-extern-ends : Ends s p (bare-extern-end x s p)
   unfolding bare-extern-end
-  bare-extern-ends = ends-cond s p (found-any (first-from closes s p)) either-ends semicolon-ends
+  bare-extern-ends = ends-cond (found-any (first-from closes s p)) either-ends semicolon-ends
 
 pub bare-skip-within : (x : Edition) (s : List ℕ) → bare-skip x s ≤ length s
 unfolding bare-skip

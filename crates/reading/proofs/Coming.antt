@@ -62,11 +62,11 @@ name-least p (b ∷ l) = go (named b) (name-least (p + 1) l)
     go true h = omega arith
     go false h = omega arith
 
-module _ (s : List ℕ) (p : ℕ) where
-  pub name-goes : Name-byte s p → p < name-end s p
-  unfolding name-in
-  name-goes n = rw (drop-next s p (n .within), n .name) (omega (arith, name-least (p + 1) (drop (p + 1) s)))
+pub name-goes : {s : List ℕ} {p : ℕ} → Name-byte s p → p < name-end s p
+unfolding name-in
+name-goes {s} {p} n = rw (drop-next s p (n .within), n .name) (omega (arith, name-least (p + 1) (drop (p + 1) s)))
 
+module _ (s : List ℕ) (p : ℕ) where
   name-stays : (Name-byte s p → ⊥) → name-end s p ≤ p
   unfolding name-in
   name-stays n = go (decLt p (length s))
@@ -121,12 +121,13 @@ pub data Rest (s : List ℕ) (c : Cursor) : Rule → ℕ → Step → Type 0 whe
   bare-rest : {p : ℕ} (place : ℕ) → p ≡ 0 → Rest s c (token bare-token) p (bare-line c s place (bare-end (edition-at c) s))
   no-more-rest : {p : ℕ} (e : Event) (d : Cursor) → Rest s c no-more p (Go e d)
 
-pub record Left (s : List ℕ) (c : Cursor) (r : Rule) (p : ℕ) : Type 0 where
-  pub step : Step
-  pub same : next s c ≡ step
-  pub rest : Rest s c r p step
+in-limit : (s : List ℕ) (limit : ℕ) → (limit < length s → ⊥) → ltb limit (length s) ≡ false
+in-limit s limit h = le-ltb limit (length s) (omega arith)
 
-module _ (s : List ℕ) (c : Cursor) where
+pub data Left (s : List ℕ) (c : Cursor) (r : Rule) (p : ℕ) : Type 0 where
+  left : {t : Step} → Rest s c r p t → next s c ≡ t → Left s c r p
+
+module _ {s : List ℕ} {c : Cursor} where
   -- a matcher in a body or a list; the `{` of an extern block
   plain-rest : (inner place p : ℕ) → Rest s c (matcher plain-token) p (matcher-at c s inner place p)
   unfolding matcher-at
@@ -142,87 +143,69 @@ module _ (s : List ℕ) (c : Cursor) where
   end-skip-rest : (p : ℕ) → Rest s c (skip-to end) p (skipping c s p (λ r. ending s r))
   end-skip-rest p = skip-rest (λ r. ending s r) (λ q. end-rest)
 
-  now-left : {r : Rule} {p : ℕ} (t : Step) → next s c ≡ t → Rest s c r p t → Left s c r p
-  now-left t e x = record { step = t; same = e; rest = x }
-
-  from : {r : Rule} {p : ℕ} {A : Type 0} → Left s c r p → ((t : Step) → next s c ≡ t → Rest s c r p t → A) → A
-  from l f = f (l .step) (l .same) (l .rest)
+  closed-rest : {p : ℕ} (place : ℕ) → Rest s c (skip-to no-more) p (skipping c s p (λ r. Go Closed (moved (in-language c 0) place r)))
+  closed-rest place = skip-rest (λ r. Go Closed (moved (in-language c 0) place r)) (λ q. no-more-rest Closed (moved (in-language c 0) place q))
 
   -- ---- a step comes to where it is said to come
-  skip-moves : {r : Rule} (p q : ℕ) → skip-at c s p ≡ skip-at c s q → (t : Step) → next s c ≡ t → Rest s c (skip-to r) p t → Left s c (skip-to r) q
-  skip-moves p q e t z (skip-rest on f) = now-left (skipping c s q on) (z ∙ rw e) (skip-rest on f)
+  skip-moves : {r : Rule} {p q : ℕ} → skip-at c s p ≡ skip-at c s q → Left s c (skip-to r) p → Left s c (skip-to r) q
+  skip-moves e (left (skip-rest on f) z) = left (skip-rest on f) (z ∙ rw e)
 
-  skip-done : {r : Rule} (p : ℕ) → skip-at c s p ≡ At p → (t : Step) → next s c ≡ t → Rest s c (skip-to r) p t → Left s c r p
-  skip-done p e t z (skip-rest on f) = now-left (on p) (z ∙ rw e) (f p)
+  skip-done : {r : Rule} {p : ℕ} → skip-at c s p ≡ At p → Left s c (skip-to r) p → Left s c r p
+  skip-done {p = p} e (left (skip-rest on f) z) = left (f p) (z ∙ rw e)
 
-  nodes-left : (p : ℕ) → (Byte opening-brace s p → ⊥) → (t : Step) → next s c ≡ t → Rest s c script-start p t → Left s c node p
+  nodes-left : {p : ℕ} → (Byte opening-brace s p → ⊥) → Left s c script-start p → Left s c node p
   unfolding script-at
-  nodes-left p n t z script-rest = now-left (node-at c s p) (z ∙ rw (ne-eqb (getD s p 0) opening-brace n)) node-rest
+  nodes-left {p = p} n (left script-rest z) = left node-rest (z ∙ rw (ne-eqb (getD s p 0) opening-brace n))
 
-  body-left : {r : Rule} (p : ℕ) → Byte closing-brace s p → (t : Step) → next s c ≡ t → Rest s c (body r) p t → Left s c (skip-to r) (p + 1)
-  body-left p e t z (body-rest {a = a} inner x) = now-left a (z ∙ rw (eq-eqb (getD s p 0) closing-brace e)) x
+  body-left : {r : Rule} {p : ℕ} → Byte closing-brace s p → Left s c (body r) p → Left s c (skip-to r) (p + 1)
+  body-left {p = p} e (left (body-rest inner x) z) = left x (z ∙ rw (eq-eqb (getD s p 0) closing-brace e))
 
-  in-body-left : {r : Rule} (p : ℕ) → (Byte closing-brace s p → ⊥) → No-word global-word s p → No-word local-word s p → (t : Step) → next s c ≡ t
-      → Rest s c (body r) p t → Left s c (matcher plain-token) p
+  in-body-left : {r : Rule} {p : ℕ} → (Byte closing-brace s p → ⊥) → No-word global-word s p → No-word local-word s p → Left s c (body r) p
+      → Left s c (matcher plain-token) p
   unfolding inside-body
-  in-body-left p n a b t z (body-rest inner x) =
-      now-left
-      (matcher-at c s inner (c .place) p)
-      (z ∙ rw (ne-eqb (getD s p 0) closing-brace n, a, b))
-      (plain-rest inner (c .place) p)
+  in-body-left {p = p} n a b (left (body-rest inner x) z) = left (plain-rest inner (c .place) p) (z ∙ rw (ne-eqb (getD s p 0) closing-brace n, a, b))
 
-  semicolon-left : (p : ℕ) → Byte semicolon s p → (t : Step) → next s c ≡ t → Rest s c last-semicolon p t → Left s c (skip-to end) (p + 1)
-  semicolon-left p e t z semicolon-rest =
-      now-left (skipping c s (p + 1) (λ r. ending s r)) (z ∙ rw (eq-eqb (getD s p 0) semicolon e)) (end-skip-rest (p + 1))
+  semicolon-left : {p : ℕ} → Byte semicolon s p → Left s c last-semicolon p → Left s c (skip-to end) (p + 1)
+  semicolon-left {p = p} e (left semicolon-rest z) = left (end-skip-rest (p + 1)) (z ∙ rw (eq-eqb (getD s p 0) semicolon e))
 
-  list-left : (p : ℕ) → Word close-word s p → (t : Step) → next s c ≡ t → Rest s c matchers p t → Left s c (skip-to end) (p + 2)
+  list-left : {p : ℕ} → Word close-word s p → Left s c matchers p → Left s c (skip-to end) (p + 2)
   unfolding list-at
-  list-left p e t z list-rest = now-left (skipping c s (p + 2) (λ r. ending s r)) (z ∙ rw e) (end-skip-rest (p + 2))
+  list-left {p = p} e (left list-rest z) = left (end-skip-rest (p + 2)) (z ∙ rw e)
 
-  in-list-left : (p : ℕ) → No-word close-word s p → (t : Step) → next s c ≡ t → Rest s c matchers p t → Left s c (matcher plain-token) p
+  in-list-left : {p : ℕ} → No-word close-word s p → Left s c matchers p → Left s c (matcher plain-token) p
   unfolding list-at
-  in-list-left p e t z list-rest = now-left (matcher-at c s in-list-extern in-list p) (z ∙ rw e) (plain-rest in-list-extern in-list p)
+  in-list-left {p = p} e (left list-rest z) = left (plain-rest in-list-extern in-list p) (z ∙ rw e)
 
-  cxx-left : {k : Token} (p : ℕ) → Word extern-word s p → Word cxx-word s (p + 7) → (t : Step) → next s c ≡ t → Rest s c (matcher k) p t
-      → Left s c (skip-to opening) (p + 12)
+  cxx-left : {k : Token} {p : ℕ} → Word extern-word s p → Word cxx-word s (p + 7) → Left s c (matcher k) p → Left s c (skip-to opening) (p + 12)
   unfolding extern-at
-  cxx-left p e f t z (matcher-rest inner x) = now-left (extern-open c s inner 1 (p + 12)) (z ∙ rw (e, f)) (extern-rest inner 1 (p + 12))
+  cxx-left {p = p} e f (left (matcher-rest inner x) z) = left (extern-rest inner 1 (p + 12)) (z ∙ rw (e, f))
 
-  c-left : {k : Token} (p : ℕ) → Word extern-word s p → Word c-word s (p + 7) → (t : Step) → next s c ≡ t → Rest s c (matcher k) p t
-      → Left s c (skip-to opening) (p + 10)
+  c-left : {k : Token} {p : ℕ} → Word extern-word s p → Word c-word s (p + 7) → Left s c (matcher k) p → Left s c (skip-to opening) (p + 10)
   unfolding extern-at
-  c-left p e f t z (matcher-rest inner x) =
+  c-left {p = p} e f (left (matcher-rest inner x) z) =
       let n = differ c-word cxx-word s (p + 7) 2 (omega arith) (omega arith) (λ y. omega arith) f in
-      now-left (extern-open c s inner 0 (p + 10)) (z ∙ rw (e, n, f)) (extern-rest inner 0 (p + 10))
+      left (extern-rest inner 0 (p + 10)) (z ∙ rw (e, n, f))
 
-  block-left : {k : Token} (p : ℕ) → Word close-word s p → (t : Step) → next s c ≡ t → Rest s c (block k) p t → Left s c (skip-to no-more) (p + 2)
+  block-left : {k : Token} {p : ℕ} → Word close-word s p → Left s c (block k) p → Left s c (skip-to no-more) (p + 2)
   unfolding extern-inside
-  block-left p e t z (block-rest place u) =
-      now-left
-      (skipping c s (p + 2) (λ r. Go Closed (moved (in-language c 0) place r)))
-      (z ∙ rw e)
-      (skip-rest (λ r. Go Closed (moved (in-language c 0) place r)) (λ q. no-more-rest Closed (moved (in-language c 0) place q)))
+  block-left e (left (block-rest place u) z) = left (closed-rest place) (z ∙ rw e)
 
-  matcher-left : {k : Token} (p : ℕ) → No-word extern-word s p → (t : Step) → next s c ≡ t → Rest s c (matcher k) p t → Left s c (token k) p
-  matcher-left p e t z (matcher-rest {t = u} inner x) = now-left u (z ∙ rw e) x
+  matcher-left : {k : Token} {p : ℕ} → No-word extern-word s p → Left s c (matcher k) p → Left s c (token k) p
+  matcher-left e (left (matcher-rest inner x) z) = left x (z ∙ rw e)
 
-  in-block-left : {k : Token} (p : ℕ) → No-word close-word s p → No-word extern-word s p → (t : Step) → next s c ≡ t → Rest s c (block k) p t
-      → Left s c (token k) p
+  in-block-left : {k : Token} {p : ℕ} → No-word close-word s p → No-word extern-word s p → Left s c (block k) p → Left s c (token k) p
   unfolding extern-inside
-  in-block-left {k} p e f t z (block-rest place u) = now-left (line-to c s (c .place) p (token-end (edition-at c) k s p)) (z ∙ rw (e, f)) (token-rest (c .place) u)
+  in-block-left e f (left (block-rest place u) z) = left (token-rest (c .place) u) (z ∙ rw (e, f))
 
-  all-left : (p : ℕ) → None closing-brace s p → (t : Step) → next s c ≡ t → Rest s c (token bare-token) p t → Left s c (skip-to no-more) 0
+  all-left : {p : ℕ} → None closing-brace s p → Left s c (token bare-token) p → Left s c (skip-to no-more) 0
   unfolding bare-line bare-end bare-skip
-  all-left p n t z (token-rest place u) = absurd (true≢false (sym u))
-  all-left p n t z (bare-rest place y) =
+  all-left n (left (token-rest place u) z) = absurd (true≢false (sym u))
+  all-left n (left (bare-rest place y) z) =
       let e = none-nowhere closing-brace s 0 (rw y at n) in
-      now-left
-      (skipping c s 0 (λ r. Go (matched place) (moved c place (length s + 1))))
-      (z ∙ rw (e, bare-line, e))
-      (skip-rest (λ r. Go (matched place) (moved c place (length s + 1))) (λ q. no-more-rest (matched place) (moved c place (length s + 1))))
+      left (skip-rest (λ r. matched place) (λ q. no-more-rest (line-of c s 0 (length s)) (moved c place (length s + 1)))) (z ∙ rw (e, bare-line, e))
     where
-      matched : ℕ → Event
-      matched place = line-of c s 0 (length s)
+      matched : ℕ → Step
+      matched place = Go (line-of c s 0 (length s)) (moved c place (length s + 1))
 
   -- where it starts
   at-body-rest : (p : ℕ) → Rest s c (body parent) p (body-at c s p)
@@ -258,128 +241,110 @@ module _ (s : List ℕ) (c : Cursor) where
   unfolding bare-matcher
   at-bare-rest inner place = matcher-rest inner (bare-rest place refl)
 
-  in-limit : (limit : ℕ) → (limit < length s → ⊥) → ltb limit (length s) ≡ false
-  in-limit limit h = le-ltb limit (length s) (omega arith)
-
   pub due-left : {r : Rule} (n : ℕ) → c .place ≡ n → (Over s n → ⊥) → Due n r → Left s c r (due-at n (c .at))
   unfolding next next-script next-list next-symbol start-script go-node go-body go-sole go-list
-  due-left n z o due-script =
-      now-left
-      (skipping c s (c .at) (λ p. script-at c s p))
-      (rw (z, in-limit script-limit (λ h. o (script h))))
-      (skip-rest (λ p. script-at c s p) (λ p. script-rest))
-  due-left n z o due-node = now-left (go-node s c) (rw z) (skip-rest (λ p. node-at c s p) (λ p. node-rest))
-  due-left n z o due-opening = now-left (opening-at c s in-body) (rw z) (at-opening-rest in-body)
-  due-left n z o due-body = now-left (go-body s c) (rw z) (skip-rest (λ p. body-at c s p) at-body-rest)
-  due-left n z o due-body-block = now-left (in-extern c s in-body) (rw z) (at-block-rest in-body)
-  due-left n z o due-sole = now-left (go-sole s c) (rw z) (skip-rest (λ p. sole-at c s p) at-sole-rest)
-  due-left n z o due-sole-block = now-left (in-extern c s in-sole) (rw z) (at-block-rest in-sole)
-  due-left n z o due-list = now-left (opening-at c s in-list) (rw (z, in-limit script-limit (λ h. o (list h)))) (at-opening-rest in-list)
-  due-left n z o due-matchers = now-left (go-list s c) (rw z) (skip-rest (λ p. list-at c s p) (λ p. list-rest))
-  due-left n z o due-list-block = now-left (in-extern c s in-list) (rw z) (at-block-rest in-list)
-  due-left n z o due-symbol =
-      now-left
-      (matcher-at c s in-symbol-extern behind-symbol 0)
-      (rw (z, in-limit token-limit (λ h. o (symbol h))))
-      (plain-rest in-symbol-extern behind-symbol 0)
-  due-left n z o due-symbol-block = now-left (in-extern c s behind-symbol) (rw z) (at-block-rest behind-symbol)
-  due-left n z o due-bare =
-      now-left
-      (bare-matcher c s in-bare-extern behind-symbol)
-      (rw (z, in-limit token-limit (λ h. o (bare h))))
-      (at-bare-rest in-bare-extern behind-symbol)
-  due-left n z o due-bare-block = now-left (in-bare c s behind-symbol) (rw z) (at-bare-block-rest behind-symbol)
+  due-left n z o due-script = left (skip-rest (λ p. script-at c s p) (λ p. script-rest)) (rw (z, in-limit s script-limit (λ h. o (script h))))
+  due-left n z o due-node = left (skip-rest (λ p. node-at c s p) (λ p. node-rest)) (rw z)
+  due-left n z o due-opening = left (at-opening-rest in-body) (rw z)
+  due-left n z o due-body = left (skip-rest (λ p. body-at c s p) at-body-rest) (rw z)
+  due-left n z o due-body-block = left (at-block-rest in-body) (rw z)
+  due-left n z o due-sole = left (skip-rest (λ p. sole-at c s p) at-sole-rest) (rw z)
+  due-left n z o due-sole-block = left (at-block-rest in-sole) (rw z)
+  due-left n z o due-list = left (at-opening-rest in-list) (rw (z, in-limit s script-limit (λ h. o (list h))))
+  due-left n z o due-matchers = left (skip-rest (λ p. list-at c s p) (λ p. list-rest)) (rw z)
+  due-left n z o due-list-block = left (at-block-rest in-list) (rw z)
+  due-left n z o due-symbol = left (plain-rest in-symbol-extern behind-symbol 0) (rw (z, in-limit s token-limit (λ h. o (symbol h))))
+  due-left n z o due-symbol-block = left (at-block-rest behind-symbol) (rw z)
+  due-left n z o due-bare = left (at-bare-rest in-bare-extern behind-symbol) (rw (z, in-limit s token-limit (λ h. o (bare h))))
+  due-left n z o due-bare-block = left (at-bare-block-rest behind-symbol) (rw z)
 
   comes-left : {r : Rule} {p : ℕ} → Comes s c r p → Left s c r p
   comes-left (starts o d) = due-left (c .place) refl o d
-  comes-left (past-blank {p = p} h e) = from (comes-left h) (skip-moves p (p + 1) (skip-blank (edition-at c) s p e))
-  comes-left (past-line {p = p} {q = q} h e f) = from (comes-left h) (skip-moves p (q + 1) (skip-line (edition-at c) s p e q f))
-  comes-left (past-comment {p = p} {q = q} h e f k) = from (comes-left h) (skip-moves p (q + 2) (skip-comment (edition-at c) s p e f q k))
-  comes-left (skipped {p = p} h e) = from (comes-left h) (skip-done p (skip-stays (edition-at c) s p e))
-  comes-left (to-nodes {p = p} h n) = from (comes-left h) (nodes-left p n)
-  comes-left (behind-body {p = p} h e) = from (comes-left h) (body-left p e)
-  comes-left (of-body {p = p} h n a b) = from (comes-left h) (in-body-left p n a b)
-  comes-left (behind-semicolon {p = p} h e) = from (comes-left h) (semicolon-left p e)
-  comes-left (behind-list {p = p} h e) = from (comes-left h) (list-left p e)
-  comes-left (of-list {p = p} h e) = from (comes-left h) (in-list-left p e)
-  comes-left (behind-cxx {p = p} h e f) = from (comes-left h) (cxx-left p e f)
-  comes-left (behind-c {p = p} h e f) = from (comes-left h) (c-left p e f)
-  comes-left (behind-block {p = p} h e) = from (comes-left h) (block-left p e)
-  comes-left (of-matcher {p = p} h e) = from (comes-left h) (matcher-left p e)
-  comes-left (of-block {p = p} h e f) = from (comes-left h) (in-block-left p e f)
-  comes-left (all-text {p = p} h n) = from (comes-left h) (all-left p n)
+  comes-left (past-blank {p = p} h e) = skip-moves (skip-blank (edition-at c) s p e) (comes-left h)
+  comes-left (past-line {p = p} {q = q} h e f) = skip-moves (skip-line (edition-at c) s p e q f) (comes-left h)
+  comes-left (past-comment {p = p} {q = q} h e f k) = skip-moves (skip-comment (edition-at c) s p e f q k) (comes-left h)
+  comes-left (skipped {p = p} h e) = skip-done (skip-stays (edition-at c) s p e) (comes-left h)
+  comes-left (to-nodes h n) = nodes-left n (comes-left h)
+  comes-left (behind-body h e) = body-left e (comes-left h)
+  comes-left (of-body h n a b) = in-body-left n a b (comes-left h)
+  comes-left (behind-semicolon h e) = semicolon-left e (comes-left h)
+  comes-left (behind-list h e) = list-left e (comes-left h)
+  comes-left (of-list h e) = in-list-left e (comes-left h)
+  comes-left (behind-cxx h e f) = cxx-left e f (comes-left h)
+  comes-left (behind-c h e f) = c-left e f (comes-left h)
+  comes-left (behind-block h e) = block-left e (comes-left h)
+  comes-left (of-matcher h e) = matcher-left e (comes-left h)
+  comes-left (of-block h e f) = in-block-left e f (comes-left h)
+  comes-left (all-text h n) = all-left n (comes-left h)
 
   -- ---- and refuses where it is said to refuse
-  module _ (p : ℕ) where
-    name-refuses : (p ≡ length s → ⊥) → (Name-byte s p → ⊥) → (t : Step) → next s c ≡ t → Rest s c node p t → next s c ≡ Refused unreadable p
+  module _ {p : ℕ} where
+    name-refuses : (p ≡ length s → ⊥) → (Name-byte s p → ⊥) → Left s c node p → next s c ≡ Refused unreadable p
     unfolding node-at name-to
-    name-refuses n m t z node-rest = z ∙ rw (ne-eqb p (length s) n, le-ltb p (name-end s p) (name-stays s p m))
+    name-refuses n m (left node-rest z) = z ∙ rw (ne-eqb p (length s) n, le-ltb p (name-end s p) (name-stays s p m))
 
-    opening-refuses : (Byte opening-brace s p → ⊥) → (t : Step) → next s c ≡ t → Rest s c opening p t → next s c ≡ Refused unreadable p
-    opening-refuses n t z (opening-rest e d) = z ∙ rw (ne-eqb (getD s p 0) opening-brace n)
+    opening-refuses : (Byte opening-brace s p → ⊥) → Left s c opening p → next s c ≡ Refused unreadable p
+    opening-refuses n (left (opening-rest e d) z) = z ∙ rw (ne-eqb (getD s p 0) opening-brace n)
 
-    parent-refuses : None semicolon s p → (t : Step) → next s c ≡ t → Rest s c parent p t → next s c ≡ Refused unreadable p
+    parent-refuses : None semicolon s p → Left s c parent p → next s c ≡ Refused unreadable p
     unfolding parent-at parent-to
-    parent-refuses n t z (parent-rest d) = z ∙ rw (none-nowhere semicolon s p n)
+    parent-refuses n (left (parent-rest d) z) = z ∙ rw (none-nowhere semicolon s p n)
 
-    semicolon-refuses : (Byte semicolon s p → ⊥) → (t : Step) → next s c ≡ t → Rest s c last-semicolon p t → next s c ≡ Refused unreadable p
-    semicolon-refuses n t z semicolon-rest = z ∙ rw (ne-eqb (getD s p 0) semicolon n)
+    semicolon-refuses : (Byte semicolon s p → ⊥) → Left s c last-semicolon p → next s c ≡ Refused unreadable p
+    semicolon-refuses n (left semicolon-rest z) = z ∙ rw (ne-eqb (getD s p 0) semicolon n)
 
-    end-refuses : (p ≡ length s → ⊥) → (t : Step) → next s c ≡ t → Rest s c end p t → next s c ≡ Refused unreadable p
-    end-refuses n t z end-rest = z ∙ rw (ne-eqb p (length s) n)
+    end-refuses : (p ≡ length s → ⊥) → Left s c end p → next s c ≡ Refused unreadable p
+    end-refuses n (left end-rest z) = z ∙ rw (ne-eqb p (length s) n)
 
-    skip-refuses : {r : Rule} → skip-at c s p ≡ Open p → (t : Step) → next s c ≡ t → Rest s c (skip-to r) p t → next s c ≡ Refused unclosed p
-    skip-refuses e t z (skip-rest on f) = z ∙ rw e
+    skip-refuses : {r : Rule} → skip-at c s p ≡ Open p → Left s c (skip-to r) p → next s c ≡ Refused unclosed p
+    skip-refuses e (left (skip-rest on f) z) = z ∙ rw e
 
-    language-refuses : {k : Token} → Word extern-word s p → No-word cxx-word s (p + 7) → No-word c-word s (p + 7) → (t : Step) → next s c ≡ t
-        → Rest s c (matcher k) p t → next s c ≡ Refused bad-extern p
+    language-refuses : {k : Token} → Word extern-word s p → No-word cxx-word s (p + 7) → No-word c-word s (p + 7) → Left s c (matcher k) p
+        → next s c ≡ Refused bad-extern p
     unfolding extern-at
-    language-refuses e a b t z (matcher-rest inner x) = z ∙ rw (e, a, b)
+    language-refuses e a b (left (matcher-rest inner x) z) = z ∙ rw (e, a, b)
 
-    within-refuses : {k : Token} → Word extern-word s p → (t : Step) → next s c ≡ t → Rest s c (block k) p t → next s c ≡ Refused bad-extern p
+    within-refuses : {k : Token} → Word extern-word s p → Left s c (block k) p → next s c ≡ Refused bad-extern p
     unfolding extern-inside
-    within-refuses e t z (block-rest place u) = z ∙ rw (differ extern-word close-word s p 0 (omega arith) (omega arith) (λ y. omega arith) e, e)
+    within-refuses e (left (block-rest place u) z) = z ∙ rw (differ extern-word close-word s p 0 (omega arith) (omega arith) (λ y. omega arith) e, e)
 
     -- tokens
-    no-end-refuses : {k : Token} → to-closing (edition-at c) k s p ≡ false → None semicolon s p → (t : Step) → next s c ≡ t → Rest s c (token k) p t
-        → next s c ≡ Refused unreadable p
+    no-end-refuses : {k : Token} → to-closing (edition-at c) k s p ≡ false → None semicolon s p → Left s c (token k) p → next s c ≡ Refused unreadable p
     unfolding line-to to-semicolon
-    no-end-refuses e n t z (token-rest place u) = z ∙ rw (e, none-nowhere semicolon s p n)
-    no-end-refuses e n t z (bare-rest place y) = absurd (true≢false e)
+    no-end-refuses e n (left (token-rest place u) z) = z ∙ rw (e, none-nowhere semicolon s p n)
+    no-end-refuses e n (left (bare-rest place y) z) = absurd (true≢false e)
 
-    empty-refuses : {k : Token} → to-closing (edition-at c) k s p ≡ false → Byte semicolon s p → (t : Step) → next s c ≡ t → Rest s c (token k) p t
-        → next s c ≡ Refused unreadable p
+    empty-refuses : {k : Token} → to-closing (edition-at c) k s p ≡ false → Byte semicolon s p → Left s c (token k) p → next s c ≡ Refused unreadable p
     unfolding line-to to-semicolon
-    empty-refuses e b t z (token-rest place u) = z ∙ rw (e, stands-first semicolon s p (omega arith) b, le-ltb p p (omega arith))
-    empty-refuses e b t z (bare-rest place y) = absurd (true≢false e)
+    empty-refuses e b (left (token-rest place u) z) = z ∙ rw (e, stands-first semicolon s p (omega arith) b, le-ltb p p (omega arith))
+    empty-refuses e b (left (bare-rest place y) z) = absurd (true≢false e)
 
-    closing-refuses : {k : Token} → to-closing (edition-at c) k s p ≡ true → Byte closing-brace s p → (t : Step) → next s c ≡ t → Rest s c (token k) p t
-        → next s c ≡ Refused unreadable p
+    closing-refuses : {k : Token} → to-closing (edition-at c) k s p ≡ true → Byte closing-brace s p → Left s c (token k) p → next s c ≡ Refused unreadable p
     unfolding line-to to-brace bare-line bare-end
-    closing-refuses e b t z (token-rest place u) = z ∙ rw (e, stands-first closing-brace s p (omega arith) b, le-ltb p p (omega arith))
-    closing-refuses e b t z (bare-rest place y) = z ∙ rw (stands-first closing-brace s 0 (omega arith) (rw y at b), y)
+    closing-refuses e b (left (token-rest place u) z) = z ∙ rw (e, stands-first closing-brace s p (omega arith) b, le-ltb p p (omega arith))
+    closing-refuses e b (left (bare-rest place y) z) = z ∙ rw (stands-first closing-brace s 0 (omega arith) (rw y at b), y)
 
-    brace-refuses : None closing-brace s p → (t : Step) → next s c ≡ t → Rest s c (token extern-token) p t → next s c ≡ Refused unclosed p
+    brace-refuses : None closing-brace s p → Left s c (token extern-token) p → next s c ≡ Refused unclosed p
     unfolding line-to to-brace
-    brace-refuses n t z (token-rest place u) =
+    brace-refuses n (left (token-rest place u) z) =
         z ∙ rw (pair-nowhere closing-brace semicolon s p (λ q l b _. n q l b), none-nowhere closing-brace s p n)
 
-  module _ (p : ℕ) where
+  module _ {p : ℕ} where
     pub unreadable-refuses : Unreadable s c p → next s c ≡ Refused unreadable p
-    unreadable-refuses (no-name h n m) = from (comes-left h) (name-refuses p n m)
-    unreadable-refuses (no-opening h n) = from (comes-left h) (opening-refuses p n)
-    unreadable-refuses (no-parent-end h n) = from (comes-left h) (parent-refuses p n)
-    unreadable-refuses (no-semicolon h n) = from (comes-left h) (semicolon-refuses p n)
-    unreadable-refuses (bytes-remain h n) = from (comes-left h) (end-refuses p n)
-    unreadable-refuses (no-token-end h e n) = from (comes-left h) (no-end-refuses p e n)
-    unreadable-refuses (empty-to-semicolon h e b) = from (comes-left h) (empty-refuses p e b)
-    unreadable-refuses (empty-to-closing h e b) = from (comes-left h) (closing-refuses p e b)
+    unreadable-refuses (no-name h n m) = name-refuses n m (comes-left h)
+    unreadable-refuses (no-opening h n) = opening-refuses n (comes-left h)
+    unreadable-refuses (no-parent-end h n) = parent-refuses n (comes-left h)
+    unreadable-refuses (no-semicolon h n) = semicolon-refuses n (comes-left h)
+    unreadable-refuses (bytes-remain h n) = end-refuses n (comes-left h)
+    unreadable-refuses (no-token-end h e n) = no-end-refuses e n (comes-left h)
+    unreadable-refuses (empty-to-semicolon h e b) = empty-refuses e b (comes-left h)
+    unreadable-refuses (empty-to-closing h e b) = closing-refuses e b (comes-left h)
 
     pub unclosed-refuses : Unclosed s c p → next s c ≡ Refused unclosed p
-    unclosed-refuses (line h e n) = from (comes-left h) (skip-refuses p (skip-line-opens (edition-at c) s p e n))
-    unclosed-refuses (comment h e f n) = from (comes-left h) (skip-refuses p (skip-comment-opens (edition-at c) s p e f n))
-    unclosed-refuses (no-brace-left h n) = from (comes-left h) (brace-refuses p n)
+    unclosed-refuses (line h e n) = skip-refuses (skip-line-opens (edition-at c) s p e n) (comes-left h)
+    unclosed-refuses (comment h e f n) = skip-refuses (skip-comment-opens (edition-at c) s p e f n) (comes-left h)
+    unclosed-refuses (no-brace-left h n) = brace-refuses n (comes-left h)
 
     pub bad-extern-refuses : Bad-extern s c p → next s c ≡ Refused bad-extern p
-    bad-extern-refuses (language h e a b) = from (comes-left h) (language-refuses p e a b)
-    bad-extern-refuses (within-extern h e) = from (comes-left h) (within-refuses p e)
+    bad-extern-refuses (language h e a b) = language-refuses e a b (comes-left h)
+    bad-extern-refuses (within-extern h e) = within-refuses e (comes-left h)

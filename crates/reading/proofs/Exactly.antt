@@ -27,7 +27,7 @@ use Rattle.reading_cursors.specs.declared.Event.{Event}
 use Rattle.reading_cursors.specs.declared.Event.the-variants.{Extern}
 use Rattle.reading_cursors.specs.declared.Step.{Step}
 use Rattle.reading_cursors.specs.declared.Step.the-variants.{Go, End, Refused}
-use Rattle.reading_cursors.specs.Moves.{edition-at, moved, in-language, start, skip-at, skipping, expecting, ending}
+use Rattle.reading_cursors.specs.Moves.{edition-at, moved, in-language, skip-at, skipping, expecting, ending}
 use Rattle.reading_matchers.specs.Matchers.{extern-word, cxx-word, c-word, close-word, line-to, extern-open, extern-at, extern-inside, matcher as matcher-at, bare-line}
 use Rattle.reading_cursors.specs.Places.{at-list, in-list, in-list-extern, at-symbol, in-symbol-extern, at-bare, in-bare-extern}
 use Rattle.reading_bodies.specs.Bodies.{global-word, local-word, name-to, node-at, script-at, parent-to, parent-at, inside-body, list-at}
@@ -39,7 +39,7 @@ use Rattle.reading.proofs.Absence.{nowhere-none, pair-found, skip-blank
 use Rattle.reading.specs.Standing.{Standing}
 use Rattle.reading.proofs.Onward.{start-stands, next-stands, next-onward, reading-step}
 use Rattle.reading.proofs.Refusals.{too-long-exactly}
-use Rattle.reading.proofs.Coming.{name-goes, usual, token-end, Rest, skip-rest, script-rest, node-rest, opening-rest, body-rest, parent-rest, semicolon-rest, end-rest, list-rest, matcher-rest, block-rest, token-rest, bare-rest, no-more-rest, due-left, unreadable-refuses, unclosed-refuses, bad-extern-refuses}
+use Rattle.reading.proofs.Coming.{name-goes, usual, token-end, Rest, skip-rest, script-rest, node-rest, opening-rest, body-rest, parent-rest, semicolon-rest, end-rest, list-rest, matcher-rest, block-rest, token-rest, bare-rest, no-more-rest, Left, left, due-left, unreadable-refuses, unclosed-refuses, bad-extern-refuses}
 
 module _ (s : List ℕ) (c : Cursor) where
   -- ---- it refuses only so
@@ -53,29 +53,30 @@ module _ (s : List ℕ) (c : Cursor) where
   on-cond false f g = g refl
 
   module _ {r : Rule} {on : ℕ → Step} (f : (q : ℕ) → Comes s c r q → Says (on q)) where
-    skip-turn : (p : ℕ) → ((q : ℕ) → p < q → p < length s → Comes s c (skip-to r) q → Says (skipping c s q on)) → Comes s c (skip-to r) p → Turn (edition-at c) s p
-        → Says (skipping c s p on)
-    skip-turn p more w (stays e) = rw (skip-stays (edition-at c) s p e) (f p (skipped w e))
-    skip-turn p more w (at-blank h e) = rw (skip-blank (edition-at c) s p e) (more (p + 1) (omega arith) h (past-blank w e))
-    skip-turn p more w (at-line {q = q} h k e j) = rw (skip-line (edition-at c) s p e q j) (more (q + 1) (omega arith) (omega arith) (past-line w e j))
-    skip-turn p more w (at-comment {q = q} h k e i j) = rw (skip-comment (edition-at c) s p e i q j) (more (q + 2) (omega arith) (omega arith) (past-comment w e i j))
-    skip-turn p more w (in-line e n) = rw (skip-line-opens (edition-at c) s p e n) (refuses (three (line w e n)))
-    skip-turn p more w (in-comment e i n) = rw (skip-comment-opens (edition-at c) s p e i n) (refuses (three (comment w e i n)))
+    skip-turn : {p : ℕ} → ((q : ℕ) → p < q → p < length s → Comes s c (skip-to r) q → Says (skipping c s q on)) → Comes s c (skip-to r) p
+        → Turn (edition-at c) s p → Says (skipping c s p on)
+    skip-turn {p} more w (stays e) = rw (skip-stays (edition-at c) s p e) (f p (skipped w e))
+    skip-turn {p} more w (at-blank h e) = rw (skip-blank (edition-at c) s p e) (more (p + 1) (omega arith) h (past-blank w e))
+    skip-turn {p} more w (at-line {q = q} h k e j) = rw (skip-line (edition-at c) s p e q j) (more (q + 1) (omega arith) (omega arith) (past-line w e j))
+    skip-turn {p} more w (at-comment {q = q} h k e i j) =
+        rw (skip-comment (edition-at c) s p e i q j) (more (q + 2) (omega arith) (omega arith) (past-comment w e i j))
+    skip-turn {p} more w (in-line e n) = rw (skip-line-opens (edition-at c) s p e n) (refuses (three (line w e n)))
+    skip-turn {p} more w (in-comment e i n) = rw (skip-comment-opens (edition-at c) s p e i n) (refuses (three (comment w e i n)))
 
-    skip-in : (n p : ℕ) → length s - p < n → Comes s c (skip-to r) p → Says (skipping c s p on)
-    skip-in zero p h w = absurd (omega arith)
-    skip-in (suc n) p h w = skip-turn p (λ q a b v. skip-in n q (omega arith) v) w (turn (edition-at c) s p)
+    skip-in : (n : ℕ) {p : ℕ} → length s - p < n → Comes s c (skip-to r) p → Says (skipping c s p on)
+    skip-in zero h w = absurd (omega arith)
+    skip-in (suc n) {p} h w = skip-turn (λ q a b v. skip-in n (omega arith) v) w (turn (edition-at c) s p)
 
-    skip-says : (p : ℕ) → Comes s c (skip-to r) p → Says (skipping c s p on)
-    skip-says p w = skip-in (length s - p + 1) p (omega arith) w
+    skip-says : {p : ℕ} → Comes s c (skip-to r) p → Says (skipping c s p on)
+    skip-says {p} w = skip-in (length s - p + 1) (omega arith) w
 
-  module _ (p : ℕ) where
+  module _ {p : ℕ} where
     node-says : Comes s c node p → Says (node-at c s p)
     unfolding node-at name-to
     node-says w =
         on-cond (eqb p (length s)) (λ _. ended)
         (λ e. on-cond (ltb p (name-end s p)) (λ _. goes)
-        (λ h. refuses (two (no-name w (eqb-false p (length s) e) (λ n. omega (arith, ltb-false p (name-end s p) h, name-goes s p n))))))
+        (λ h. refuses (two (no-name w (eqb-false p (length s) e) (λ n. omega (arith, ltb-false p (name-end s p) h, name-goes n))))))
 
     opening-says : (e : Event) (d : ℕ → Cursor) → Comes s c opening p → Says (expecting opening-brace s p (λ q. Go e (d q)))
     opening-says e d w =
@@ -98,9 +99,9 @@ module _ (s : List ℕ) (c : Cursor) where
     not : {n : ℕ} → (Comes s c (token k) p → Refusing s c n p) → Ended k p (no.Refused n)
 
   -- one that goes to the byte b
-  ended-found : (k : Token) (p b n : ℕ) → ((q : ℕ) → Byte b s q → skip-at c s q ≡ At q) → (Byte b s p → Comes s c (token k) p → Refusing s c unreadable p)
+  ended-found : {k : Token} {p : ℕ} (b n : ℕ) → ((q : ℕ) → Byte b s q → skip-at c s q ≡ At q) → (Byte b s p → Comes s c (token k) p → Refusing s c unreadable p)
       → (first-from (is b) s p ≡ Nowhere → Comes s c (token k) p → Refusing s c n p) → (f : Found) → first-from (is b) s p ≡ f → Ended k p (end-at p n f)
-  ended-found k p b n z empty none (Here q) e = go (ltb p q) refl
+  ended-found {k} {p} b n z empty none (Here q) e = go (ltb p q) refl
     where
       stands-there : Byte b s q
       stands-there = eqb-true (getD s q 0) b (first-within e .holds)
@@ -110,22 +111,22 @@ module _ (s : List ℕ) (c : Cursor) where
       go false h =
           let y : q ≡ p = omega (arith, ltb-false p q h, first-within e .onward) in
           not (empty (rw y at stands-there))
-  ended-found k p b n z empty none Nowhere e = not (none e)
+  ended-found b n z empty none Nowhere e = not (none e)
 
-  semicolon-ended : (k : Token) (p : ℕ) → to-closing (edition-at c) k s p ≡ false → Ended k p (to-semicolon (edition-at c) s p)
+  semicolon-ended : {k : Token} {p : ℕ} → to-closing (edition-at c) k s p ≡ false → Ended k p (to-semicolon (edition-at c) s p)
   unfolding to-semicolon
-  semicolon-ended k p h =
-      ended-found k p semicolon unreadable (semicolon-stays (edition-at c) s) (λ b w. two (empty-to-semicolon w h b))
+  semicolon-ended {p = p} h =
+      ended-found semicolon unreadable (semicolon-stays (edition-at c) s) (λ b w. two (empty-to-semicolon w h b))
       (λ e w. two (no-token-end w h (nowhere-none semicolon s p (omega arith) e)))
       (first-from (is semicolon) s p)
       refl
 
-  no-brace : (k : Token) (p : ℕ) → usual k ≡ true → to-closing (edition-at c) k s p ≡ true → first-from (is closing-brace) s p ≡ Nowhere → Comes s c (token k) p
+  no-brace : {k : Token} {p : ℕ} → usual k ≡ true → to-closing (edition-at c) k s p ≡ true → first-from (is closing-brace) s p ≡ Nowhere → Comes s c (token k) p
       → Refusing s c unclosed p
-  no-brace plain-token p u h e w = absurd (true≢false (sym h))
-  no-brace extern-token p u h e w = three (no-brace-left w (nowhere-none closing-brace s p (omega arith) e))
-  no-brace bare-token p u h e w = absurd (true≢false (sym u))
-  no-brace bare-extern-token p u h e w = go (first-from closes s p) refl
+  no-brace {k = plain-token} u h e w = absurd (true≢false (sym h))
+  no-brace {k = extern-token} {p = p} u h e w = three (no-brace-left w (nowhere-none closing-brace s p (omega arith) e))
+  no-brace {k = bare-token} u h e w = absurd (true≢false (sym u))
+  no-brace {k = bare-extern-token} {p = p} u h e w = go (first-from closes s p) refl
     where
       go : (f : Found) → first-from closes s p ≡ f → Refusing s c unclosed p
       go (Here q) k =
@@ -133,29 +134,30 @@ module _ (s : List ℕ) (c : Cursor) where
           absurd (nowhere-none closing-brace s p (omega arith) e q (x .0) (x .1 .0))
       go Nowhere k = absurd (true≢false (sym (rw k at h)))
 
-  brace-ended : (k : Token) (p : ℕ) → usual k ≡ true → to-closing (edition-at c) k s p ≡ true → Ended k p (to-brace (edition-at c) s p)
+  brace-ended : {k : Token} {p : ℕ} → usual k ≡ true → to-closing (edition-at c) k s p ≡ true → Ended k p (to-brace (edition-at c) s p)
   unfolding to-brace
-  brace-ended k p u h =
-      ended-found k p closing-brace unclosed (closing-stays (edition-at c) s) (λ b w. two (empty-to-closing w h b))
-      (no-brace k p u h)
+  brace-ended {p = p} u h =
+      ended-found closing-brace unclosed (closing-stays (edition-at c) s) (λ b w. two (empty-to-closing w h b))
+      (no-brace u h)
       (first-from (is closing-brace) s p)
       refl
 
-  token-says : (k : Token) (place p : ℕ) → usual k ≡ true → Comes s c (token k) p → Says (line-to c s place p (token-end (edition-at c) k s p))
+  token-says : {k : Token} {p : ℕ} (place : ℕ) → usual k ≡ true → Comes s c (token k) p → Says (line-to c s place p (token-end (edition-at c) k s p))
   unfolding line-to
-  token-says k place p u w = go (to-closing (edition-at c) k s p) refl
+  token-says {k} {p} place u w = go (to-closing (edition-at c) k s p) refl
     where
-      line-says : (e : TokenEnd) → Ended k p e → Says (line-to c s place p e)
-      line-says (To q) (to z) = rw z goes
-      line-says (no.Refused n) (not f) = refuses (f w)
+      line-says : {e : TokenEnd} → Ended k p e → Says (line-to c s place p e)
+      line-says (to z) = rw z goes
+      line-says (not f) = refuses (f w)
 
-      go : (v : Bool) → to-closing (edition-at c) k s p ≡ v → Says (line-to c s place p (cond v (to-brace (edition-at c) s p) (to-semicolon (edition-at c) s p)))
-      go true h = line-says (to-brace (edition-at c) s p) (brace-ended k p u h)
-      go false h = line-says (to-semicolon (edition-at c) s p) (semicolon-ended k p h)
+      go : (v : Bool) → to-closing (edition-at c) k s p ≡ v
+          → Says (line-to c s place p (cond v (to-brace (edition-at c) s p) (to-semicolon (edition-at c) s p)))
+      go true h = line-says (brace-ended u h)
+      go false h = line-says (semicolon-ended h)
 
-  bare-says : (place p : ℕ) → p ≡ 0 → Comes s c (token bare-token) p → Says (bare-line c s place (bare-end (edition-at c) s))
+  bare-says : (place : ℕ) {p : ℕ} → p ≡ 0 → Comes s c (token bare-token) p → Says (bare-line c s place (bare-end (edition-at c) s))
   unfolding bare-line bare-end bare-skip
-  bare-says place p y w = go (first-from (is closing-brace) s 0) refl
+  bare-says place y w = go (first-from (is closing-brace) s 0) refl
     where
       at-first : Comes s c (token bare-token) 0
       at-first = rw y at w
@@ -172,55 +174,55 @@ module _ (s : List ℕ) (c : Cursor) where
               let z : q ≡ 0 = omega (arith, ltb-false 0 q h) in
               refuses (two (empty-to-closing at-first refl (rw z at stands-there)))
       go Nowhere e =
-          rw (e, bare-line, e) (skip-says (λ q v. goes) 0 (all-text at-first (nowhere-none closing-brace s 0 (omega arith) e)))
+          rw (e, bare-line, e) (skip-says (λ _ _. goes) (all-text at-first (nowhere-none closing-brace s 0 (omega arith) e)))
 
   -- matchers
-  matcher-says : (k : Token) (inner p : ℕ) {t : Step} → (Comes s c (token k) p → Says t) → Comes s c (matcher k) p
+  matcher-says : {k : Token} (inner : ℕ) {p : ℕ} {t : Step} → (Comes s c (token k) p → Says t) → Comes s c (matcher k) p
       → Says (cond (stands-at extern-word s p) (extern-at c s inner p) t)
   unfolding extern-at extern-open
-  matcher-says k inner p f w =
+  matcher-says inner {p} f w =
       on-cond (stands-at extern-word s p)
-      (λ e. on-cond (stands-at cxx-word s (p + 7)) (λ a. opens 1 (p + 12) (behind-cxx w e a))
-      (λ a. on-cond (stands-at c-word s (p + 7)) (λ b. opens 0 (p + 10) (behind-c w e b))
+      (λ e. on-cond (stands-at cxx-word s (p + 7)) (λ a. opens 1 (behind-cxx w e a))
+      (λ a. on-cond (stands-at c-word s (p + 7)) (λ b. opens 0 (behind-c w e b))
       (λ b. refuses (four (language w e a b)))))
       (λ e. f (of-matcher w e))
     where
-      opens : (l q : ℕ) → Comes s c (skip-to opening) q → Says (extern-open c s inner l q)
-      opens l q v = skip-says (λ x y. opening-says x (Extern (c .section) l) (λ z. moved (in-language c l) inner z) y) q v
+      opens : (l : ℕ) {q : ℕ} → Comes s c (skip-to opening) q → Says (extern-open c s inner l q)
+      opens l v = skip-says (λ _ y. opening-says (Extern (c .section) l) (λ z. moved (in-language c l) inner z) y) v
 
-  plain-says : (inner place p : ℕ) → Comes s c (matcher plain-token) p → Says (matcher-at c s inner place p)
+  plain-says : (inner place : ℕ) {p : ℕ} → Comes s c (matcher plain-token) p → Says (matcher-at c s inner place p)
   unfolding matcher-at
-  plain-says inner place p w = matcher-says plain-token inner p (token-says plain-token place p refl) w
+  plain-says inner place w = matcher-says inner (token-says place refl) w
 
   rest-says : {r : Rule} {p : ℕ} {t : Step} → Rest s c r p t → Comes s c r p → Says t
   unfolding script-at inside-body list-at extern-inside
-  rest-says (skip-rest {p = p} on f) w = skip-says (λ q v. rest-says (f q) v) p w
+  rest-says (skip-rest on f) w = skip-says (λ q v. rest-says (f q) v) w
   rest-says (script-rest {p = p}) w =
-      on-cond (eqb (getD s p 0) opening-brace) (λ _. goes) (λ e. node-says p (to-nodes w (eqb-false (getD s p 0) opening-brace e)))
-  rest-says (node-rest {p = p}) w = node-says p w
-  rest-says (opening-rest {p = p} e d) w = opening-says p e d w
+      on-cond (eqb (getD s p 0) opening-brace) (λ _. goes) (λ e. node-says (to-nodes w (eqb-false (getD s p 0) opening-brace e)))
+  rest-says node-rest w = node-says w
+  rest-says (opening-rest e d) w = opening-says e d w
   rest-says (body-rest {p = p} inner x) w =
       on-cond (eqb (getD s p 0) closing-brace) (λ e. rest-says x (behind-body w (eqb-true (getD s p 0) closing-brace e)))
       (λ e. on-cond (stands-at global-word s p) (λ _. goes)
       (λ a. on-cond (stands-at local-word s p) (λ _. goes)
-      (λ b. plain-says inner (c .place) p (of-body w (eqb-false (getD s p 0) closing-brace e) a b))))
-  rest-says (parent-rest {p = p} d) w = parent-says p d w
+      (λ b. plain-says inner (c .place) (of-body w (eqb-false (getD s p 0) closing-brace e) a b))))
+  rest-says (parent-rest d) w = parent-says d w
   rest-says (semicolon-rest {p = p}) w =
       on-cond (eqb (getD s p 0) semicolon)
-      (λ e. skip-says (λ q v. end-says q v) (p + 1) (behind-semicolon w (eqb-true (getD s p 0) semicolon e)))
+      (λ e. skip-says (λ _ v. end-says v) (behind-semicolon w (eqb-true (getD s p 0) semicolon e)))
       (λ e. refuses (two (no-semicolon w (eqb-false (getD s p 0) semicolon e))))
-  rest-says (end-rest {p = p}) w = end-says p w
+  rest-says end-rest w = end-says w
   rest-says (list-rest {p = p}) w =
       on-cond (stands-at close-word s p)
-      (λ e. skip-says (λ q v. end-says q v) (p + 2) (behind-list w e))
-      (λ e. plain-says in-list-extern in-list p (of-list w e))
-  rest-says (matcher-rest {k = k} {p = p} inner x) w = matcher-says k inner p (λ v. rest-says x v) w
-  rest-says (block-rest {k = k} {p = p} place u) w =
-      on-cond (stands-at close-word s p) (λ e. skip-says (λ q v. goes) (p + 2) (behind-block w e))
+      (λ e. skip-says (λ _ v. end-says v) (behind-list w e))
+      (λ e. plain-says in-list-extern in-list (of-list w e))
+  rest-says (matcher-rest inner x) w = matcher-says inner (λ v. rest-says x v) w
+  rest-says (block-rest {p = p} place u) w =
+      on-cond (stands-at close-word s p) (λ e. skip-says (λ _ _. goes) (behind-block w e))
       (λ e. on-cond (stands-at extern-word s p) (λ f. refuses (four (within-extern w f)))
-      (λ f. token-says k (c .place) p u (of-block w e f)))
-  rest-says (token-rest {k = k} {p = p} place u) w = token-says k place p u w
-  rest-says (bare-rest {p = p} place y) w = bare-says place p y w
+      (λ f. token-says (c .place) u (of-block w e f)))
+  rest-says (token-rest place u) w = token-says place u w
+  rest-says (bare-rest place y) w = bare-says place y w
   rest-says (no-more-rest e d) w = goes
 
 -- ---- the rule at each place of the grammar; none behind the matcher of `add_symbol`
@@ -268,16 +270,17 @@ module _ (s : List ℕ) (c : Cursor) where
         ne-eqb (c .place) in-bare-extern (λ z. omega arith),
       )
 
-  module _ (n p : ℕ) where
+  left-says : {r : Rule} {p : ℕ} → Left s c r p → Comes s c r p → Says s c (next s c)
+  left-says (left x z) w = rw z (rest-says s c x w)
+
+  module _ {n p : ℕ} where
     said : Says s c (Refused n p) → Refusing s c n p
     said (refuses r) = r
 
     other : (n ≡ too-long → ⊥) → next s c ≡ Refused n p → Placed (c .place) → Refusing s c n p
     other h e (due d) =
         let o : Over s (c .place) → ⊥ = λ o. (let z : n ≡ too-long = cc (too-long-exactly s c .1 o) in h z) in
-        let l = due-left s c (c .place) refl o d in
-        let x : Says s c (next s c) = rw (l .same) (rest-says s c (l .rest) (starts o d)) in
-        said (rw e at x)
+        said (rw e at (left-says (due-left (c .place) refl o d) (starts o d)))
     other h e (past k) =
         let z : _≡_ {A = ℕ} 0 1 = cc (nothing-read k) in
         absurd (omega arith)
@@ -295,32 +298,32 @@ module _ (s : List ℕ) (c : Cursor) where
 
   refuses-so : {n p : ℕ} → Refusing s c n p → next s c ≡ Refused n p
   refuses-so (one o) = too-long-exactly s c .1 o
-  refuses-so (two {p = p} u) = unreadable-refuses s c p u
-  refuses-so (three {p = p} u) = unclosed-refuses s c p u
-  refuses-so (four {p = p} u) = bad-extern-refuses s c p u
+  refuses-so (two u) = unreadable-refuses u
+  refuses-so (three u) = unclosed-refuses u
+  refuses-so (four u) = bad-extern-refuses u
 
   pub refuses-exactly : (n p : ℕ) → (next s c ≡ Refused n p → Refusing s c n p) × (Refusing s c n p → next s c ≡ Refused n p)
-  refuses-exactly n p = (refuses-only n p, refuses-so)
+  refuses-exactly n p = (refuses-only, refuses-so)
 
   -- so only one number and place fit
-  pub refuses-once : (n m p q : ℕ) → Refusing s c n p → Refusing s c m q → (n ≡ m) × (p ≡ q)
-  refuses-once n m p q x y = (cc (refuses-so x, refuses-so y), cc (refuses-so x, refuses-so y))
+  pub refuses-once : {n m p q : ℕ} → Refusing s c n p → Refusing s c m q → (n ≡ m) × (p ≡ q)
+  refuses-once x y = (cc (refuses-so x, refuses-so y), cc (refuses-so x, refuses-so y))
 
   module _ (p : ℕ) where
     pub unreadable-exactly : (next s c ≡ Refused unreadable p → Unreadable s c p) × (Unreadable s c p → next s c ≡ Refused unreadable p)
-    unreadable-exactly = (λ e. go (refuses-only unreadable p e), unreadable-refuses s c p)
+    unreadable-exactly = (λ e. go (refuses-only e), unreadable-refuses)
       where
         go : Refusing s c unreadable p → Unreadable s c p
         go (two u) = u
 
     pub unclosed-exactly : (next s c ≡ Refused unclosed p → Unclosed s c p) × (Unclosed s c p → next s c ≡ Refused unclosed p)
-    unclosed-exactly = (λ e. go (refuses-only unclosed p e), unclosed-refuses s c p)
+    unclosed-exactly = (λ e. go (refuses-only e), unclosed-refuses)
       where
         go : Refusing s c unclosed p → Unclosed s c p
         go (three u) = u
 
     pub bad-extern-exactly : (next s c ≡ Refused bad-extern p → Bad-extern s c p) × (Bad-extern s c p → next s c ≡ Refused bad-extern p)
-    bad-extern-exactly = (λ e. go (refuses-only bad-extern p e), bad-extern-refuses s c p)
+    bad-extern-exactly = (λ e. go (refuses-only e), bad-extern-refuses)
       where
         go : Refusing s c bad-extern p → Bad-extern s c p
         go (four u) = u
@@ -329,45 +332,44 @@ module _ (s : List ℕ) (c : Cursor) where
 module _ (edition place : ℕ) (s : List ℕ) (n p : ℕ) where
   reached-stands : {c : Cursor} → Reaches edition place s c → Standing s c
   reached-stands first = start-stands edition place s
-  reached-stands (after {c = c} {d = d} {e = e} r h) = next-stands s c d e (reached-stands r) h
+  reached-stands (after r h) = next-stands (reached-stands r) h
 
   -- what is left of it decides
   reached-same : {c : Cursor} → Reaches edition place s c → reading edition place s .outcome ≡ reading-from s c .outcome
   unfolding reading
   reached-same first = refl
   reached-same (after {c = c} {d = d} {e = e} r h) =
-      let z : reading-from s c .outcome ≡ reading-from s d .outcome = rw (reading-step s c (reached-stands r), h) in
+      let z : reading-from s c .outcome ≡ reading-from s d .outcome = rw (reading-step (reached-stands r), h) in
       reached-same r ∙ z
 
   refused-so : Refused-reading edition place s n p → reading edition place s .outcome ≡ refused n p
-  refused-so x =
-      let g = reached-stands (x .reached) in
-      let h = refuses-so s (x .cursor) (x .refusing) in
-      reached-same (x .reached) ∙ rw (reading-step s (x .cursor) g, h)
+  refused-so x = reached-same (x .reached) ∙ rw (reading-step (reached-stands (x .reached)), refuses-so s (x .cursor) (x .refusing))
 
   -- with at most m events to come
-  refused-in : (m : ℕ) (c : Cursor) → length s + 1 - c .at < m → Reaches edition place s c → reading-from s c .outcome ≡ refused n p → Refused-reading edition place s n p
-  refused-in zero c l r h = absurd (omega arith)
-  refused-in (suc m) c l r h =
-      go (next s c) refl (rw (reading-step s c (reached-stands r)) at h) (λ d e k. refused-in m d (near d e k) (after r k))
+  refused-in : (m : ℕ) {c : Cursor} → length s + 1 - c .at < m → Reaches edition place s c → reading-from s c .outcome ≡ refused n p
+      → Refused-reading edition place s n p
+  refused-in zero l r h = absurd (omega arith)
+  refused-in (suc m) {c} l r h =
+      go (next s c) refl (rw (reading-step (reached-stands r)) at h) (λ d e k. refused-in m (near k) (after r k))
     where
-      near : (d : Cursor) (e : Event) → next s c ≡ Go e d → length s + 1 - d .at < m
-      near d e k =
-          let o = next-onward s c d e (reached-stands r .fresh) k in
+      near : {d : Cursor} {e : Event} → next s c ≡ Go e d → length s + 1 - d .at < m
+      near k =
+          let o = next-onward (reached-stands r) k in
           omega (arith, o .onward, o .within)
 
       go : (t : Step) → next s c ≡ t → on-step t (λ d. reading-from s d) .outcome ≡ refused n p
-          → ((d : Cursor) (e : Event) → next s c ≡ Go e d → reading-from s d .outcome ≡ refused n p → Refused-reading edition place s n p) → Refused-reading edition place s n p
+          → ((d : Cursor) (e : Event) → next s c ≡ Go e d → reading-from s d .outcome ≡ refused n p → Refused-reading edition place s n p)
+          → Refused-reading edition place s n p
       go (Go e d) z k more = more d e z k
       go End z k more = absurd (true≢false (cc))
       go (Refused a b) z k more =
           let x : a ≡ n = cc in
           let y : b ≡ p = cc in
-          record { cursor = c; reached = r; refusing = refuses-only s c n p (rw (x, y) at z) }
+          record { cursor = c; reached = r; refusing = refuses-only s c (rw (x, y) at z) }
 
   refused-only : reading edition place s .outcome ≡ refused n p → Refused-reading edition place s n p
   unfolding reading
-  refused-only h = refused-in (length s + 2) (start edition place) (omega arith) first h
+  refused-only h = refused-in (length s + 2) (omega arith) first h
 
   pub reading-exactly : (reading edition place s .outcome ≡ refused n p → Refused-reading edition place s n p)
       × (Refused-reading edition place s n p → reading edition place s .outcome ≡ refused n p)

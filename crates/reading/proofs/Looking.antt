@@ -25,17 +25,17 @@ use Rattle.reading.specs.Rules.{Byte}
 use Rattle.reading.proofs.Absence.{nowhere-in, nowhere-pair, stands-first}
 
 -- what is first from p on is first from any place between
-first-later : (t : Test) (s : List ℕ) (p q r : ℕ) → First t s p q → p ≤ r → r ≤ q → first-from t s r ≡ Here q
-first-later t s p q r f a b = go (first-from t s r) refl
+first-later : {t : Test} {s : List ℕ} {p q : ℕ} (r : ℕ) → First t s p q → p ≤ r → r ≤ q → first-from t s r ≡ Here q
+first-later {t} {s} {p} {q} r f a b = go (first-from t s r) refl
   where
-    at : (x : ℕ) → First t s r x → Dec (x < q) → Dec (q < x) → x ≡ q
-    at x g (yes h) k = absurd (true≢false (sym (g .holds) ∙ f .before x (omega (arith, g .onward)) h))
-    at x g (no h) (yes k) = absurd (true≢false (sym (f .holds) ∙ g .before q b k))
-    at x g (no h) (no k) = omega arith
+    at : {x : ℕ} → First t s r x → Dec (x < q) → Dec (q < x) → x ≡ q
+    at {x} g (yes h) k = absurd (true≢false (sym (g .holds) ∙ f .before x (omega (arith, g .onward)) h))
+    at g (no h) (yes k) = absurd (true≢false (sym (f .holds) ∙ g .before q b k))
+    at g (no h) (no k) = omega arith
 
     go : (w : Found) → first-from t s r ≡ w → first-from t s r ≡ Here q
     go (Here x) e =
-        let z = at x (first-within e) (decLt x q) (decLt q x) in
+        let z = at (first-within e) (decLt x q) (decLt q x) in
         e ∙ rw z
     go Nowhere e = absurd (true≢false (sym (f .holds) ∙ nowhere-in t s q (f .within) (q - r) r (omega arith) b e))
 
@@ -99,7 +99,7 @@ module _ (x : Edition) (s : List ℕ) (p q r : ℕ) (h : p < last-close s) (e : 
       go (yes l) = near l
       go (no l) =
           let m : r < q = omega arith in
-          let f = first-later (is semicolon) s p q r found (omega (arith, brace .1)) (omega arith) in
+          let f = first-later r found (omega (arith, brace .1)) (omega arith) in
           let b = eq-eqb (getD s (q - 1) 0) closing-brace before in
           at-last (either-left x s r (left (omega arith)) (Here q) f
           ∙ rw (lt-ltb r q m, b, stands-first closing-brace s r (omega arith) here, le-ltb r r (omega arith)))

@@ -106,12 +106,12 @@ module _ (s : List ℕ) (c : Cursor) where
   on-within limit f = on-cond (ltb limit (length s)) (λ _. refused) (λ _. f)
 
   -- ---- matchers
-  line-to-comes : (place p : ℕ) (e : TokenEnd) → block-place place ≡ block-place (c .place) → Near c place → Comes s c (line-to c s place p e)
+  line-to-comes : {place : ℕ} (p : ℕ) (e : TokenEnd) → block-place place ≡ block-place (c .place) → Near c place → Comes s c (line-to c s place p e)
   unfolding line-to
-  line-to-comes place p (To q) h n = on-skipping q (λ r _. goes (line h) n)
-  line-to-comes place p (token.Refused k) h n = refused
+  line-to-comes p (To q) h n = on-skipping q (λ r _. goes (line h) n)
+  line-to-comes p (token.Refused k) h n = refused
 
-  module _ (place : ℕ) (n : Near c place) where
+  module _ {place : ℕ} (n : Near c place) where
     module _ (h : block-place (c .place) ≡ false) (k : block-place place ≡ true) where
       extern-open-comes : (language p : ℕ) → Comes s c (extern-open c s place language p)
       unfolding extern-open
@@ -128,62 +128,62 @@ module _ (s : List ℕ) (c : Cursor) where
       unfolding extern-inside
       extern-inside-comes p e =
           on-cond (stands-at close-word s p) (λ _. on-skipping (p + 2) (λ q _. goes (closed h k) n))
-          (λ _. on-cond (stands-at extern-word s p) (λ _. refused) (λ _. line-to-comes (c .place) p e refl (record { few = few; same = refl })))
+          (λ _. on-cond (stands-at extern-word s p) (λ _. refused) (λ _. line-to-comes p e refl (record { few = few; same = refl })))
 
       in-extern-comes : Comes s c (in-extern c s place)
       unfolding in-extern
       in-extern-comes = on-skipping (c .at) (λ p _. extern-inside-comes p (to-either (edition-at c) s p))
 
   module _ (h : block-place (c .place) ≡ false) where
-    matcher-comes : (inner place p : ℕ) → block-place inner ≡ true → Near c inner → block-place place ≡ false → Near c place
+    matcher-comes : {inner place : ℕ} (p : ℕ) → block-place inner ≡ true → Near c inner → block-place place ≡ false → Near c place
         → Comes s c (matcher c s inner place p)
     unfolding matcher
-    matcher-comes inner place p x m y n =
-        on-cond (stands-at extern-word s p) (λ _. extern-at-comes inner m h x p)
-        (λ _. line-to-comes place p (to-semicolon (edition-at c) s p) (y ∙ sym h) n)
+    matcher-comes p x m y n =
+        on-cond (stands-at extern-word s p) (λ _. extern-at-comes m h x p)
+        (λ _. line-to-comes p (to-semicolon (edition-at c) s p) (y ∙ sym h) n)
 
-    opening-at-comes : (place : ℕ) → block-place place ≡ false → Near c place → Comes s c (opening-at c s place)
+    opening-at-comes : {place : ℕ} → block-place place ≡ false → Near c place → Comes s c (opening-at c s place)
     unfolding opening-at
-    opening-at-comes place k n = on-skipping (c .at) (λ p _. on-expecting opening-brace p (goes (body h k) n))
+    opening-at-comes k n = on-skipping (c .at) (λ p _. on-expecting opening-brace p (goes (body h k) n))
 
     -- ---- an export list
     list-at-comes : (p : ℕ) → Near c in-list → Near c in-list-extern → Comes s c (list-at c s p)
     unfolding list-at
     list-at-comes p n m =
         on-cond (stands-at close-word s p) (λ _. on-skipping (p + 2) (λ q _. on-ending q))
-        (λ _. matcher-comes in-list-extern in-list p refl m refl n)
+        (λ _. matcher-comes p refl m refl n)
 
     -- ---- a script
     module _ (l : c .place < at-list) where
-      in-script : (place : ℕ) → place < at-list → Near c place
-      in-script place k = record { few = omega arith; same = lt-ltb place at-list k ∙ sym (lt-ltb (c .place) at-list l) }
+      in-script : {place : ℕ} → place < at-list → Near c place
+      in-script {place} k = record { few = omega arith; same = lt-ltb place at-list k ∙ sym (lt-ltb (c .place) at-list l) }
 
-      name-to-comes : (p : ℕ) → Stopped s p → Comes s c (name-to c p (name-end s p))
+      name-to-comes : {p : ℕ} → Stopped s p → Comes s c (name-to c p (name-end s p))
       unfolding name-to
-      name-to-comes p t =
+      name-to-comes {p} t =
           on-cond (ltb p (name-end s p))
           (λ e.
           let k : p < name-end s p = ltb-true p (name-end s p) e in
           goes
           (node l h (record { some = omega arith; bytes = λ i j. name-at s p i (omega arith); stopped = t }))
-          (in-script at-body (omega arith)))
+          (in-script (omega arith)))
           (λ _. refused)
 
-      node-at-comes : (p : ℕ) → Stopped s p → Comes s c (node-at c s p)
+      node-at-comes : {p : ℕ} → Stopped s p → Comes s c (node-at c s p)
       unfolding node-at
-      node-at-comes p t = on-cond (eqb p (length s)) (λ _. done) (λ _. name-to-comes p t)
+      node-at-comes {p} t = on-cond (eqb p (length s)) (λ _. done) (λ _. name-to-comes t)
 
-      script-at-comes : (p : ℕ) → Stopped s p → Comes s c (script-at c s p)
+      script-at-comes : {p : ℕ} → Stopped s p → Comes s c (script-at c s p)
       unfolding script-at
-      script-at-comes p t =
-          on-cond (eqb (getD s p 0) opening-brace) (λ _. goes (body h refl) (in-script in-sole (omega arith))) (λ _. node-at-comes p t)
+      script-at-comes {p} t =
+          on-cond (eqb (getD s p 0) opening-brace) (λ _. goes (body h refl) (in-script (omega arith))) (λ _. node-at-comes t)
 
       parent-to-comes : (p : ℕ) (f : Found) → first-from (is semicolon) s p ≡ f → Comes s c (parent-to (in-section c 0) p f)
       unfolding parent-to
       parent-to-comes p (Here q) e =
           let w = first-within e in
           let g : (i : ℕ) → i < q - p → eqb (getD s (p + i) 0) semicolon ≡ false = λ i j. w .before (p + i) (omega arith) (omega arith) in
-          goes (parent l h g) (in-script at-node (omega arith))
+          goes (parent {q = q + 1} l h g) (in-script (omega arith))
       parent-to-comes p Nowhere e = refused
 
       node-end-comes : (p : ℕ) → Comes s c (node-end c s p)
@@ -197,9 +197,9 @@ module _ (s : List ℕ) (c : Cursor) where
       inside-body-comes : (inner p : ℕ) → block-place inner ≡ true → inner < at-list → Comes s c (inside-body c s inner p)
       unfolding inside-body
       inside-body-comes inner p x m =
-          on-cond (stands-at global-word s p) (λ _. goes (section l h) (in-script (c .place) l))
-          (λ _. on-cond (stands-at local-word s p) (λ _. goes (section l h) (in-script (c .place) l))
-          (λ _. matcher-comes inner (c .place) p x (in-script inner m) h (in-script (c .place) l)))
+          on-cond (stands-at global-word s p) (λ _. goes (section l h) (in-script l))
+          (λ _. on-cond (stands-at local-word s p) (λ _. goes (section l h) (in-script l))
+          (λ _. matcher-comes p x (in-script m) h (in-script l)))
 
       body-at-comes : (p : ℕ) → Comes s c (body-at c s p)
       unfolding body-at
@@ -219,18 +219,18 @@ module _ (s : List ℕ) (c : Cursor) where
   unfolding next-script start-script go-node go-body go-sole
   next-script-comes l =
       on-cond (eqb (c .place) at-script)
-      (λ e. on-within script-limit (on-skipping (c .at) (λ p t. script-at-comes (rw (at-place e)) l p t)))
-      (λ f0. on-cond (eqb (c .place) at-node) (λ e. on-skipping (c .at) (λ p t. node-at-comes (rw (at-place e)) l p t))
-      (λ f1. on-cond (eqb (c .place) at-body) (λ e. opening-at-comes (rw (at-place e)) in-body refl (in-script (rw (at-place e)) l in-body (omega arith)))
+      (λ e. on-within script-limit (on-skipping (c .at) (λ _ t. script-at-comes (rw (at-place e)) l t)))
+      (λ f0. on-cond (eqb (c .place) at-node) (λ e. on-skipping (c .at) (λ _ t. node-at-comes (rw (at-place e)) l t))
+      (λ f1. on-cond (eqb (c .place) at-body) (λ e. opening-at-comes (rw (at-place e)) refl (in-script (rw (at-place e)) l (omega arith)))
       (λ f2. on-cond (eqb (c .place) in-body) (λ e. on-skipping (c .at) (λ p _. body-at-comes (rw (at-place e)) l p))
       (λ f3. on-cond (eqb (c .place) in-body-extern)
       (λ e.
       let z = at-place e in
-      in-extern-comes in-body (record { few = omega arith; same = rw z }) (omega arith) (rw z) refl)
+      in-extern-comes (record { few = omega arith; same = rw z }) (omega arith) (rw z) refl)
       (λ f4. on-cond (eqb (c .place) in-sole) (λ e. on-skipping (c .at) (λ p _. sole-at-comes (rw (at-place e)) l p))
       (λ f5.
       let z : c .place ≡ in-sole-extern = last f0 f1 f2 f3 f4 f5 in
-      in-extern-comes in-sole (record { few = omega arith; same = rw z }) (omega arith) (rw z) refl))))))
+      in-extern-comes (record { few = omega arith; same = rw z }) (omega arith) (rw z) refl))))))
     where
       last : eqb (c .place) at-script ≡ false → eqb (c .place) at-node ≡ false → eqb (c .place) at-body ≡ false
           → eqb (c .place) in-body ≡ false → eqb (c .place) in-body-extern ≡ false → eqb (c .place) in-sole ≡ false
@@ -252,14 +252,14 @@ module _ (s : List ℕ) (c : Cursor) where
       on-cond (eqb (c .place) at-list)
       (λ e.
       let z = at-place e in
-      on-within script-limit (opening-at-comes (rw z) in-list refl (record { few = omega arith; same = rw z })))
+      on-within script-limit (opening-at-comes (rw z) refl (record { few = omega arith; same = rw z })))
       (λ f0. on-cond (eqb (c .place) in-list)
       (λ e.
       let z = at-place e in
       on-skipping (c .at) (λ p _. list-at-comes (rw z) p (record { few = omega arith; same = rw z }) (record { few = omega arith; same = rw z })))
       (λ f1.
       let z : c .place ≡ in-list-extern = omega (arith, eqb-false (c .place) 7 f0, eqb-false (c .place) 8 f1) in
-      in-extern-comes in-list (record { few = omega arith; same = rw z }) (omega arith) (rw z) refl))
+      in-extern-comes (record { few = omega arith; same = rw z }) (omega arith) (rw z) refl))
 
   next-comes : c .place < at-symbol → Comes s c (next s c)
   unfolding next
@@ -267,8 +267,8 @@ module _ (s : List ℕ) (c : Cursor) where
       on-cond (ltb (c .place) at-list) (λ e. next-script-comes (ltb-true _ _ e))
       (λ f. on-cond (ltb (c .place) at-symbol) (λ _. next-list-comes (ltb-false _ _ f) m) (λ g. absurd (omega (arith, ltb-false (c .place) at-symbol g))))
 
-  pub next-origin : (e : Event) (d : Cursor) → c .place < at-symbol → next s c ≡ Go e d → Origin s c e d × Near c (d .place)
-  next-origin e d m h = go (rw h at (next-comes m))
+  pub next-origin : {e : Event} {d : Cursor} → c .place < at-symbol → next s c ≡ Go e d → Origin s c e d × Near c (d .place)
+  next-origin {e} {d} m h = go (rw h at (next-comes m))
     where
       go : Comes s c (Go e d) → Origin s c e d × Near c (d .place)
       go (goes o n) = (o, n)

@@ -21,7 +21,7 @@ use Rattle.linker_script.proofs.Trimming.{trim-few}
 use Rattle.reading_tokens.specs.declared.TokenEnd.{TokenEnd}
 use Rattle.reading_tokens.specs.declared.TokenEnd.the-variants.{To}
 use Rattle.reading_tokens.specs.declared.TokenEnd.the-variants as token
-use Rattle.reading_tokens.specs.Tokens.{stands-at, name-end, to-semicolon, to-either, bare-extern-end, bare-end, trimmed}
+use Rattle.reading_tokens.specs.Tokens.{stands-at, name-end, bare-end, trimmed}
 use Rattle.reading_cursors.specs.declared.Cursor.{Cursor}
 use Rattle.reading_cursors.specs.declared.Event.{Event}
 use Rattle.reading_cursors.specs.declared.Event.the-variants.{Node, Body, Section, Extern, Closed, Line, Parent}
@@ -85,10 +85,10 @@ module _ (s : List ℕ) where
 
   module _ (c : Cursor) (m : Marked c) where
     -- ---- matchers
-    line-to-keeps : (place p : ℕ) (e : TokenEnd) → Ends s p e → Keeps s (line-to c s place p e)
+    line-to-keeps : (place : ℕ) {p : ℕ} {e : TokenEnd} → Ends s p e → Keeps s (line-to c s place p e)
     unfolding line-to
-    line-to-keeps place p (To q) (ends h k) = on-skipping c q (λ r. goes (line m (trimmed-within s p q (omega arith))) m)
-    line-to-keeps place p (token.Refused n) (refuses h) = refused
+    line-to-keeps place {p} (ends {q = q} h k) = on-skipping c q (λ r. goes (line m (trimmed-within s p q (omega arith))) m)
+    line-to-keeps place (refuses h) = refused
 
     extern-open-keeps : (place language p : ℕ) → language ≤ 1 → Keeps s (extern-open c s place language p)
     unfolding extern-open
@@ -101,24 +101,24 @@ module _ (s : List ℕ) where
         on-cond (stands-at cxx-word s (p + 7)) (λ _. extern-open-keeps place 1 (p + 12) (omega arith))
         (on-cond (stands-at c-word s (p + 7)) (λ _. extern-open-keeps place 0 (p + 10) (omega arith)) refused)
 
-    extern-inside-keeps : (place p : ℕ) (e : TokenEnd) → Ends s p e → Keeps s (extern-inside c s place p e)
+    extern-inside-keeps : (place : ℕ) {p : ℕ} {e : TokenEnd} → Ends s p e → Keeps s (extern-inside c s place p e)
     unfolding extern-inside
-    extern-inside-keeps place p e h =
+    extern-inside-keeps place {p} h =
         on-cond (stands-at close-word s p) (λ _. on-skipping c (p + 2) (λ q. goes closed (record { section = m .section; language = omega arith })))
-        (on-cond (stands-at extern-word s p) (λ _. refused) (line-to-keeps (c .place) p e h))
+        (on-cond (stands-at extern-word s p) (λ _. refused) (line-to-keeps (c .place) h))
 
     in-extern-keeps : (place : ℕ) → Keeps s (in-extern c s place)
     unfolding in-extern
-    in-extern-keeps place = on-skipping c (c .at) (λ p. extern-inside-keeps place p (to-either (edition-at c) s p) (either-ends (edition-at c) s p))
+    in-extern-keeps place = on-skipping c (c .at) (λ p. extern-inside-keeps place (either-ends (edition-at c) s p))
 
     in-bare-keeps : (place : ℕ) → Keeps s (in-bare c s place)
     unfolding in-bare
-    in-bare-keeps place = on-skipping c (c .at) (λ p. extern-inside-keeps place p (bare-extern-end (edition-at c) s p) (bare-extern-ends (edition-at c) s p))
+    in-bare-keeps place = on-skipping c (c .at) (λ p. extern-inside-keeps place (bare-extern-ends (edition-at c) s p))
 
     matcher-keeps : (inner place p : ℕ) → Keeps s (matcher c s inner place p)
     unfolding matcher
     matcher-keeps inner place p =
-        on-cond (stands-at extern-word s p) (λ _. extern-at-keeps inner p) (line-to-keeps place p (to-semicolon (edition-at c) s p) (semicolon-ends (edition-at c) s p))
+        on-cond (stands-at extern-word s p) (λ _. extern-at-keeps inner p) (line-to-keeps place (semicolon-ends (edition-at c) s p))
 
     bare-line-keeps : (place : ℕ) (e : TokenEnd) → Keeps s (bare-line c s place e)
     unfolding bare-line
@@ -226,8 +226,8 @@ module _ (s : List ℕ) where
         on-cond (ltb (c .place) at-list) (λ _. next-script-keeps)
         (on-cond (ltb (c .place) at-symbol) (λ _. next-list-keeps) next-symbol-keeps)
 
-    pub next-parts : (e : Event) (d : Cursor) → next s c ≡ Go e d → Parts s e × Marked d
-    next-parts e d h = go (rw h at next-keeps)
+    pub next-parts : {e : Event} {d : Cursor} → next s c ≡ Go e d → Parts s e × Marked d
+    next-parts {e} {d} h = go (rw h at next-keeps)
       where
         go : Keeps s (Go e d) → Parts s e × Marked d
         go (goes p k) = (p, k)

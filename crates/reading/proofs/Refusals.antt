@@ -28,25 +28,25 @@ abbrev pub of-reader : ℕ → Bool
 of-reader n = eqb n too-long || of-grammar n
 
 module _ (s : List ℕ) (c : Cursor) where
-  refusal : (n p : ℕ) → next s c ≡ Refused n p → Refusal s c n p
-  refusal n p h = go (rw h at (next-fits s c))
+  refusal : {n p : ℕ} → next s c ≡ Refused n p → Refusal s c n p
+  refusal {n} {p} h = go (rw h at (next-fits s c))
     where
       go : Fits s c (Refused n p) → Refusal s c n p
       go (refuses r) = r
 
-  pub next-refuses : (n p : ℕ) → next s c ≡ Refused n p → (of-reader n ≡ true) × (c .at ≤ length s → p ≤ length s)
-  next-refuses n p h = go n p (refusal n p h)
+  pub next-refuses : {n p : ℕ} → next s c ≡ Refused n p → (of-reader n ≡ true) × (c .at ≤ length s → p ≤ length s)
+  next-refuses h = go (refusal h)
     where
-      go : (n p : ℕ) → Refusal s c n p → (of-reader n ≡ true) × (c .at ≤ length s → p ≤ length s)
-      go n p (long o) = (refl, λ _. omega arith)
-      go n p (grammar k l) = (rw k (or-true (eqb n too-long)), l)
+      go : {n p : ℕ} → Refusal s c n p → (of-reader n ≡ true) × (c .at ≤ length s → p ≤ length s)
+      go (long o) = (refl, λ _. omega arith)
+      go {n} (grammar k l) = (rw k (or-true (eqb n too-long)), l)
 
   too-long-only : (p : ℕ) → next s c ≡ Refused too-long p → Over s (c .place)
-  too-long-only p h = go too-long p refl (refusal too-long p h)
+  too-long-only p h = go refl (refusal h)
     where
-      go : (n p : ℕ) → n ≡ too-long → Refusal s c n p → Over s (c .place)
-      go n p z (long o) = o
-      go n p z (grammar k l) = absurd (true≢false (sym (rw z at k)))
+      go : {n p : ℕ} → n ≡ too-long → Refusal s c n p → Over s (c .place)
+      go z (long o) = o
+      go z (grammar k l) = absurd (true≢false (sym (rw z at k)))
 
   too-long-always : Over s (c .place) → next s c ≡ Refused too-long 0
   unfolding next next-script next-list next-symbol start-script
@@ -74,7 +74,7 @@ module _ (s : List ℕ) (n p : ℕ) where
       go End z k more = absurd (true≢false (cc))
       go (Refused a b) z k more =
           let e : a ≡ n = cc in
-          rw (← e) (next-refuses s c a b z .0)
+          rw (← e) (next-refuses s c z .0)
 
   pub reading-refuses : (edition place : ℕ) → reading edition place s .outcome ≡ refused n p → of-reader n ≡ true
   unfolding reading reading-from
@@ -96,8 +96,8 @@ unfolding next next-symbol
 behind-ends s c e = rw e
 
 -- its number is small, and its place one of the text
-pub standing-refuses : (s : List ℕ) (c : Cursor) → Standing s c → (n p : ℕ) → next s c ≡ Refused n p → (n ≤ 4) × (p ≤ length s)
-standing-refuses s c k n p h = (small n (next-refuses s c n p h .0), next-refuses s c n p h .1 (go (eqb (c .place) behind-symbol) refl))
+pub standing-refuses : {s : List ℕ} {c : Cursor} → Standing s c → {n p : ℕ} → next s c ≡ Refused n p → (n ≤ 4) × (p ≤ length s)
+standing-refuses {s} {c} k {n} {p} h = (small n (next-refuses s c h .0), next-refuses s c h .1 (go (eqb (c .place) behind-symbol) refl))
   where
     go : (t : Bool) → eqb (c .place) behind-symbol ≡ t → c .at ≤ length s
     go true e =

@@ -79,7 +79,7 @@ Spans c (Line k l p n) d = Stays c d
 Spans c (Parent p n) d = Closes c p n d
 
 data Comes (c : Cursor) : Step → Type 0 where
-  goes : (e : Event) (d : Cursor) → Spans c e d → Comes c (Go e d)
+  goes : {e : Event} {d : Cursor} → Spans c e d → Comes c (Go e d)
   done : stage (c .place) ≡ outside → Comes c End
   refused : {n p : ℕ} → Comes c (Refused n p)
 
@@ -105,13 +105,13 @@ module _ (s : List ℕ) (c : Cursor) where
   -- ---- matchers: the cursor stands at `place` behind a line, and in an extern block at `inner`
   line-to-comes : (place p : ℕ) (e : TokenEnd) → stage place ≡ stage (c .place) → Comes c (line-to c s place p e)
   unfolding line-to
-  line-to-comes place p (To q) h = on-skipping q (λ r _. goes _ _ h)
+  line-to-comes place p (To q) h = on-skipping q (λ r _. goes h)
   line-to-comes place p (token.Refused k) h = refused
 
   module _ (place : ℕ) (h : stage place ≡ stage (c .place)) where
     extern-open-comes : (language p : ℕ) → Comes c (extern-open c s place language p)
     unfolding extern-open
-    extern-open-comes language p = on-skipping p (λ q _. on-expecting opening-brace q (goes _ _ h))
+    extern-open-comes language p = on-skipping p (λ q _. on-expecting opening-brace q (goes h))
 
     extern-at-comes : (p : ℕ) → Comes c (extern-at c s place p)
     unfolding extern-at
@@ -122,7 +122,7 @@ module _ (s : List ℕ) (c : Cursor) where
     extern-inside-comes : (p : ℕ) (e : TokenEnd) → Comes c (extern-inside c s place p e)
     unfolding extern-inside
     extern-inside-comes p e =
-        on-cond (stands-at close-word s p) (λ _. on-skipping (p + 2) (λ q _. goes _ _ h))
+        on-cond (stands-at close-word s p) (λ _. on-skipping (p + 2) (λ q _. goes h))
         (λ _. on-cond (stands-at extern-word s p) (λ _. refused) (λ _. line-to-comes (c .place) p e refl))
 
     in-extern-comes : Comes c (in-extern c s place)
@@ -157,7 +157,7 @@ module _ (s : List ℕ) (c : Cursor) where
         (λ e.
         let l : p < name-end s p = ltb-true p (name-end s p) e in
         let o : Begins c p (name-end s p - p) (moved c at-body (name-end s p)) = record { before = h; from = k; to = omega arith; behind = refl } in
-        goes _ _ o)
+        goes o)
         (λ _. refused)
 
     node-at-comes : (p : ℕ) → c .at ≤ p → Comes c (node-at c s p)
@@ -166,7 +166,7 @@ module _ (s : List ℕ) (c : Cursor) where
 
     script-at-comes : (p : ℕ) → c .at ≤ p → Comes c (script-at c s p)
     unfolding script-at
-    script-at-comes p k = on-cond (eqb (getD s p 0) opening-brace) (λ _. goes _ _ (of-none h refl)) (λ _. node-at-comes p k)
+    script-at-comes p k = on-cond (eqb (getD s p 0) opening-brace) (λ _. goes (of-none h refl)) (λ _. node-at-comes p k)
 
     sole-end-comes : (p : ℕ) → Comes c (sole-end c s p)
     unfolding sole-end
@@ -176,8 +176,8 @@ module _ (s : List ℕ) (c : Cursor) where
   inside-body-comes : (inner p : ℕ) → stage inner ≡ stage (c .place) → Comes c (inside-body c s inner p)
   unfolding inside-body
   inside-body-comes inner p h =
-      on-cond (stands-at global-word s p) (λ _. goes _ _ refl)
-      (λ _. on-cond (stands-at local-word s p) (λ _. goes _ _ refl)
+      on-cond (stands-at global-word s p) (λ _. goes refl)
+      (λ _. on-cond (stands-at local-word s p) (λ _. goes refl)
       (λ _. matcher-comes inner (c .place) p h refl))
 
   sole-at-comes : stage (c .place) ≡ outside → (p : ℕ) → Comes c (sole-at c s p)
@@ -192,7 +192,7 @@ module _ (s : List ℕ) (c : Cursor) where
         let w = first-within e in
         let o : Closes c p (q - p) (moved (in-section c 0) at-node (q + 1)) =
         record { before = h; from = k; to = omega (arith, w .onward); behind = refl } in
-        goes _ _ o
+        goes o
     parent-to-comes p k Nowhere e = refused
 
     node-end-comes : (p : ℕ) → c .at < p → Comes c (node-end c s p)
@@ -213,7 +213,7 @@ module _ (s : List ℕ) (c : Cursor) where
   next-script-comes l =
       on-cond (eqb (c .place) at-script) (λ e. on-within script-limit (on-skipping (c .at) (λ p k. script-at-comes (rw (at-place e)) p k)))
       (λ f0. on-cond (eqb (c .place) at-node) (λ e. on-skipping (c .at) (λ p k. node-at-comes (rw (at-place e)) p k))
-      (λ f1. on-cond (eqb (c .place) at-body) (λ e. opening-at-comes in-body (λ q. goes _ _ (of-node (rw (at-place e)) refl)))
+      (λ f1. on-cond (eqb (c .place) at-body) (λ e. opening-at-comes in-body (λ q. goes (of-node (rw (at-place e)) refl)))
       (λ f2. on-cond (eqb (c .place) in-body) (λ e. on-skipping (c .at) (λ p k. body-at-comes (rw (at-place e)) p k))
       (λ f3. on-cond (eqb (c .place) in-body-extern) (λ e. in-extern-comes in-body (rw (at-place e)))
       (λ f4. on-cond (eqb (c .place) in-sole) (λ e. on-skipping (c .at) (λ p _. sole-at-comes (rw (at-place e)) p))
@@ -239,7 +239,7 @@ module _ (s : List ℕ) (c : Cursor) where
   unfolding next-list go-list
   next-list-comes l m =
       on-cond (eqb (c .place) at-list)
-      (λ e. on-within script-limit (opening-at-comes in-list (λ q. goes _ _ (of-none (rw (at-place e)) refl))))
+      (λ e. on-within script-limit (opening-at-comes in-list (λ q. goes (of-none (rw (at-place e)) refl))))
       (λ f0. on-cond (eqb (c .place) in-list) (λ e. on-skipping (c .at) (λ p _. list-at-comes (rw (at-place e)) p))
       (λ f1.
       let z : c .place ≡ in-list-extern = omega (arith, eqb-false (c .place) 7 f0, eqb-false (c .place) 8 f1) in
@@ -251,11 +251,11 @@ module _ (s : List ℕ) (c : Cursor) where
       on-cond (ltb (c .place) at-list) (λ e. next-script-comes (ltb-true _ _ e))
       (λ f. on-cond (ltb (c .place) at-symbol) (λ _. next-list-comes (ltb-false _ _ f) m) (λ g. absurd (omega (arith, ltb-false (c .place) at-symbol g))))
 
-  pub next-spans : (e : Event) (d : Cursor) → c .place < at-symbol → next s c ≡ Go e d → Spans c e d
-  next-spans e d m h = go (rw h at (next-comes m))
+  pub next-spans : {e : Event} {d : Cursor} → c .place < at-symbol → next s c ≡ Go e d → Spans c e d
+  next-spans {e} {d} m h = go (rw h at (next-comes m))
     where
       go : Comes c (Go e d) → Spans c e d
-      go (goes _ _ o) = o
+      go (goes o) = o
 
   pub next-ends : c .place < at-symbol → next s c ≡ End → stage (c .place) ≡ outside
   next-ends m h = go (rw h at (next-comes m))

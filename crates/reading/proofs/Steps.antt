@@ -11,7 +11,7 @@ use borrow.Author.Tests.{eqb-true, ne-eqb, ltb-true}
 use lib.Dec.{eqb, ltb}
 use lib.ListN.{length, getD}
 use Rattle.numbers.specs.Limits.{script-limit, token-limit}
-use Rattle.numbers.specs.Refusals.{too-long, unreadable, bad-extern}
+use Rattle.numbers.specs.Refusals.{too-long}
 use Rattle.numbers.specs.Signs.{closing-brace, opening-brace, semicolon}
 use Rattle.linker_script.specs.declared.Found.{Found}
 use Rattle.linker_script.specs.declared.Found.the-variants.{Here, Nowhere}
@@ -24,7 +24,7 @@ use Rattle.linker_script.proofs.Unclosed.{unclosed-within}
 use Rattle.reading_tokens.specs.declared.TokenEnd.{TokenEnd}
 use Rattle.reading_tokens.specs.declared.TokenEnd.the-variants.{To}
 use Rattle.reading_tokens.specs.declared.TokenEnd.the-variants as token
-use Rattle.reading_tokens.specs.Tokens.{stands-at, name-end, to-semicolon, to-either, bare-extern-end, bare-end, bare-skip}
+use Rattle.reading_tokens.specs.Tokens.{stands-at, name-end, bare-end, bare-skip}
 use Rattle.reading_cursors.specs.declared.Cursor.{Cursor}
 use Rattle.reading_cursors.specs.declared.Event.{Event}
 use Rattle.reading_cursors.specs.declared.Step.{Step}
@@ -69,125 +69,123 @@ module _ (s : List ℕ) (c : Cursor) where
   first : symbol-start (c .place) ≡ true → Reached s c 0
   first h = record { ahead = λ f. omega (arith, f h); inside = λ _. omega arith }
 
-  further : (p q : ℕ) → Reached s c p → p ≤ q → (p ≤ length s → q ≤ length s) → Reached s c q
-  further p q r h k = record { ahead = λ f. omega (arith, r .ahead f); inside = λ l. k (r .inside l) }
+  further : {p q : ℕ} → Reached s c p → p ≤ q → (p ≤ length s → q ≤ length s) → Reached s c q
+  further r h k = record { ahead = λ f. omega (arith, r .ahead f); inside = λ l. k (r .inside l) }
 
   -- ---- how a step goes on
-  refuse : (n p : ℕ) → of-grammar n ≡ true → Reached s c p → Fits s c (Refused n p)
-  refuse n p h r = refused (grammar h (r .inside))
+  refuse : {n p : ℕ} → of-grammar n ≡ true → Reached s c p → Fits s c (Refused n p)
+  refuse h r = refused (grammar h (r .inside))
 
-  go-on : {e : Event} {d : Cursor} (p : ℕ) → Reached s c p → p < d .at → d .at ≤ length s → symbol-start (d .place) ≡ false
+  go-on : {e : Event} {d : Cursor} {p : ℕ} → Reached s c p → p < d .at → d .at ≤ length s → symbol-start (d .place) ≡ false
       → Fits s c (Go e d)
-  go-on {d = d} p r h k b = goes {d = d} (λ f. record { onward = omega (arith, r .ahead f); within = omega arith; begun = b; inside = λ _. k })
+  go-on {d = d} r h k b = goes {d = d} (λ f. record { onward = omega (arith, r .ahead f); within = omega arith; begun = b; inside = λ _. k })
 
   on-cond : (t : Bool) {a b : Step} → (t ≡ true → Fits s c a) → (t ≡ false → Fits s c b) → Fits s c (cond t a b)
   on-cond true f g = f refl
   on-cond false f g = g refl
 
-  on-skipping : (p : ℕ) {on : ℕ → Step} → Reached s c p → ((q : ℕ) → Past s p q → Reached s c q → Fits s c (on q)) → Fits s c (skipping c s p on)
-  on-skipping p {on} r f = go (skip-at c s p) refl
+  on-skipping : {p : ℕ} {on : ℕ → Step} → Reached s c p → ((q : ℕ) → Past s p q → Reached s c q → Fits s c (on q)) → Fits s c (skipping c s p on)
+  on-skipping {p} {on} r f = go (skip-at c s p) refl
     where
       go : (k : Skipped) → skip-at c s p ≡ k → Fits s c (on-skip k on)
       go (At q) e =
           let w : Past s p q = record { onward = skip-ended e .onward; within = skip-ended e .within } in
-          f q w (further p q r (w .onward) (w .within))
+          f q w (further r (w .onward) (w .within))
       go (Open q) e = refused (grammar {p = q} refl (λ h. omega (arith, unclosed-within (edition-at c) s p q (r .inside h) e)))
 
-  on-expecting : (b p : ℕ) {a : Step} → 0 < b → Reached s c p → (p < length s → Fits s c a) → Fits s c (expecting b s p (λ _. a))
-  on-expecting b p h r f = on-cond (eqb (getD s p 0) b) (λ e. f (byte-stands s p b h e)) (λ _. refuse unreadable p refl r)
+  on-expecting : (b : ℕ) {p : ℕ} {a : Step} → 0 < b → Reached s c p → (p < length s → Fits s c a) → Fits s c (expecting b s p (λ _. a))
+  on-expecting b {p} h r f = on-cond (eqb (getD s p 0) b) (λ e. f (byte-stands s p b h e)) (λ _. refuse refl r)
 
-  on-ending : (p : ℕ) → Reached s c p → Fits s c (ending s p)
-  on-ending p r = on-cond (eqb p (length s)) (λ _. done) (λ _. refuse unreadable p refl r)
+  on-ending : {p : ℕ} → Reached s c p → Fits s c (ending s p)
+  on-ending {p} r = on-cond (eqb p (length s)) (λ _. done) (λ _. refuse refl r)
 
   on-within : (limit : ℕ) {r : Step} → (limit < length s → Over s (c .place)) → Fits s c r → Fits s c (within limit s r)
   on-within limit o f = on-cond (ltb limit (length s)) (λ e. refused (long (o (ltb-true limit (length s) e)))) (λ _. f)
 
   -- ---- matchers
   -- p is reached, and the reading then stands at `place`, which starts none
-  module _ (place p : ℕ) (b : symbol-start place ≡ false) (r : Reached s c p) where
-    line-to-fits : (e : TokenEnd) → Ends s p e → Fits s c (line-to c s place p e)
+  module _ (place : ℕ) {p : ℕ} (b : symbol-start place ≡ false) (r : Reached s c p) where
+    line-to-fits : {e : TokenEnd} → Ends s p e → Fits s c (line-to c s place p e)
     unfolding line-to
-    line-to-fits (To q) (ends h k) =
-        on-skipping q (further p q r (omega arith) (λ _. omega arith)) (λ x w _.
+    line-to-fits (ends h k) =
+        on-skipping (further r (omega arith) (λ _. omega arith)) (λ x w _.
         let y = past-semicolon-within s x in
-        go-on p r (omega (arith, w .onward, y .onward)) (y .within (w .within (omega arith))) b)
-    line-to-fits (token.Refused n) (refuses h) = refuse n p h r
+        go-on r (omega (arith, w .onward, y .onward)) (y .within (w .within (omega arith))) b)
+    line-to-fits (refuses h) = refuse h r
 
     extern-open-fits : (language : ℕ) → Fits s c (extern-open c s place language p)
     unfolding extern-open
     extern-open-fits language =
-        on-skipping p r (λ q _ t. on-expecting opening-brace q (omega arith) t (λ h. go-on q t (omega arith) (omega arith) b))
+        on-skipping r (λ _ _ t. on-expecting opening-brace (omega arith) t (λ h. go-on t (omega arith) (omega arith) b))
 
   -- behind a word of n bytes
-  behind : (p n : ℕ) → Reached s c p → p + n ≤ length s → Reached s c (p + n)
-  behind p n r h = further p (p + n) r (omega arith) (λ _. h)
+  behind : {p : ℕ} (n : ℕ) → Reached s c p → p + n ≤ length s → Reached s c (p + n)
+  behind n r h = further r (omega arith) (λ _. h)
 
-  module _ (place p : ℕ) (b : symbol-start place ≡ false) (r : Reached s c p) where
+  module _ (place : ℕ) {p : ℕ} (b : symbol-start place ≡ false) (r : Reached s c p) where
     -- the word of a language stands behind `extern `
     language-fits : (w : List ℕ) (n language : ℕ) → 0 < length w → n ≡ 7 + length w → stands-at w s (p + 7) ≡ true
         → Fits s c (extern-open c s place language (p + n))
-    language-fits w n language h z e = extern-open-fits place (p + n) b (behind p n r (omega (arith, word-stands w s (p + 7) h e))) language
+    language-fits w n language h z e = extern-open-fits place b (behind n r (omega (arith, word-stands w s (p + 7) h e))) language
 
     extern-at-fits : Fits s c (extern-at c s place p)
     unfolding extern-at
     extern-at-fits =
         on-cond (stands-at cxx-word s (p + 7)) (language-fits cxx-word 12 1 (omega arith) refl)
         (λ _. on-cond (stands-at c-word s (p + 7)) (language-fits c-word 10 0 (omega arith) refl)
-        (λ _. refuse bad-extern p refl r))
+        (λ _. refuse refl r))
 
     -- the cursor stands in the block
-    extern-inside-fits : symbol-start (c .place) ≡ false → (e : TokenEnd) → Ends s p e → Fits s c (extern-inside c s place p e)
+    extern-inside-fits : symbol-start (c .place) ≡ false → {e : TokenEnd} → Ends s p e → Fits s c (extern-inside c s place p e)
     unfolding extern-inside
-    extern-inside-fits i e h =
+    extern-inside-fits i h =
         on-cond (stands-at close-word s p)
         (λ k.
         let n = word-stands close-word s p (omega arith) k in
-        on-skipping (p + 2) (behind p 2 r n) (λ q w t. go-on p r (omega (arith, w .onward)) (w .within n) b))
-        (λ _. on-cond (stands-at extern-word s p) (λ _. refuse bad-extern p refl r)
-        (λ _. line-to-fits (c .place) p i r e h))
+        on-skipping (behind 2 r n) (λ _ w t. go-on r (omega (arith, w .onward)) (w .within n) b))
+        (λ _. on-cond (stands-at extern-word s p) (λ _. refuse refl r)
+        (λ _. line-to-fits (c .place) i r h))
 
   module _ (place : ℕ) (b : symbol-start place ≡ false) (i : symbol-start (c .place) ≡ false) where
     in-extern-fits : Fits s c (in-extern c s place)
     unfolding in-extern
-    in-extern-fits = on-skipping (c .at) here (λ p _ r. extern-inside-fits place p b r i (to-either (edition-at c) s p) (either-ends (edition-at c) s p))
+    in-extern-fits = on-skipping here (λ p _ r. extern-inside-fits place b r i (either-ends (edition-at c) s p))
 
     in-bare-fits : Fits s c (in-bare c s place)
     unfolding in-bare
-    in-bare-fits = on-skipping (c .at) here (λ p _ r. extern-inside-fits place p b r i (bare-extern-end (edition-at c) s p) (bare-extern-ends (edition-at c) s p))
+    in-bare-fits = on-skipping here (λ p _ r. extern-inside-fits place b r i (bare-extern-ends (edition-at c) s p))
 
   module _ (inner place : ℕ) (a : symbol-start inner ≡ false) (b : symbol-start place ≡ false) where
-    matcher-fits : (p : ℕ) → Reached s c p → Fits s c (matcher c s inner place p)
+    matcher-fits : {p : ℕ} → Reached s c p → Fits s c (matcher c s inner place p)
     unfolding matcher
-    matcher-fits p r =
-        on-cond (stands-at extern-word s p)
-        (λ _. extern-at-fits inner p a r)
-        (λ _. line-to-fits place p b r (to-semicolon (edition-at c) s p) (semicolon-ends (edition-at c) s p))
+    matcher-fits {p} r =
+        on-cond (stands-at extern-word s p) (λ _. extern-at-fits inner a r) (λ _. line-to-fits place b r (semicolon-ends (edition-at c) s p))
 
     module _ (r : Reached s c 0) (z : place ≡ behind-symbol) where
       bare-line-fits : (e : TokenEnd) → bare-end (edition-at c) s ≡ e → Fits s c (bare-line c s place e)
       unfolding bare-line
       bare-line-fits (To q) _ =
-          on-skipping (bare-skip (edition-at c) s) (further 0 (bare-skip (edition-at c) s) r (omega arith) (λ _. bare-skip-within (edition-at c) s)) (λ _ _ _.
+          on-skipping (further {q = bare-skip (edition-at c) s} r (omega arith) (λ _. bare-skip-within (edition-at c) s)) (λ _ _ _.
           goes (λ f. record {
             onward = omega (arith, r .ahead f);
             within = omega arith;
             begun = b;
             inside = λ h. absurd (true≢false (rw z at h));
           }))
-      bare-line-fits (token.Refused n) e = refuse n 0 (bare-refuses (edition-at c) s n e) r
+      bare-line-fits (token.Refused n) e = refuse (bare-refuses (edition-at c) s n e) r
 
       bare-matcher-fits : Fits s c (bare-matcher c s inner place)
       unfolding bare-matcher
-      bare-matcher-fits = on-cond (stands-at extern-word s 0) (λ _. extern-at-fits inner 0 a r) (λ _. bare-line-fits (bare-end (edition-at c) s) refl)
+      bare-matcher-fits = on-cond (stands-at extern-word s 0) (λ _. extern-at-fits inner a r) (λ _. bare-line-fits (bare-end (edition-at c) s) refl)
 
   -- ---- nodes
-  module _ (p : ℕ) (r : Reached s c p) where
+  module _ {p : ℕ} (r : Reached s c p) where
     name-to-fits : (q : ℕ) → (p < q → q ≤ length s) → Fits s c (name-to c p q)
     unfolding name-to
     name-to-fits q h =
         on-cond (ltb p q)
-        (λ e. let l = ltb-true p q e in go-on p r l (h l) refl)
-        (λ _. refuse unreadable p refl r)
+        (λ e. let l = ltb-true p q e in go-on r l (h l) refl)
+        (λ _. refuse refl r)
 
     node-at-fits : Fits s c (node-at c s p)
     unfolding node-at
@@ -197,62 +195,62 @@ module _ (s : List ℕ) (c : Cursor) where
     unfolding script-at
     script-at-fits =
         on-cond (eqb (getD s p 0) opening-brace)
-        (λ e. go-on p r (omega arith) (omega (arith, byte-stands s p opening-brace (omega arith) e)) refl)
+        (λ e. go-on r (omega arith) (omega (arith, byte-stands s p opening-brace (omega arith) e)) refl)
         (λ _. node-at-fits)
 
     parent-to-fits : (d : Cursor) → (f : Found) → first-from (is semicolon) s p ≡ f → Fits s c (parent-to d p f)
     unfolding parent-to
     parent-to-fits d (Here q) e =
         let h = first-within e in
-        go-on p r (omega (arith, h .onward)) (omega (arith, h .within)) refl
-    parent-to-fits d Nowhere e = refuse unreadable p refl r
+        go-on r (omega (arith, h .onward)) (omega (arith, h .within)) refl
+    parent-to-fits d Nowhere e = refuse refl r
 
-  module _ (p : ℕ) (r : Reached s c p) where
+  module _ {p : ℕ} (r : Reached s c p) where
     node-end-fits : Fits s c (node-end c s p)
     unfolding node-end parent-at
-    node-end-fits = on-skipping p r (λ q _ t. parent-to-fits q t (in-section c 0) (first-from (is semicolon) s q) refl)
+    node-end-fits = on-skipping r (λ q _ t. parent-to-fits t (in-section c 0) (first-from (is semicolon) s q) refl)
 
     sole-end-fits : Fits s c (sole-end c s p)
     unfolding sole-end
     sole-end-fits =
-        on-skipping p r (λ q _ t. on-expecting semicolon q (omega arith) t (λ h.
-        on-skipping (q + 1) (further q (q + 1) t (omega arith) (λ _. omega arith)) (λ e _ u. on-ending e u)))
+        on-skipping r (λ _ _ t. on-expecting semicolon (omega arith) t (λ h.
+        on-skipping (further t (omega arith) (λ _. omega arith)) (λ _ _ u. on-ending u)))
 
   opening-at-fits : (place : ℕ) → symbol-start place ≡ false → Fits s c (opening-at c s place)
   unfolding opening-at
   opening-at-fits place b =
-      on-skipping (c .at) here (λ p _ r. on-expecting opening-brace p (omega arith) r (λ h. go-on p r (omega arith) (omega arith) b))
+      on-skipping here (λ _ _ r. on-expecting opening-brace (omega arith) r (λ h. go-on r (omega arith) (omega arith) b))
 
   -- ---- bodies and lists
-  module _ (i : symbol-start (c .place) ≡ false) (p : ℕ) (r : Reached s c p) where
+  module _ (i : symbol-start (c .place) ≡ false) {p : ℕ} (r : Reached s c p) where
     inside-body-fits : (inner : ℕ) → symbol-start inner ≡ false → Fits s c (inside-body c s inner p)
     unfolding inside-body
     inside-body-fits inner a =
-        on-cond (stands-at global-word s p) (λ e. go-on p r (omega arith) (word-stands global-word s p (omega arith) e) i)
-        (λ _. on-cond (stands-at local-word s p) (λ e. go-on p r (omega arith) (word-stands local-word s p (omega arith) e) i)
-        (λ _. matcher-fits inner (c .place) a i p r))
+        on-cond (stands-at global-word s p) (λ e. go-on r (omega arith) (word-stands global-word s p (omega arith) e) i)
+        (λ _. on-cond (stands-at local-word s p) (λ e. go-on r (omega arith) (word-stands local-word s p (omega arith) e) i)
+        (λ _. matcher-fits inner (c .place) a i r))
 
     -- at a `}`, and else
     at-brace : {a b : Step} → (Reached s c (p + 1) → Fits s c a) → Fits s c b → Fits s c (cond (eqb (getD s p 0) closing-brace) a b)
     at-brace f g =
         on-cond (eqb (getD s p 0) closing-brace)
-        (λ e. f (behind p 1 r (omega (arith, byte-stands s p closing-brace (omega arith) e))))
+        (λ e. f (behind 1 r (omega (arith, byte-stands s p closing-brace (omega arith) e))))
         (λ _. g)
 
     body-at-fits : Fits s c (body-at c s p)
     unfolding body-at
-    body-at-fits = at-brace (node-end-fits (p + 1)) (inside-body-fits in-body-extern refl)
+    body-at-fits = at-brace node-end-fits (inside-body-fits in-body-extern refl)
 
     sole-at-fits : Fits s c (sole-at c s p)
     unfolding sole-at
-    sole-at-fits = at-brace (sole-end-fits (p + 1)) (inside-body-fits in-sole-extern refl)
+    sole-at-fits = at-brace sole-end-fits (inside-body-fits in-sole-extern refl)
 
     list-at-fits : Fits s c (list-at c s p)
     unfolding list-at
     list-at-fits =
         on-cond (stands-at close-word s p)
-        (λ e. on-skipping (p + 2) (behind p 2 r (word-stands close-word s p (omega arith) e)) (λ q _ t. on-ending q t))
-        (λ _. matcher-fits in-list-extern in-list refl refl p r)
+        (λ e. on-skipping (behind 2 r (word-stands close-word s p (omega arith) e)) (λ _ _ t. on-ending t))
+        (λ _. matcher-fits in-list-extern in-list refl refl r)
 
   -- ---- the step at each place
   at-place : (place : ℕ) {a b : Step} → (c .place ≡ place → Fits s c a) → Fits s c b → Fits s c (cond (eqb (c .place) place) a b)
@@ -262,25 +260,25 @@ module _ (s : List ℕ) (c : Cursor) where
     next-script-fits : Fits s c (next-script s c)
     unfolding next-script start-script go-node go-body go-sole
     next-script-fits =
-        at-place at-script (λ z. on-within script-limit (λ h. rw z (script h)) (on-skipping (c .at) here (λ p _ r. script-at-fits p r)))
-        (at-place at-node (λ _. on-skipping (c .at) here (λ p _ r. node-at-fits p r))
+        at-place at-script (λ z. on-within script-limit (λ h. rw z (script h)) (on-skipping here (λ _ _ r. script-at-fits r)))
+        (at-place at-node (λ _. on-skipping here (λ _ _ r. node-at-fits r))
         (at-place at-body (λ _. opening-at-fits in-body refl)
-        (at-place in-body (λ _. on-skipping (c .at) here (λ p _ r. body-at-fits i p r))
+        (at-place in-body (λ _. on-skipping here (λ _ _ r. body-at-fits i r))
         (at-place in-body-extern (λ _. in-extern-fits in-body refl i)
-        (at-place in-sole (λ _. on-skipping (c .at) here (λ p _ r. sole-at-fits i p r))
+        (at-place in-sole (λ _. on-skipping here (λ _ _ r. sole-at-fits i r))
         (in-extern-fits in-sole refl i))))))
 
     next-list-fits : Fits s c (next-list s c)
     unfolding next-list go-list
     next-list-fits =
         at-place at-list (λ z. on-within script-limit (λ h. rw z (list h)) (opening-at-fits in-list refl))
-        (at-place in-list (λ _. on-skipping (c .at) here (λ p _ r. list-at-fits i p r))
+        (at-place in-list (λ _. on-skipping here (λ _ _ r. list-at-fits i r))
         (in-extern-fits in-list refl i))
 
   next-symbol-fits : Fits s c (next-symbol s c)
   unfolding next-symbol
   next-symbol-fits =
-      at-place at-symbol (λ z. on-within token-limit (λ h. rw z (symbol h)) (matcher-fits in-symbol-extern behind-symbol refl refl 0 (first (rw z))))
+      at-place at-symbol (λ z. on-within token-limit (λ h. rw z (symbol h)) (matcher-fits in-symbol-extern behind-symbol refl refl (first (rw z))))
       (at-place in-symbol-extern (λ z. in-extern-fits behind-symbol refl (rw z))
       (at-place at-bare (λ z. on-within token-limit (λ h. rw z (bare h)) (bare-matcher-fits in-bare-extern behind-symbol refl refl (first (rw z)) refl))
       (at-place in-bare-extern (λ z. in-bare-fits behind-symbol refl (rw z))

@@ -138,8 +138,8 @@ pub record Whole (s : List ℕ) (r : Reading) (p : ℕ) (t u : List ℕ) : Type 
   pub at : behind .at ≡ p + length t + length u + 3
   pub reads : r ≡ and-then (Node p (length t)) (and-then Body (and-then (Parent (p + length t + 2) (length u)) (reading-from s behind)))
 
-event-reads : (s : List ℕ) (c d : Cursor) (e : Event) → Standing s c → next s c ≡ Go e d → reading-from s c ≡ and-then e (reading-from s d)
-event-reads s c d e k h = reading-step s c k ∙ rw h
+event-reads : {s : List ℕ} {c d : Cursor} {e : Event} → Standing s c → next s c ≡ Go e d → reading-from s c ≡ and-then e (reading-from s d)
+event-reads k h = reading-step k ∙ rw h
 
 -- a name, and a text that stands before a `;`, by a test `free` that no `;` passes
 module _ (free : ℕ → Bool) (none : (b : ℕ) → free b ≡ true → eqb b semicolon ≡ false) (s t u l : List ℕ) (some : 0 < length t) (bytes : every named t ≡ true)
@@ -151,8 +151,8 @@ module _ (free : ℕ → Bool) (none : (b : ℕ) → free b ≡ true → eqb b s
   unfolding blank
   unskipped p e = rw e (stays-behind t opening-brace (closing-brace ∷ (u ++ semicolon ∷ l)) plain refl refl)
 
-  node-from : (c : Cursor) → Standing s c → next s c ≡ node-at c s (c .at) → Stands-at (c .at) → Whole s (reading-from s c) (c .at) t u
-  node-from c k n e =
+  node-from : {c : Cursor} → Standing s c → next s c ≡ node-at c s (c .at) → Stands-at (c .at) → Whole s (reading-from s c) (c .at) t u
+  node-from {c} k n e =
       let c₁ : Cursor = moved c at-body (c .at + length t) in
       let c₂ : Cursor = moved c₁ in-body (c₁ .at + 1) in
       let c₃ : Cursor = moved (in-section c₂ 0) at-node (c₂ .at + 1 + length u + 1) in
@@ -161,23 +161,23 @@ module _ (free : ℕ → Bool) (none : (b : ℕ) → free b ≡ true → eqb b s
       let n₀ : next s c ≡ Go (Node (c .at) (length t)) c₁ = n ∙ name-step s c t _ e some bytes in
       let n₁ : next s c₁ ≡ Go Body c₂ = body-step s c₁ _ refl d₁ in
       let n₂ : next s c₂ ≡ Go (Parent (c₂ .at + 1) (length u)) c₃ = parent-step s c₂ free none u l refl d₂ plain-text text in
-      let k₁ : Standing s c₁ = next-stands s c c₁ _ k n₀ in
-      let k₂ : Standing s c₂ = next-stands s c₁ c₂ _ k₁ n₁ in
+      let k₁ = next-stands k n₀ in
+      let k₂ = next-stands k₁ n₁ in
       let z : c₂ .at + 1 ≡ c .at + length t + 2 = omega arith in
       record {
         behind = c₃;
-        stands = next-stands s c₂ c₃ _ k₂ n₂;
+        stands = next-stands k₂ n₂;
         place = refl;
         at = omega arith;
-        reads = event-reads s c c₁ _ k n₀
+        reads = event-reads k n₀
             ∙ ap (and-then (Node (c .at) (length t)))
-            (event-reads s c₁ c₂ _ k₁ n₁
-            ∙ ap (and-then Body) (event-reads s c₂ c₃ _ k₂ n₂ ∙ ap (λ (p : ℕ). and-then (Parent p (length u)) (reading-from s c₃)) z));
+            (event-reads k₁ n₁
+            ∙ ap (and-then Body) (event-reads k₂ n₂ ∙ ap (λ (p : ℕ). and-then (Parent p (length u)) (reading-from s c₃)) z));
       }
 
   -- a node behind another
-  pub node-reads : (c : Cursor) → Standing s c → c .place ≡ at-node → Stands-at (c .at) → Whole s (reading-from s c) (c .at) t u
-  node-reads c k z e = node-from c k (node-next s c z (unskipped (c .at) e)) e
+  pub node-reads : {c : Cursor} → Standing s c → c .place ≡ at-node → Stands-at (c .at) → Whole s (reading-from s c) (c .at) t u
+  node-reads {c} k z e = node-from k (node-next s c z (unskipped (c .at) e)) e
 
   -- the first node of a script
   first-byte-named : Stands-at 0 → getD s 0 0 ≡ opening-brace → ⊥
@@ -195,8 +195,8 @@ module _ (free : ℕ → Bool) (none : (b : ℕ) → free b ≡ true → eqb b s
   unfolding reading start
   script-reads h e =
       let c : Cursor = start reld at-script in
-      node-from c (start-stands reld at-script s) (node-first s c refl h (unskipped 0 e) (first-byte-named e)) e
+      node-from (start-stands reld at-script s) (node-first s c refl h (unskipped 0 e) (first-byte-named e)) e
 
 -- ---- the end, behind a node
-pub end-reads : (s : List ℕ) (c : Cursor) → Standing s c → c .place ≡ at-node → c .at ≡ length s → reading-from s c ≡ ends accepted
-end-reads s c k z e = reading-step s c k ∙ rw (end-step s c z e)
+pub end-reads : {s : List ℕ} {c : Cursor} → Standing s c → c .place ≡ at-node → c .at ≡ length s → reading-from s c ≡ ends accepted
+end-reads {s} {c} k z e = reading-step k ∙ rw (end-step s c z e)

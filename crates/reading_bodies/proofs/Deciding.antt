@@ -78,5 +78,5 @@ module _ (c : Cursor) (s : List ℕ) (p : ℕ) (f : Found) (e : f ≡ first-from
     pub parent-fits : Fits w64 (length s) → Fits w64 (q + 1)
     parent-fits n = omega (arith, found .within)
 
--- a step that goes by bytes, words, limits and places
+-- a step that goes by bytes, words, limits and places, and what its calls ask: so one set answers every need of a function that reads one
 pub ruleset ways = (steps, taken, left, byte-is, byte-not, eq-eqb, ne-eqb, lt-ltb, le-ltb, goes)

@@ -4,6 +4,7 @@ use mathlib.Core.Path.{_≡_, refl, sym, _∙_}
 use mathlib.Core.List.{List}
 use mathlib.Core.Bool.{Bool, true, false, cond}
 use native.Mathlib.Omega.{arith}
+use borrow.Author.Needs.{needs}
 use borrow.Author.Tests.{eq-eqb, ne-eqb}
 use mir.Syntax.{w64}
 use mir.Val.{Fits}
@@ -65,5 +66,5 @@ module _ (s : List ℕ) (p : ℕ) where
   pub bytes-remain : (p ≡ length s → ⊥) → Refused unreadable p ≡ ending s p
   bytes-remain k = rw (ne-eqb p (length s) k)
 
--- for a function that answers a step
-pub ruleset steps = (skip-open, skip-goes, byte-goes, byte-missing, word-goes, word-missing, ends-here, bytes-remain, refl)
+-- for a function that answers a step: its answers, and what its calls ask
+pub ruleset steps = (needs, skip-open, skip-goes, byte-goes, byte-missing, word-goes, word-missing, ends-here, bytes-remain, refl)

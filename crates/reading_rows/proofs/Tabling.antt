@@ -90,9 +90,9 @@ tabled-start place s d c e = record {
 }
 
 -- t is what `step` answers
-module _ (place : ℕ) (s d l : List ℕ) (n : ℕ) (c : Cursor) (z : Tabled place s d l n c) (t : Step) (a : t ≡ next s c) where
+module _ {place : ℕ} {s d l : List ℕ} {n : ℕ} {c : Cursor} (z : Tabled place s d l n c) {t : Step} (a : t ≡ next s c) where
   step : reading-from s c ≡ on-step t (λ x. reading-from s x)
-  step = rw a (reading-step s c (z .stands))
+  step = rw a (reading-step (z .stands))
 
   -- all events are written
   module _ (o : Outcome) (e : reading-from s c ≡ ends o) where
@@ -123,7 +123,7 @@ module _ (place : ℕ) (s d l : List ℕ) (n : ℕ) (c : Cursor) (z : Tabled pla
     pub end-fits : length s ≤ script-limit → Fits w64 (256 * (n / 5))
     end-fits m = omega (arith, z .count, z .few, z .stands .within)
 
-  module _ (x p : ℕ) (h : t ≡ Refused x p) where
+  module _ {x p : ℕ} (h : t ≡ Refused x p) where
     pub refused-told : x + 256 * p ≡ reading-told (reading reld place s) (length d / 5)
     unfolding outcome-told
     refused-told = all-told (refused x p) (step ∙ rw h)
@@ -133,7 +133,7 @@ module _ (place : ℕ) (s d l : List ℕ) (n : ℕ) (c : Cursor) (z : Tabled pla
 
     module _ (m : length s ≤ script-limit) where
       bounds : (x ≤ 4) × (p ≤ length s)
-      bounds = standing-refuses s c (z .stands) x p (sym a ∙ h)
+      bounds = standing-refuses (z .stands) (sym a ∙ h)
 
       pub place-fits : Fits w64 (256 * p)
       place-fits = omega (arith, bounds)
@@ -141,7 +141,7 @@ module _ (place : ℕ) (s d l : List ℕ) (n : ℕ) (c : Cursor) (z : Tabled pla
       pub refused-fits : Fits w64 (x + 256 * p)
       refused-fits = omega (arith, bounds)
 
-  module _ (e : Event) (k : Cursor) (h : t ≡ Go e k) where
+  module _ {e : Event} {k : Cursor} (h : t ≡ Go e k) where
     goes : reading reld place s .events ≡ z .done ++ (e ∷ reading-from s k .events)
     goes = z .events ∙ rw (step, h)
 
@@ -170,16 +170,16 @@ module _ (place : ℕ) (s d l : List ℕ) (n : ℕ) (c : Cursor) (z : Tabled pla
           done = z .done ++ e ∷ [];
           count = simp length-append (omega (arith, z .count));
           fits = omega (arith, z .long, z .fits);
-          few = simp length-append (omega (arith, z .few, next-onward s c k e (z .stands .fresh) y .onward));
+          few = simp length-append (omega (arith, z .few, next-onward (z .stands) y .onward));
           long = rw q (length-sets l n (row e) ∙ z .long);
           list = q ∙ rw (z .list, m, front-run (event-rows (z .done)) d (row e) w, rows-more);
-          stands = next-stands s c k e (z .stands) y;
+          stands = next-stands (z .stands) y;
           events = goes ∙ sym (append-assoc (z .done) (e ∷ []) (reading-from s k .events));
           outcome = z .outcome ∙ rw (step, h);
         }
 
     pub onward : length s + 2 - k .at < length s + 2 - c .at
-    onward = omega (arith, z .stands .within, next-onward s c k e (z .stands .fresh) (sym a ∙ h) .onward)
+    onward = omega (arith, z .stands .within, next-onward (z .stands) (sym a ∙ h) .onward)
 
 -- ---- a text of a host
 module _ (source : ℕ) (s d : List ℕ) where

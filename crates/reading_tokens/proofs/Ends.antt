@@ -32,7 +32,7 @@ brace-before s p (Here q) = ltb p q && eqb (getD s (q - 1) 0) closing-brace
 brace-before s p Nowhere = true
 
 -- the first `};` from p on stands at c, and the first `;` at q: no `;` stands before the `};` exactly where q has a `}` before it
-module _ (s : List ℕ) (p c q : ℕ) (close : First closes s p c) (end : First (is semicolon) s p q) where
+module _ {s : List ℕ} {p c q : ℕ} (close : First closes s p c) (end : First (is semicolon) s p q) where
   closing : (getD s c 0 ≡ closing-brace) × (getD s (c + 1) 0 ≡ semicolon)
   closing =
       let h = and-both (eqb (getD s c 0) closing-brace) (eqb (getD s (c + 1) 0) semicolon) (close .holds) in
@@ -76,7 +76,7 @@ module _ (x : Edition) (s : List ℕ) (p : ℕ) where
     by-semicolon : (c : ℕ) → first-from closes s p ≡ Here c → (f : Found) → first-from (is semicolon) s p ≡ f
         → to-either x s p ≡ cond (brace-before s p f) (to-brace x s p) (to-semicolon x s p)
     unfolding to-either
-    by-semicolon c e (Here q) g = rw (e, g, same-end s p c q (first-within e) (first-within g))
+    by-semicolon c e (Here q) g = rw (e, g, same-end (first-within e) (first-within g))
     by-semicolon c e Nowhere g = rw (e, g)
 
     pub either-left : (f : Found) → first-from (is semicolon) s p ≡ f → to-either x s p ≡ cond (brace-before s p f) (to-brace x s p) (to-semicolon x s p)

@@ -149,11 +149,11 @@ pub record Copied (e : Edition) (t d l : List ℕ) (w : Walk) (i n : ℕ) : Type
 
 pub copied-none : (e : Edition) (t d : List ℕ) → Copied e t d d (record { left = 0; starred = false; opened = false }) 0 0
 unfolding kept-run kept-from squeezed
-copied-none e t d = record { few = omega arith; written = written-start (kept-run e t) d }
+copied-none e t d = record { few = omega arith; written = written-start }
 
 module _ {e : Edition} {t d l : List ℕ} {w : Walk} {i n : ℕ} (z : Copied e t d l w i n) where
   pub copied-all : length t ≤ i → l ≡ front (kept-run e t) d
-  copied-all h = written-end (kept-run e t) d l n (kept-from e w (drop i t)) (z .written) (kept-end e w t i h)
+  copied-all h = written-end (z .written) (kept-end e w t i h)
 
   pub copied-long : length l ≡ length d
   copied-long = z .written .long
@@ -169,10 +169,10 @@ module _ {e : Edition} {t d l : List ℕ} {w : Walk} {i n : ℕ} (z : Copied e t
       next-put = q ∙ rw h
 
       pub copied-room : n < length l
-      copied-room = written-room (kept-run e t) d l n (kept-from e w (drop i t)) (z .written) fits (rw next-put (omega arith))
+      copied-room = written-room (z .written) fits (rw next-put (omega arith))
 
       pub copied-more : Copied e t d (set l n (r .put)) (r .then) (i + 1) (n + 1)
       copied-more = record {
         few = omega (arith, z .few);
-        written = written-more (kept-run e t) d l n (kept-from e w (drop i t)) (z .written) fits (r .put) (kept-from e (r .then) (drop (i + 1) t)) next-put;
+        written = written-more (z .written) fits next-put;
       }

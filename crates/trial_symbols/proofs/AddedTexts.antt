@@ -78,8 +78,7 @@ going-starts {c} {place} {s} {n} {m} {l} {q} {j} pre z = record {
   whole = rw z;
 }
 
-module _ {c : Counts} {place : ℕ} {s n m l q j l′ q′ j′ : List ℕ} {x : Cursor} {k : Counts} (i : Going c place s n m l q j l′ q′ j′ x k)
-    {y : Step} (e : y ≡ next s x) where
+module _ {c : Counts} {place : ℕ} {s n m l q j l′ q′ j′ : List ℕ} {x : Cursor} {k : Counts} (i : Going c place s n m l q j l′ q′ j′ x k) where
   abbrev lent : Buffers
   lent = five n m l q j
 
@@ -98,14 +97,15 @@ module _ {c : Counts} {place : ℕ} {s n m l q j l′ q′ j′ : List ℕ} {x :
   layout-held : Layout c lent held
   layout-held = laid-packs c lent (i .asked .0)
 
-  -- what is left, by the next step
-  left-to-read : (z : Step) → y ≡ z → change ≡ add-reading lent s (i .book) (on-step z (λ d. reading-from s d))
-  left-to-read z w = i .whole ∙ ap (add-reading lent s (i .book)) (reading-step s x (i .stands) ∙ rw (← e, w))
+  -- what `add_event` asks, with `event-lies`
+  pub now-laid : laid k lent-now ≡ true
+  now-laid = laid-from k lent-now (i .book) (i .layout) .0
 
-  -- the text has ended
-  pub going-ends : y ≡ End → Adds (answer.Done k) lent-now
-  unfolding add-reading add-events
-  going-ends z = layout-answers k lent lent-now (i .book) change (left-to-read End z) (i .layout) (i .rooms)
+  pub some-nodes : 0 < k .nodes
+  some-nodes =
+      let a = layout-held .nodes .count in
+      let b = i .layout .nodes .count in
+      omega (arith, i .asked .1, ap (λ (ns : List Node). length ns) (i .grown .nodes))
 
   -- what `clear_added` asks, and what it leaves
   pub going-back : Reaches c k l′ q′ j′
@@ -118,93 +118,86 @@ module _ {c : Counts} {place : ℕ} {s n m l q j l′ q′ j′ : List ℕ} {x :
   declines a l″ q″ j″ z t =
       subst (λ (b : Buffers). Adds (answer.Refused a) b) (sym (back-same l″ q″ j″ t)) (refusal-answers lent change a z)
 
-  -- the reading is refused
-  pub going-refused : {a p : ℕ} {l″ q″ j″ : List ℕ} → y ≡ Refused a p → Clears c k l′ q′ j′ l″ q″ j″ → Adds (answer.Refused a) (five n m l″ q″ j″)
-  unfolding add-reading add-events
-  going-refused {a} {p} {l″} {q″} {j″} z t = declines a l″ q″ j″ (left-to-read (Refused a p) z) t
+  -- y is what `next_event` answers
+  module _ {y : Step} (e : y ≡ next s x) where
+    -- what is left, by the next step
+    left-to-read : (z : Step) → y ≡ z → change ≡ add-reading lent s (i .book) (on-step z (λ d. reading-from s d))
+    left-to-read z w = i .whole ∙ ap (add-reading lent s (i .book)) (reading-step (i .stands) ∙ rw (← e, w))
 
-  module _ {v : Event} {d : Cursor} (z : y ≡ Go v d) where
-    pub event-lies : Lies s v
-    event-lies = parts-lie s v (next-parts s x (i .marked) v d (sym e ∙ z) .0)
+    -- the text has ended
+    pub going-ends : y ≡ End → Adds (answer.Done k) lent-now
+    unfolding add-reading add-events
+    going-ends z = layout-answers k lent lent-now (i .book) change (left-to-read End z) (i .layout) (i .rooms)
 
-    pub going-onward : length s + 2 - d .at < length s + 2 - x .at
-    going-onward =
-        let o = next-onward s x d v (i .stands .fresh) (sym e ∙ z) in
-        omega (arith, o .onward, o .within)
+    -- the reading is refused
+    pub going-refused : {a p : ℕ} {l″ q″ j″ : List ℕ} → y ≡ Refused a p → Clears c k l′ q′ j′ l″ q″ j″ → Adds (answer.Refused a) (five n m l″ q″ j″)
+    unfolding add-reading add-events
+    going-refused {a} {p} {l″} {q″} {j″} z t = declines a l″ q″ j″ (left-to-read (Refused a p) z) t
 
-    -- what `add_event` asks
-    some-nodes : 0 < k .nodes
-    some-nodes =
-        let a = layout-held .nodes .count in
-        let b = i .layout .nodes .count in
-        omega (arith, i .asked .1, ap (λ (ns : List Node). length ns) (i .grown .nodes))
+    module _ {v : Event} {d : Cursor} (z : y ≡ Go v d) where
+      pub event-lies : Lies s v
+      event-lies = parts-lie s v (next-parts s x (i .marked) (sym e ∙ z) .0)
 
-    pub event-asks : (laid k lent-now ≡ true) × (0 < k .nodes) × Lies s v
-    event-asks = (laid-from k lent-now (i .book) (i .layout) .0, some-nodes, event-lies)
+      pub going-onward : length s + 2 - d .at < length s + 2 - x .at
+      going-onward =
+          let o = next-onward (i .stands) (sym e ∙ z) in
+          omega (arith, o .onward, o .within)
 
-    -- r is what it answers, and l₁ q₁ j₁ are the buffers behind it
-    module _ {r : Edited} {l₁ q₁ j₁ : List ℕ} (h : Makes k lent-now (λ b w. add-event b s w v) r (five n m l₁ q₁ j₁)) where
-      event-now : add-event lent-now s (book-of k lent-now) v ≡ add-event lent s (i .book) v
-      event-now =
-          ap (λ (w : Book). add-event lent-now s w v) (laid-from k lent-now (i .book) (i .layout) .1)
-          ∙ event-same lent-now lent (i .rooms) s (i .book) v
+      -- r is what it answers, and l₁ q₁ j₁ are the buffers behind it
+      module _ {r : Edited} {l₁ q₁ j₁ : List ℕ} (h : Makes k lent-now (λ b w. add-event b s w v) r (five n m l₁ q₁ j₁)) where
+        event-now : add-event lent-now s (book-of k lent-now) v ≡ add-event lent s (i .book) v
+        event-now =
+            ap (λ (w : Book). add-event lent-now s w v) (laid-from k lent-now (i .book) (i .layout) .1)
+            ∙ event-same lent-now lent (i .rooms) s (i .book) v
 
-      onward : (w : Change) → add-event lent s (i .book) v ≡ w
-          → change ≡ on-change w (λ u. add-events lent s u (reading-from s d .events) (reading-from s d .outcome))
-      unfolding add-reading add-events
-      onward w o =
-          left-to-read (Go v d) z
-          ∙ ap (λ (u : Change). on-change u (λ u. add-events lent s u (reading-from s d .events) (reading-from s d .outcome))) o
+        onward : (w : Change) → add-event lent s (i .book) v ≡ w
+            → change ≡ on-change w (λ u. add-events lent s u (reading-from s d .events) (reading-from s d .outcome))
+        unfolding add-reading add-events
+        onward w o =
+            left-to-read (Go v d) z
+            ∙ ap (λ (u : Change). on-change u (λ u. add-events lent s u (reading-from s d .events) (reading-from s d .outcome))) o
 
-      module _ {a : ℕ} (f : r ≡ answer.Refused a) where
-        says-no : (add-event lent-now s (book-of k lent-now) v ≡ no a) × (five n m l₁ q₁ j₁ ≡ lent-now)
-        says-no = refused lent-now (five n m l₁ q₁ j₁) r a f _ h
+        module _ {a : ℕ} (f : r ≡ answer.Refused a) where
+          says-no : (add-event lent-now s (book-of k lent-now) v ≡ no a) × (five n m l₁ q₁ j₁ ≡ lent-now)
+          says-no = refused lent-now (five n m l₁ q₁ j₁) r a f _ h
 
-        same-lines : l₁ ≡ l′
-        same-lines = ap (λ (b : Buffers). b .lines) (says-no .1)
+          same-lines : l₁ ≡ l′
+          same-lines = ap (λ (b : Buffers). b .lines) (says-no .1)
 
-        same-pool : q₁ ≡ q′
-        same-pool = ap (λ (b : Buffers). b .pool) (says-no .1)
+          same-pool : q₁ ≡ q′
+          same-pool = ap (λ (b : Buffers). b .pool) (says-no .1)
 
-        same-journal : j₁ ≡ j′
-        same-journal = ap (λ (b : Buffers). b .journal) (says-no .1)
+          same-journal : j₁ ≡ j′
+          same-journal = ap (λ (b : Buffers). b .journal) (says-no .1)
 
-        pub event-back : Reaches c k l₁ q₁ j₁
-        event-back = rw (same-lines, same-pool, same-journal) going-back
+          -- what `clear_added` leaves then
+          module _ {l″ q″ j″ : List ℕ} (t : Clears c k l₁ q₁ j₁ l″ q″ j″) where
+            back-now : Clears c k l′ q′ j′ l″ q″ j″
+            back-now = rw (same-lines, same-pool, same-journal) at t
 
-        -- what `clear_added` leaves then
-        module _ {l″ q″ j″ : List ℕ} (t : Clears c k l₁ q₁ j₁ l″ q″ j″) where
-          back-now : Clears c k l′ q′ j′ l″ q″ j″
-          back-now = rw (same-lines, same-pool, same-journal) at t
+            pub going-no : Adds (answer.Refused a) (five n m l″ q″ j″)
+            going-no = declines a l″ q″ j″ (onward (no a) (sym event-now ∙ says-no .0)) back-now
 
-          pub same-lengths : (length l″ ≡ length l) × (length q″ ≡ length q) × (length j″ ≡ length j)
-          same-lengths =
-              let w = back-same l″ q″ j″ back-now in
-              (ap (λ (b : Buffers). length (b .lines)) w, ap (λ (b : Buffers). length (b .pool)) w, ap (λ (b : Buffers). length (b .journal)) w)
-
-          pub going-no : Adds (answer.Refused a) (five n m l″ q″ j″)
-          going-no = declines a l″ q″ j″ (onward (no a) (sym event-now ∙ says-no .0)) back-now
-
-      -- it is added
-      pub going-on : {u : Counts} → r ≡ answer.Done u → Going c place s n m l q j l₁ q₁ j₁ d u
-      unfolding add-reading
-      going-on {u} f =
-          let w = made lent-now (five n m l₁ q₁ j₁) r u f _ h in
-          let b = w .book in
-          let t : add-event lent s (i .book) v ≡ to b = sym event-now ∙ w .is in
-          let kind : eqb (held .kind) rust ≡ false = ne-eqb (held .kind) rust (λ o. omega (arith, i .asked .2, layout-held .kind, o)) in
-          let some-held : 0 < length (held .nodes) = omega (arith, i .asked .1, layout-held .nodes .count) in
-          let fits = fits-same lent-now lent (i .book) (i .rooms) (layout-fits k lent-now (i .book) (i .layout)) in
-          let g = event-grows lent held kind some-held s (i .book) (record { grown = i .grown; fits = fits }) v event-lies b t in
-          let o : five n m l₁ q₁ j₁ ≡ laid-out lent b = w .laid ∙ laid-out-same lent-now lent b (i .rooms) in
-          record {
-            asked = i .asked;
-            stands = next-stands s x d v (i .stands) (sym e ∙ z);
-            marked = next-parts s x (i .marked) v d (sym e ∙ z) .1;
-            book = b;
-            layout = subst (λ (y : Counts). Layout y (five n m l₁ q₁ j₁) b) (sym (w .counts))
-                (subst (λ (y : Buffers). Layout (counts-of b) y b) (sym o) (fits-layout lent b (g .fits)));
-            rooms = subst (λ (y : Buffers). Rooms y lent) (sym o) (laid-out-rooms lent b (g .fits));
-            grown = g .grown;
-            whole = onward (to b) t;
-          }
+        -- it is added
+        pub going-on : {u : Counts} → r ≡ answer.Done u → Going c place s n m l q j l₁ q₁ j₁ d u
+        unfolding add-reading
+        going-on {u} f =
+            let w = made lent-now (five n m l₁ q₁ j₁) r u f _ h in
+            let b = w .book in
+            let t : add-event lent s (i .book) v ≡ to b = sym event-now ∙ w .is in
+            let kind : eqb (held .kind) rust ≡ false = ne-eqb (held .kind) rust (λ o. omega (arith, i .asked .2, layout-held .kind, o)) in
+            let some-held : 0 < length (held .nodes) = omega (arith, i .asked .1, layout-held .nodes .count) in
+            let fits = fits-same lent-now lent (i .book) (i .rooms) (layout-fits k lent-now (i .book) (i .layout)) in
+            let g = event-grows lent held kind some-held s (i .book) (record { grown = i .grown; fits = fits }) v event-lies b t in
+            let o : five n m l₁ q₁ j₁ ≡ laid-out lent b = w .laid ∙ laid-out-same lent-now lent b (i .rooms) in
+            record {
+              asked = i .asked;
+              stands = next-stands (i .stands) (sym e ∙ z);
+              marked = next-parts s x (i .marked) (sym e ∙ z) .1;
+              book = b;
+              layout = subst (λ (y : Counts). Layout y (five n m l₁ q₁ j₁) b) (sym (w .counts))
+                  (subst (λ (y : Buffers). Layout (counts-of b) y b) (sym o) (fits-layout lent b (g .fits)));
+              rooms = subst (λ (y : Buffers). Rooms y lent) (sym o) (laid-out-rooms lent b (g .fits));
+              grown = g .grown;
+              whole = onward (to b) t;
+            }

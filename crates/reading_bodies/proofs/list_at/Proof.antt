@@ -1,5 +1,4 @@
 -- `list_at` meets its contract. A word that stands in the text ends within it, so the place behind it fits. Assumes nothing.
-use borrow.Author.Needs.{needs}
 use Rattle.reading_matchers.proofs.Stepping.{word-fits}
 use Rattle.reading_bodies.specs.Bodies.{list-at}
 use Rattle.reading_bodies.proofs.Deciding.{ways}
@@ -15,12 +14,13 @@ unfolding list-at
 returns-2 c = search ways
 
 pub list-at-spec : {M : Type 1} → statement M
+unfolding list-at
 list-at-spec =
     tie.close
     (tie.spec
-    (λ c. search needs) (λ c κs. search needs)
-    (λ c. search (needs, word-fits))
-    (λ c κs. search needs)
+    (λ c. search ways) (λ c κs. search ways)
+    (λ c. search (ways, word-fits))
+    (λ c κs. search ways)
     returns
-    (λ c κs. search needs)
+    (λ c κs. search ways)
     returns-2)

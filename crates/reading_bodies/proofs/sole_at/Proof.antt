@@ -1,5 +1,4 @@
 -- `sole_at` meets its contract. A `}` lies within the text, so the place behind it fits. Assumes nothing.
-use borrow.Author.Needs.{needs}
 use Rattle.reading_matchers.proofs.Stepping.{byte-fits}
 use Rattle.reading_bodies.specs.Bodies.{sole-at}
 use Rattle.reading_bodies.proofs.Deciding.{ways}
@@ -10,17 +9,13 @@ returns : tie.Need-returns
 unfolding sole-at
 returns c = search ways
 
-returns-2 : tie.Need-returns-2
-unfolding sole-at
-returns-2 c = search ways
-
 pub sole-at-spec : {M : Type 1} → statement M
+unfolding sole-at
 sole-at-spec =
     tie.close
     (tie.spec
-    (λ c κs. search needs)
-    (λ c. search (needs, byte-fits))
-    (λ c κs. search needs)
+    (λ c κs. search ways)
+    (λ c. search (ways, byte-fits))
+    (λ c κs. search ways)
     returns
-    (λ c κs. search needs)
-    returns-2)
+    (λ c κs. search ways) (λ c. search ways))

@@ -1,5 +1,4 @@
 -- `parse_matcher` meets its contract. Assumes nothing.
-use borrow.Author.Needs.{needs}
 use Rattle.reading_matchers.specs.Matchers.{matcher}
 use Rattle.reading_matchers.proofs.Exits.{line-with}
 use Rattle.reading_matchers.proofs.Stepping.{word-within, steps}
@@ -15,11 +14,12 @@ unfolding matcher
 returns-2 c = search (steps, line-with)
 
 pub parse-matcher-spec : {M : Type 1} → statement M
+unfolding matcher
 parse-matcher-spec =
     tie.close
     (tie.spec
-    (λ c. search needs) (λ c κs. search needs)
-    (λ c κs. search (needs, word-within))
+    (λ c. search steps) (λ c κs. search steps)
+    (λ c κs. search (steps, word-within))
     returns
-    (λ c κs. search needs) (λ c κs. search needs) (λ c κs. search needs)
+    (λ c κs. search steps) (λ c κs. search steps) (λ c κs. search steps)
     returns-2)

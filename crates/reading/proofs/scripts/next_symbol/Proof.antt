@@ -1,50 +1,13 @@
 -- `next_symbol` meets its contract. Assumes nothing.
-use borrow.Author.Needs.{needs}
 use Rattle.reading_bodies.proofs.Deciding.{ways}
 use Rattle.reading.specs.Scripts.{next-symbol}
 use Rattle.reading.proofs.scripts.next_symbol.Statement.{statement}
 use Rattle.reading.proofs.scripts.next_symbol.Tie as tie
 
-returns : tie.Need-returns
-unfolding next-symbol
-returns c = search ways
-
-returns-2 : tie.Need-returns-2
-unfolding next-symbol
-returns-2 c = search ways
-
-returns-3 : tie.Need-returns-3
-unfolding next-symbol
-returns-3 c = search ways
-
-returns-4 : tie.Need-returns-4
-unfolding next-symbol
-returns-4 c = search ways
-
-returns-5 : tie.Need-returns-5
-unfolding next-symbol
-returns-5 c = search ways
-
-returns-6 : tie.Need-returns-6
-unfolding next-symbol
-returns-6 c = search ways
-
-returns-7 : tie.Need-returns-7
-unfolding next-symbol
-returns-7 c = search ways
-
 pub next-symbol-spec : {M : Type 1} → statement M
+unfolding next-symbol
 next-symbol-spec =
     tie.close
     (tie.spec
-    returns
-    (λ c κs. search needs)
-    returns-2
-    (λ c κs. search needs)
-    returns-3
-    returns-4
-    (λ c κs. search needs)
-    returns-5
-    (λ c κs. search needs)
-    returns-6
-    returns-7)
+    (λ c. search ways) (λ c κs. search ways) (λ c. search ways) (λ c κs. search ways) (λ c. search ways) (λ c. search ways)
+    (λ c κs. search ways) (λ c. search ways) (λ c κs. search ways) (λ c. search ways) (λ c. search ways))
