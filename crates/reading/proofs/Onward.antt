@@ -14,14 +14,18 @@ use Rattle.reading_cursors.specs.declared.Step.the-variants.{Go, End, Refused}
 use Rattle.reading_cursors.specs.Moves.{start}
 use Rattle.reading.specs.Scripts.{next}
 use Rattle.reading.specs.Events.{Reading, on-step, reading-within, reading-from, reading}
-use Rattle.reading.specs.Standing.{Standing}
+use Rattle.reading.specs.Standing.{Fresh, Standing}
 use Rattle.reading.proofs.Steps.{Onward, Fits, goes, next-fits}
 
-pub next-onward : {s : List ℕ} {c d : Cursor} {e : Event} → Standing s c → next s c ≡ Go e d → Onward s c d
-next-onward {s} {c} {d} {e} f h = go (rw h at (next-fits s c))
+-- no more is asked than that the cursor is fresh
+pub fresh-onward : (s : List ℕ) (c : Cursor) {d : Cursor} {e : Event} → Fresh c → next s c ≡ Go e d → Onward s c d
+fresh-onward s c {d} {e} f h = go (rw h at (next-fits s c))
   where
     go : Fits s c (Go e d) → Onward s c d
-    go (goes k) = k (f .fresh)
+    go (goes k) = k f
+
+pub next-onward : {s : List ℕ} {c d : Cursor} {e : Event} → Standing s c → next s c ≡ Go e d → Onward s c d
+next-onward {s} {c} k h = fresh-onward s c (k .fresh) h
 
 -- ---- the cursors of a reading of s
 pub start-stands : (edition place : ℕ) (s : List ℕ) → Standing s (start edition place)
