@@ -156,12 +156,17 @@ module _ (e : Edition) where
       go true h (d ∷ s) =
           let l : 1 + suc (length (inside s)) ≡ suc (suc (length (inside s))) = omega arith in
           rw h (bracketed-by true 1 (d ∷ inside (walk goes-on s)) (d ∷ inside s) (c ∷ d ∷ walk goes-on s) (c ∷ d ∷ s) (ap (_∷_ d) (stays s .same))
-              (rw (l, ltb-suc (suc (length (inside s))) (suc (length (walk goes-on s))), ltb-suc (suc (length (inside s))) (suc (length s)),
-                  ltb-suc (length (inside s)) (length (walk goes-on s)), ltb-suc (length (inside s)) (length s)) (stays s .closed)))
+          (rw (
+            l,
+            ltb-suc (suc (length (inside s))) (suc (length (walk goes-on s))),
+            ltb-suc (suc (length (inside s))) (suc (length s)),
+            ltb-suc (length (inside s)) (length (walk goes-on s)),
+            ltb-suc (length (inside s)) (length s),
+          ) (stays s .closed)))
       go false h s =
           let l : 0 + suc (length (inside s)) ≡ suc (length (inside s)) = omega arith in
           rw h (bracketed-by false 0 (c ∷ inside (walk goes-on s)) (c ∷ inside s) (c ∷ walk goes-on s) (c ∷ s) (ap (_∷_ c) (stays s .same))
-              (rw (l, ltb-suc (length (inside s)) (length (walk goes-on s)), ltb-suc (length (inside s)) (length s)) (stays s .closed)))
+          (rw (l, ltb-suc (length (inside s)) (length (walk goes-on s)), ltb-suc (length (inside s)) (length s)) (stays s .closed)))
 
   -- so the element at a place is the same
   element-same : (c : ℕ) (s : List ℕ) → eqb c 42 ≡ false → element e c (squeezed-past e (element e c s .more) false s) ≡ element e c s
@@ -302,7 +307,7 @@ matches-as (star ∷ p) =
     }
 matches-as (one m ∷ p) =
     let k : (s : List ℕ) → first (takes m) (matches (runless false p)) s ≡ first (takes m) (matches p) s
-        = first-by (takes m) (matches (runless false p)) (matches p) (matches-as p .behind-one) in
+    = first-by (takes m) (matches (runless false p)) (matches p) (matches-as p .behind-one) in
     record { behind-one = k; behind-star = somewhere-by (first (takes m) (matches (runless false p))) (first (takes m) (matches p)) k }
 
 -- for every pattern and every name

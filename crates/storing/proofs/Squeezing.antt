@@ -25,7 +25,7 @@ use Rattle.pattern_check.proofs.Closings.{mark-few}
 use Rattle.pattern_check.proofs.Negations.{token-more}
 use Rattle.storing.specs.declared.runs.Walk.{Walk}
 use Rattle.storing.specs.declared.runs.Step.{Step}
-use Rattle.storing.specs.Runs.{kept-run, kept-from, put-by, bracket-more}
+use Rattle.storing.specs.Runs.{kept-run, kept-from, kept-step, put-by, bracket-more}
 use Rattle.storing.proofs.Keeping.{negated-here}
 
 -- ---- `bracket_length`: the mark behind the `[` at i takes m bytes, and what stands between x
@@ -77,10 +77,10 @@ module _ (e : Edition) (t : List ℕ) (i : ℕ) (w : Walk) (h : i < length t) (x
   unfolding kept-from
   here = rw (negated-here (w .opened) t i h x q)
 
-  pub step-within : (w .left ≡ 0 → ⊥)
-      → kept-from e w (drop i t) ≡ x ∷ kept-from e (record { left = w .left - 1; starred = false; opened = eqb (getD t i 0) 91 }) (drop (i + 1) t)
+  pub step-within : (w .left ≡ 0 → ⊥) → (r : Step) → r ≡ kept-step x (w .left - 1) (eqb (getD t i 0) 91)
+      → kept-from e w (drop i t) ≡ put-by r (kept-from e (r .then) (drop (i + 1) t))
   unfolding kept-from
-  step-within z = here ∙ within-element e (w .left) (w .starred) x (negated-from (eqb (getD t i 0) 91) (drop (i + 1) t)) z
+  step-within z r l = rw l (here ∙ within-element e (w .left) (w .starred) x (negated-from (eqb (getD t i 0) 91) (drop (i + 1) t)) z)
 
   module _ (z : w .left ≡ 0) where
     outside : kept-from e w (drop i t) ≡ squeezed-past e 0 (w .starred) (x ∷ negated-from (eqb (getD t i 0) 91) (drop (i + 1) t))
@@ -92,7 +92,7 @@ module _ (e : Edition) (t : List ℕ) (i : ℕ) (w : Walk) (h : i < length t) (x
 
       pub step-star : kept-from e w (drop i t)
           ≡ cond (w .starred) (kept-from e (record { left = 0; starred = true; opened = eqb (getD t i 0) 91 }) (drop (i + 1) t))
-              (x ∷ kept-from e (record { left = 0; starred = true; opened = eqb (getD t i 0) 91 }) (drop (i + 1) t))
+          (x ∷ kept-from e (record { left = 0; starred = true; opened = eqb (getD t i 0) 91 }) (drop (i + 1) t))
       unfolding kept-from squeezed-past
       step-star = outside ∙ rw is-star
 
@@ -100,19 +100,19 @@ module _ (e : Edition) (t : List ℕ) (i : ℕ) (w : Walk) (h : i < length t) (x
       no-star : eqb x 42 ≡ false
       no-star = rw (q, star-stored (w .opened) (getD t i 0)) (ne-eqb (getD t i 0) 42 n)
 
-      pub step-bracket : eqb (getD t i 0) 91 ≡ true → (m : ℕ) → m ≡ bracket-more e (drop (i + 1) t)
-          → kept-from e w (drop i t) ≡ x ∷ kept-from e (record { left = m; starred = false; opened = eqb (getD t i 0) 91 }) (drop (i + 1) t)
+      pub step-bracket : eqb (getD t i 0) 91 ≡ true → (m : ℕ) → m ≡ bracket-more e (drop (i + 1) t) → (r : Step) → r ≡ kept-step x m (eqb (getD t i 0) 91)
+          → kept-from e w (drop i t) ≡ put-by r (kept-from e (r .then) (drop (i + 1) t))
       unfolding kept-from squeezed-past
-      step-bracket k m l =
+      step-bracket k m l r z =
           let b : eqb x 91 ≡ true = rw (q, bracket-stored (w .opened) (getD t i 0)) k in
-          outside ∙ rw (no-star, k, element-bracket e x (negated-from true (drop (i + 1) t)) b, token-more e (drop (i + 1) t), ← l)
+          rw z (outside ∙ rw (no-star, k, element-bracket e x (negated-from true (drop (i + 1) t)) b, token-more e (drop (i + 1) t), ← l))
 
-      pub step-other : eqb (getD t i 0) 91 ≡ false
-          → kept-from e w (drop i t) ≡ x ∷ kept-from e (record { left = 0; starred = false; opened = eqb (getD t i 0) 91 }) (drop (i + 1) t)
+      pub step-other : eqb (getD t i 0) 91 ≡ false → (r : Step) → r ≡ kept-step x 0 (eqb (getD t i 0) 91)
+          → kept-from e w (drop i t) ≡ put-by r (kept-from e (r .then) (drop (i + 1) t))
       unfolding kept-from squeezed-past
-      step-other k =
+      step-other k r z =
           let b : eqb x 91 ≡ false = rw (q, bracket-stored (w .opened) (getD t i 0)) k in
-          outside ∙ rw (no-star, k, element-other e x (negated-from false (drop (i + 1) t)) no-star b)
+          rw z (outside ∙ rw (no-star, k, element-other e x (negated-from false (drop (i + 1) t)) no-star b))
 
 -- ---- the walk's start and its end
 pub kept-start : (e : Edition) (t : List ℕ) → kept-run e t ≡ kept-from e (record { left = 0; starred = false; opened = false }) t

@@ -1,7 +1,7 @@
 -- What is kept of a glob token where runs of stars are squeezed (02, request 01), and a walk over its bytes. Nothing is stored so yet. Assumes nothing.
 use Prim.Native.Nat.{ℕ, _+_}
 use mathlib.Core.List.{List, _∷_}
-use mathlib.Core.Bool.{true, false, cond}
+use mathlib.Core.Bool.{Bool, true, false, cond}
 use lib.ListN.{length, drop}
 use Rattle.numbers.specs.declared.Edition.{Edition}
 use Rattle.pattern.specs.Patterns.{between}
@@ -22,6 +22,10 @@ kept-from e w s = squeezed-past e (w .left) (w .starred) (negated-from (w .opene
 -- what a step puts before what is kept behind it
 abbrev pub put-by : Step → List ℕ → List ℕ
 put-by r s = cond (r .dropped) s (r .put ∷ s)
+
+-- a byte that stays, with k bytes of its element left behind it; b says that it is a `[`
+abbrev pub kept-step : ℕ → ℕ → Bool → Step
+kept-step x k b = record { put = x; dropped = false; then = record { left = k; starred = false; opened = b } }
 
 -- how many bytes a token's bracket takes behind its `[`, with its `]`
 abbrev pub bracket-more : Edition → List ℕ → ℕ

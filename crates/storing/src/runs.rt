@@ -4,7 +4,7 @@ ghost use mathlib.Core.Path.{_≡_};
 ghost use Prim.Native.Nat.{_+_, _<_, _≤_};
 ghost use lib.ListN.{length, drop};
 ghost use Rattle.lists.specs.Front.{front};
-ghost use Rattle.storing.specs.Runs.{kept-from, kept-run, put-by, bracket-more};
+ghost use Rattle.storing.specs.Runs.{bracket-more, kept-from, kept-run, kept-step, put-by};
 use numbers::Edition;
 use pattern::bracket::between_length;
 use pattern::bracket::mark_at;
@@ -33,6 +33,21 @@ fn bracket_length(edition: Edition, token: &[u8], i: usize) -> usize
     mark + between_length(edition, token, at + mark) + 1
 }
 
+// A byte that stays, with some bytes of its element left behind it.
+fn stays(put: u8, left: usize, opened: bool) -> Step
+    ensures { λ r. ⌜ r ≡ kept-step put left opened ⌝ }
+{
+    Step {
+        put,
+        dropped: false,
+        then: Walk {
+            left,
+            starred: false,
+            opened,
+        },
+    }
+}
+
 fn step_at(edition: Edition, token: &[u8], i: usize, w: Walk) -> Step
     requires { ⌜ i < length (now token) ⌝ }
     ensures { λ r. ⌜ kept-from edition w (drop i (now (token .entry))) ≡ put-by r (kept-from edition (r .then) (drop (i + 1) (now (token .entry)))) ⌝ }
@@ -41,22 +56,33 @@ fn step_at(edition: Edition, token: &[u8], i: usize, w: Walk) -> Step
     let put = super::with_negation(w.opened, c);
     let opened = c == b'[';
     if w.left != 0 {
-        return Step { put, dropped: false, then: Walk { left: w.left - 1, starred: false, opened } };
+        return stays(put, w.left - 1, opened);
     }
     if c == b'*' {
-        return Step { put, dropped: w.starred, then: Walk { left: 0, starred: true, opened } };
+        return Step {
+            put,
+            dropped: w.starred,
+            then: Walk {
+                left: 0,
+                starred: true,
+                opened,
+            },
+        };
     }
     if opened {
-        let left = bracket_length(edition, token, i);
-        return Step { put, dropped: false, then: Walk { left, starred: false, opened } };
+        return stays(put, bracket_length(edition, token, i), opened);
     }
-    Step { put, dropped: false, then: Walk { left: 0, starred: false, opened } }
+    stays(put, 0, opened)
 }
 
 pub fn kept_length(edition: Edition, token: &[u8]) -> usize
     ensures { λ r. ⌜ r ≡ length (kept-run edition (now (token .entry))) ⌝ }
 {
-    let mut w = Walk { left: 0, starred: false, opened: false };
+    let mut w = Walk {
+        left: 0,
+        starred: false,
+        opened: false,
+    };
     let mut i = 0;
     let mut n = 0;
     while i < token.len() {
@@ -75,7 +101,11 @@ pub fn copy_kept(edition: Edition, token: &[u8], out: &mut [u8])
     requires { ⌜ length (kept-run edition (now token)) ≤ length (now out) ⌝ }
     ensures { λ r. ⌜ now (out .exit) ≡ front (kept-run edition (now (token .entry))) (now (out .entry)) ⌝ }
 {
-    let mut w = Walk { left: 0, starred: false, opened: false };
+    let mut w = Walk {
+        left: 0,
+        starred: false,
+        opened: false,
+    };
     let mut i = 0;
     let mut n = 0;
     while i < token.len() {
