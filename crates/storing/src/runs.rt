@@ -86,10 +86,10 @@ pub fn kept_length(edition: Edition, token: &[u8]) -> usize
     let mut i = 0;
     let mut n = 0;
     while i < token.len() {
-        let s = step_at(edition, token, i, w);
-        w = s.then;
+        let step = step_at(edition, token, i, w);
+        w = step.then;
         i += 1;
-        if s.dropped {
+        if step.dropped {
             continue;
         }
         n += 1;

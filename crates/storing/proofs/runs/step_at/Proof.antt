@@ -4,6 +4,12 @@ use Rattle.storing.proofs.Squeezing.{step-within, step-star, step-brack
 use Rattle.storing.proofs.runs.step_at.Statement.{statement}
 use Rattle.storing.proofs.runs.step_at.Tie as tie
 
+returns-2 : tie.Need-returns-2
+returns-2 c = search step-star
+
+returns-3 : tie.Need-returns-3
+returns-3 c = search step-bracket
+
 pub step-at-spec : {M : Type 1} → statement M
 step-at-spec =
     tie.close
@@ -11,8 +17,8 @@ step-at-spec =
     (λ c. search needs) (λ c κs. search needs)
     (λ c. search needs) (λ c κs. search needs)
     (λ c. search step-within)
-    (λ c. search step-star)
+    returns-2
     (λ c κs. search needs) (λ c κs. search needs)
-    (λ c. search step-bracket)
+    returns-3
     (λ c κs. search needs)
     (λ c. search step-other))
