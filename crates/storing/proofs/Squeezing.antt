@@ -17,7 +17,7 @@ use Rattle.lists.proofs.FrontLaws.{Written, written-start, written-room, writte
 use Rattle.numbers.specs.declared.Edition.{Edition}
 use Rattle.pattern.specs.Patterns.{between, element, opened}
 use Rattle.pattern.specs.Post.{mark-as}
-use Rattle.pattern.specs.Storing.{stored-byte, negated-from}
+use Rattle.pattern.specs.Storing.{stored-byte, negated-from, stored}
 use Rattle.pattern.specs.Runs.{squeezed, squeezed-past}
 use Rattle.pattern.proofs.BracketExits.{between-few}
 use Rattle.pattern.proofs.Runs.{element-bracket, element-other}
@@ -116,7 +116,7 @@ module _ (e : Edition) (t : List ℕ) (i : ℕ) (w : Walk) (h : i < length t) (x
 
 -- ---- the walk's start and its end
 pub kept-start : (e : Edition) (t : List ℕ) → kept-run e t ≡ kept-from e (record { left = 0; starred = false; opened = false }) t
-unfolding kept-run kept-from squeezed
+unfolding kept-run kept-from squeezed stored
 kept-start e t = refl
 
 pub kept-end : (e : Edition) (w : Walk) (t : List ℕ) (i : ℕ) → length t ≤ i → kept-from e w (drop i t) ≡ []
@@ -148,7 +148,7 @@ pub record Copied (e : Edition) (t d l : List ℕ) (w : Walk) (i n : ℕ) : Type
   pub written : Written (kept-run e t) d l n (kept-from e w (drop i t))
 
 pub copied-none : (e : Edition) (t d : List ℕ) → Copied e t d d (record { left = 0; starred = false; opened = false }) 0 0
-unfolding kept-run kept-from squeezed
+unfolding kept-run kept-from squeezed stored
 copied-none e t d = record { few = omega arith; written = written-start }
 
 module _ {e : Edition} {t d l : List ℕ} {w : Walk} {i n : ℕ} (z : Copied e t d l w i n) where

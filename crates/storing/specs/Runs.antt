@@ -6,14 +6,14 @@ use lib.ListN.{length, drop}
 use Rattle.numbers.specs.declared.Edition.{Edition}
 use Rattle.pattern.specs.Patterns.{between}
 use Rattle.pattern.specs.Post.{mark-as}
-use Rattle.pattern.specs.Storing.{negated-from}
+use Rattle.pattern.specs.Storing.{negated-from, stored}
 use Rattle.pattern.specs.Runs.{squeezed, squeezed-past}
 use Rattle.storing.specs.declared.runs.Walk.{Walk}
 use Rattle.storing.specs.declared.runs.Step.{Step}
 
 -- "brackets being read after `[^` has become `[!`, a run outside a bracket is kept as one star"
 unfoldable pub kept-run : Edition → List ℕ → List ℕ
-kept-run e t = squeezed e (negated-from false t)
+kept-run e t = squeezed e (stored e t)
 
 -- what is kept from a place on, of the bytes there, where a walk stands at w
 unfoldable pub kept-from : Edition → Walk → List ℕ → List ℕ

@@ -14,6 +14,8 @@ use Rattle.classes.proofs.is_lone_star
 use Rattle.classes.proofs.classify
 use Rattle.storing.proofs.unescape_pattern
 use Rattle.storing.proofs.store_token
+use Rattle.storing.proofs.runs.kept_length
+use Rattle.storing.proofs.runs.copy_kept
 use Rattle.glob_match.proofs.exports.glob_match_class
 use Rattle.glob_match.proofs.exports.glob_match_unescape
 use Rattle.glob_match.proofs.exports.glob_match_store
@@ -60,6 +62,12 @@ unescape-pattern-unique κs a x y v w p q = (same (p .0) (q .0), λ i. tt ▹ sa
 
 pub store-token-unique : Unique store_token.ended store_token.Reads.Post
 store-token-unique κs a x y v w p q = (same (p .0) (q .0), λ i. tt ▹ tt ▹ same (p .1) (q .1) i ▹ tt)
+
+pub kept-length-unique : Unique kept_length.ended kept_length.Reads.Post
+kept-length-unique κs a x y v w p q = (same p q, refl)
+
+pub copy-kept-unique : Unique copy_kept.ended copy_kept.Reads.Post
+copy-kept-unique κs a x y v w p q = (refl, λ i. tt ▹ tt ▹ same p q i ▹ tt)
 
 -- ---- glob_match
 pub glob-match-class-unique : Unique glob_match_class.ended glob_match_class.Reads.Post
