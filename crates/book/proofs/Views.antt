@@ -76,7 +76,7 @@ laid-packs c b e =
       edits = packs-is edit-laws (z .1);
     }
 
-module _ (c : Counts) (b : Buffers) (w : Book) (t : Layout c b w) where
+module _ {c : Counts} {b : Buffers} {w : Book} (t : Layout c b w) where
   -- a layout passes the test, and gives its book again
   pub laid-from : (laid c b ≡ true) × (book-of c b ≡ w)
   unfolding laid book-of
@@ -128,13 +128,13 @@ module _ (c : Counts) (b : Buffers) (w : Book) (t : Layout c b w) where
 
 module _ (c : Counts) (b : Buffers) (g : laid c b ≡ true) where
   pub laid-counts : c ≡ counts-of (book-of c b)
-  laid-counts = layout-counts c b (book-of c b) (laid-packs c b g)
+  laid-counts = layout-counts (laid-packs c b g)
 
   pub laid-buffers : b ≡ laid-out b (book-of c b)
-  laid-buffers = layout-buffers c b (book-of c b) (laid-packs c b g)
+  laid-buffers = layout-buffers (laid-packs c b g)
 
   pub laid-fits : Fits b (book-of c b)
-  laid-fits = layout-fits c b (book-of c b) (laid-packs c b g)
+  laid-fits = layout-fits (laid-packs c b g)
 
 -- ---- buffers of the same lengths
 pub record Rooms (b b′ : Buffers) : Type 0 where
@@ -178,7 +178,7 @@ module _ (b : Buffers) (w : Book) (f : Fits b w) where
   }
 
   pub fits-laid : (laid (counts-of w) (laid-out b w) ≡ true) × (book-of (counts-of w) (laid-out b w) ≡ w)
-  fits-laid = laid-from (counts-of w) (laid-out b w) w fits-layout
+  fits-laid = laid-from fits-layout
 
   -- the layout has the lengths of the buffers
   pub laid-out-rooms : Rooms (laid-out b w) b
@@ -212,4 +212,4 @@ layout-of-view c b w e =
     let h = holds-of-view c b w e in
     let g = both (laid c b) (sane (book-of c b)) (h .0) in
     let t : Layout c b w = subst (Layout c b) (h .1) (laid-packs c b (g .0)) in
-    (layout-counts c b w t, layout-buffers c b w t, layout-fits c b w t, ap sane (sym (h .1)) ∙ g .1)
+    (layout-counts t, layout-buffers t, layout-fits t, ap sane (sym (h .1)) ∙ g .1)

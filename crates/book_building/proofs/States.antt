@@ -83,7 +83,7 @@ module _ (g : Progress) (n m l q : List ℕ) where
         lines = s .lines;
         edits = no-edits;
       } in
-      let f = laid-from (counts-so-far g) (five n m l q []) w t in (
+      let f = laid-from t in (
         ap (λ (v : Book). book-so-far (v .nodes) (v .lines) g) (f .1),
         rw (lt-ltb 0 (g .nodes) (s .few .some), le-leb (g .names) (script-limit * g .nodes) (s .few .names)) (f .0),
       )

@@ -10,7 +10,7 @@ use lib.Dec.{eqb}
 use lib.ListN.{length, getD, List·getD-eq-default}
 use Rattle.numbers.specs.declared.Edition.{Edition}
 use Rattle.numbers.specs.Signs.{asterisk, closing-brace, hash, line-feed, semicolon, slash}
-use Rattle.lists.proofs.Tests.{neither}
+use Rattle.lists.proofs.Tests.{both, neither}
 use Rattle.linker_script.specs.declared.Found.{Found}
 use Rattle.linker_script.specs.declared.Found.the-variants.{Here, Nowhere}
 use Rattle.linker_script.specs.declared.Skipped.the-variants.{At, Open}
@@ -18,7 +18,6 @@ use Rattle.linker_script.specs.Finding.{Test, are, first-from, is}
 use Rattle.linker_script.specs.Skip.{blank, closes-after, comment-end, skip, skips}
 use Rattle.linker_script.proofs.Searches.{byte-within, first-here, first-on, first-within, passes}
 use Rattle.linker_script.proofs.Skipping.{comment-from, skip-ends, past-blank, past-line, line-opens, stops, past-comment, comment-opens}
-use Rattle.reading_tokens.proofs.Ends.{and-both}
 use Rattle.reading.specs.Rules.{Byte, None, No-pair}
 
 -- ---- nothing is found
@@ -63,7 +62,7 @@ module _ (a b : ℕ) (s : List ℕ) (p : ℕ) where
   pub pair-found : (q : ℕ) → first-from (are a b) s p ≡ Here q → (p ≤ q) × (Byte a s q × Byte b s (q + 1))
   pair-found q e =
       let f = first-within e in
-      let k = and-both (eqb (getD s q 0) a) (eqb (getD s (q + 1) 0) b) (f .holds) in
+      let k = both (eqb (getD s q 0) a) (eqb (getD s (q + 1) 0) b) (f .holds) in
       (f .onward, (eqb-true (getD s q 0) a (k .0), eqb-true (getD s (q + 1) 0) b (k .1)))
 
   pub nowhere-pair : 0 < a → first-from (are a b) s p ≡ Nowhere → No-pair a b s p
@@ -189,7 +188,7 @@ module _ (x : Edition) (s : List ℕ) (p : ℕ) where
     where
       pair : (v : Bool) → eqb (getD s p 0) slash && eqb (getD s (p + 1) 0) asterisk ≡ v → blank (getD s p 0) ≡ false → eqb (getD s p 0) hash ≡ false → Turn x s p
       pair true e a b =
-          let k = and-both (eqb (getD s p 0) slash) (eqb (getD s (p + 1) 0) asterisk) e in
+          let k = both (eqb (getD s p 0) slash) (eqb (getD s (p + 1) 0) asterisk) e in
           turn-comment (eqb-true (getD s p 0) slash (k .0)) (eqb-true (getD s (p + 1) 0) asterisk (k .1)) (comment-end x s p) refl
       pair false e a b = stays (rw (a, b, e))
 

@@ -10,6 +10,7 @@ use native.Mathlib.Omega.{arith}
 use borrow.Author.Tests.{eq-eqb, ne-eqb, eqb-true, le-ltb}
 use lib.Dec.{eqb, ltb}
 use lib.ListN.{length, getD, drop, drop-of-length-le}
+use Rattle.lists.proofs.Tests.{both}
 use Rattle.numbers.specs.declared.Edition.{Edition}
 use Rattle.numbers.specs.Limits.{script-limit, token-limit}
 use Rattle.numbers.specs.Refusals.{unreadable, unclosed, bad-extern}
@@ -20,7 +21,6 @@ use Rattle.linker_script.proofs.Searches.{drop-next}
 use Rattle.reading_tokens.specs.declared.TokenEnd.{TokenEnd}
 use Rattle.reading_tokens.specs.declared.TokenEnd.the-variants as no
 use Rattle.reading_tokens.specs.Tokens.{begins, stands-at, named, longer, name-in, name-end, to-semicolon, to-brace, brace-next, to-either, bare-extern-end, bare-end, bare-skip}
-use Rattle.reading_tokens.proofs.Ends.{and-both}
 use Rattle.reading_cursors.specs.declared.Cursor.{Cursor}
 use Rattle.reading_cursors.specs.declared.Event.{Event}
 use Rattle.reading_cursors.specs.declared.Event.the-variants.{Body, Extern, Closed}
@@ -41,8 +41,8 @@ begins-byte : (w l : List ℕ) (i : ℕ) → begins w l ≡ true → i < length 
 unfolding begins
 begins-byte [] l i e h = absurd (omega arith)
 begins-byte (x ∷ w) [] i e h = absurd (true≢false (sym e))
-begins-byte (x ∷ w) (b ∷ l) zero e h = eqb-true b x (and-both (eqb b x) (begins w l) e .0)
-begins-byte (x ∷ w) (b ∷ l) (suc i) e h = begins-byte w l i (and-both (eqb b x) (begins w l) e .1) (omega arith)
+begins-byte (x ∷ w) (b ∷ l) zero e h = eqb-true b x (both (eqb b x) (begins w l) e .0)
+begins-byte (x ∷ w) (b ∷ l) (suc i) e h = begins-byte w l i (both (eqb b x) (begins w l) e .1) (omega arith)
 
 -- two words that differ in a byte do not stand at one place
 differ : (v w s : List ℕ) (p i : ℕ) → i < length v → i < length w → (getD v i 0 ≡ getD w i 0 → ⊥) → Word v s p → No-word w s p

@@ -11,6 +11,7 @@ use native.Mathlib.Omega.{arith}
 use borrow.Author.Tests.{eq-eqb, eqb-true, lt-ltb, le-ltb, ltb-true}
 use lib.Dec.{eqb, ltb}
 use lib.ListN.{getD}
+use Rattle.lists.proofs.Tests.{both}
 use Rattle.numbers.specs.declared.Edition.{Edition}
 use Rattle.numbers.specs.Refusals.{unclosed, unreadable}
 use Rattle.numbers.specs.Signs.{closing-brace, semicolon}
@@ -20,7 +21,7 @@ use Rattle.linker_script.specs.Finding.{Test, first-from, is, last-close}
 use Rattle.linker_script.proofs.Searches.{First, first-within, last-close-none}
 use Rattle.reading_tokens.specs.declared.TokenEnd.the-variants.{To, Refused}
 use Rattle.reading_tokens.specs.Tokens.{end-at, to-semicolon, to-brace, to-either}
-use Rattle.reading_tokens.proofs.Ends.{and-both, brace-before, either-left}
+use Rattle.reading_tokens.proofs.Ends.{brace-before, either-left}
 use Rattle.reading.specs.Rules.{Byte}
 use Rattle.reading.proofs.Absence.{nowhere-in, nowhere-pair, stands-first}
 
@@ -79,7 +80,7 @@ module _ (x : Edition) (s : List ℕ) (p q r : ℕ) (h : p < last-close s) (e : 
       brace = end-found p unclosed r (first-from (is closing-brace) s p) k
 
       before : Byte closing-brace s (q - 1)
-      before = eqb-true (getD s (q - 1) 0) closing-brace (and-both (ltb p q) (eqb (getD s (q - 1) 0) closing-brace) b .1)
+      before = eqb-true (getD s (q - 1) 0) closing-brace (both (ltb p q) (eqb (getD s (q - 1) 0) closing-brace) b .1)
 
       here : Byte closing-brace s r
       here = eqb-true (getD s r 0) closing-brace (first-within (brace .0) .holds)

@@ -1,9 +1,9 @@
 -- How the code asks where a token of an extern block ends: by the last `};` of the text, behind which none is left (`either-none`, `bare-none`), and else by
 -- the byte before the first `;` (`either-left`, `bare-left`). Assumes nothing.
 use Prim.Native.Nat.{ℕ, _+_, _-_, _<_, _≤_}
-use mathlib.Core.Path.{_≡_, refl, sym, _∙_}
+use mathlib.Core.Path.{_≡_, sym, _∙_}
 use mathlib.Core.List.{List}
-use mathlib.Core.Bool.{Bool, true, false, cond, _&&_, true≢false}
+use mathlib.Core.Bool.{Bool, true, cond, _&&_, true≢false}
 use native.Mathlib.Decide.{decLt}
 use native.Mathlib.Omega.{arith}
 use borrow.Author.Tests.{eq-eqb, eqb-true, lt-ltb, le-ltb, ltb-true}
@@ -11,20 +11,12 @@ use lib.Dec.{eqb, ltb}
 use lib.ListN.{getD}
 use Rattle.numbers.specs.declared.Edition.{Edition}
 use Rattle.numbers.specs.Signs.{closing-brace, semicolon}
+use Rattle.lists.proofs.Tests.{both, fails}
 use Rattle.linker_script.specs.declared.Found.{Found}
 use Rattle.linker_script.specs.declared.Found.the-variants.{Here, Nowhere}
 use Rattle.linker_script.specs.Finding.{closes, first-from, is, last-close}
 use Rattle.linker_script.proofs.Searches.{First, first-within, last-close-none, last-close-some}
 use Rattle.reading_tokens.specs.Tokens.{to-semicolon, to-brace, to-either, bare-extern-end}
-
-pub and-both : (a b : Bool) → a && b ≡ true → (a ≡ true) × (b ≡ true)
-and-both true b h = (refl, h)
-and-both false b h = absurd (true≢false (sym h))
-
--- a test that cannot hold
-fails : (t : Bool) → (t ≡ true → ⊥) → t ≡ false
-fails true n = absurd (n refl)
-fails false n = refl
 
 -- whether the first `;` from the place p on is that of a `};`, or there is none
 abbrev pub brace-before : List ℕ → ℕ → Found → Bool
@@ -35,7 +27,7 @@ brace-before s p Nowhere = true
 module _ {s : List ℕ} {p c q : ℕ} (close : First closes s p c) (end : First (is semicolon) s p q) where
   closing : (getD s c 0 ≡ closing-brace) × (getD s (c + 1) 0 ≡ semicolon)
   closing =
-      let h = and-both (eqb (getD s c 0) closing-brace) (eqb (getD s (c + 1) 0) semicolon) (close .holds) in
+      let h = both (eqb (getD s c 0) closing-brace) (eqb (getD s (c + 1) 0) semicolon) (close .holds) in
       (eqb-true (getD s c 0) closing-brace (h .0), eqb-true (getD s (c + 1) 0) semicolon (h .1))
 
   -- the `;` of the `};` is none before q
@@ -45,7 +37,7 @@ module _ {s : List ℕ} {p c q : ℕ} (close : First closes s p c) (end : First 
   -- nor is a `}` before q that of a `};` before c
   not-before : q ≤ c → brace-before s p (Here q) ≡ true → ⊥
   not-before h b =
-      let a = and-both (ltb p q) (eqb (getD s (q - 1) 0) closing-brace) b in
+      let a = both (ltb p q) (eqb (getD s (q - 1) 0) closing-brace) b in
       let l = ltb-true p q (a .0) in
       let z : q - 1 + 1 ≡ q = omega arith in
       let n = close .before (q - 1) (omega arith) (omega arith) in
@@ -59,7 +51,7 @@ module _ {s : List ℕ} {p c q : ℕ} (close : First closes s p c) (end : First 
           let z : q - 1 ≡ c = omega (arith, not-past) in
           let l : p < q = omega (arith, close .onward) in
           rw (lt-ltb p q l, z, closing .0, lt-ltb c q h)
-      go (no h) = fails (brace-before s p (Here q)) (not-before (omega arith)) ∙ sym (le-ltb c q (omega arith))
+      go (no h) = fails (not-before (omega arith)) ∙ sym (le-ltb c q (omega arith))
 
 module _ (x : Edition) (s : List ℕ) (p : ℕ) where
   module _ (h : last-close s ≤ p) where

@@ -25,13 +25,14 @@ use Rattle.pattern_check.proofs.Closings.{mark-few}
 use Rattle.pattern_check.proofs.Negations.{token-more}
 use Rattle.storing.specs.declared.runs.Walk.{Walk}
 use Rattle.storing.specs.declared.runs.Step.{Step}
-use Rattle.storing.specs.Runs.{kept-run, kept-from, kept-step, put-by, bracket-more}
+use Rattle.storing.specs.Runs.{kept-run}
+use Rattle.storing.specs.Post.{kept-from, kept-step, put-by, bracket-more}
 use Rattle.storing.proofs.Keeping.{negated-here}
 
 -- ---- `bracket_length`: the mark behind the `[` at i takes m bytes, and what stands between x
-module _ (t : List ℕ) (i m : ℕ) (k : m ≡ mark-as true (drop (i + 1) t)) (h : i < length t) where
+module _ (t : List ℕ) (i m : ℕ) (token : Bool) (k : m ≡ mark-as token (drop (i + 1) t)) (h : i < length t) where
   marked : i + 1 + m ≤ length t
-  marked = omega (arith, mark-few true (drop (i + 1) t), length-drop (i + 1) t)
+  marked = omega (arith, mark-few token (drop (i + 1) t), length-drop (i + 1) t)
 
   pub from-fits : Fits w64 (length t) → Fits w64 (i + 1 + m)
   from-fits f = omega (arith, marked)
@@ -43,8 +44,9 @@ module _ (t : List ℕ) (i m : ℕ) (k : m ≡ mark-as true (drop (i + 1) t)) (h
     pub bracket-fits : Fits w64 (length t) → Fits w64 (m + x + 1)
     bracket-fits f = omega (arith, marked, between-few e (drop (i + 1 + m) t), length-drop (i + 1 + m) t)
 
-    pub bracket-is : m + x + 1 ≡ bracket-more e (drop (i + 1) t)
-    bracket-is = rw (← k, drop-drop, l)
+pub bracket-is : (e : Edition) (t : List ℕ) (i m x : ℕ) → m ≡ mark-as true (drop (i + 1) t) → x ≡ length (between e (drop (i + 1 + m) t))
+    → m + x + 1 ≡ bracket-more e (drop (i + 1) t)
+bracket-is e t i m x k l = rw (← k, drop-drop, l)
 
 -- ---- a byte as it is stored is a star, or a `[`, where it was one
 star-stored : (b : Bool) (c : ℕ) → eqb (stored-byte b c) 42 ≡ eqb c 42

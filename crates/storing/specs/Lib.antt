@@ -1,3 +1,4 @@
 pub mod Keeping
 pub mod Answers
 pub mod Runs
+pub mod Post

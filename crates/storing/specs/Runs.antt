@@ -1,32 +1,10 @@
--- What is kept of a glob token where runs of stars are squeezed (02, request 01), and a walk over its bytes. Nothing is stored so yet. Assumes nothing.
-use Prim.Native.Nat.{ℕ, _+_}
-use mathlib.Core.List.{List, _∷_}
-use mathlib.Core.Bool.{Bool, true, false, cond}
-use lib.ListN.{length, drop}
+-- What is kept of a glob token where runs of stars are squeezed (02, request 01). Nothing is stored so yet. Assumes nothing.
+use Prim.Native.Nat.{ℕ}
+use mathlib.Core.List.{List}
 use Rattle.numbers.specs.declared.Edition.{Edition}
-use Rattle.pattern.specs.Patterns.{between}
-use Rattle.pattern.specs.Post.{mark-as}
-use Rattle.pattern.specs.Storing.{negated-from, stored}
-use Rattle.pattern.specs.Runs.{squeezed, squeezed-past}
-use Rattle.storing.specs.declared.runs.Walk.{Walk}
-use Rattle.storing.specs.declared.runs.Step.{Step}
+use Rattle.pattern.specs.Storing.{stored}
+use Rattle.pattern.specs.Runs.{squeezed}
 
 -- "brackets being read after `[^` has become `[!`, a run outside a bracket is kept as one star"
 unfoldable pub kept-run : Edition → List ℕ → List ℕ
 kept-run e t = squeezed e (stored e t)
-
--- what is kept from a place on, of the bytes there, where a walk stands at w
-unfoldable pub kept-from : Edition → Walk → List ℕ → List ℕ
-kept-from e w s = squeezed-past e (w .left) (w .starred) (negated-from (w .opened) s)
-
--- what a step puts before what is kept behind it
-abbrev pub put-by : Step → List ℕ → List ℕ
-put-by r s = cond (r .dropped) s (r .put ∷ s)
-
--- a byte that stays, with k bytes of its element left behind it; b says that it is a `[`
-abbrev pub kept-step : ℕ → ℕ → Bool → Step
-kept-step x k b = record { put = x; dropped = false; then = record { left = k; starred = false; opened = b } }
-
--- how many bytes a token's bracket takes behind its `[`, with its `]`
-abbrev pub bracket-more : Edition → List ℕ → ℕ
-bracket-more e s = mark-as true s + length (between e (drop (mark-as true s) s)) + 1

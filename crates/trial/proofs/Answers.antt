@@ -26,8 +26,8 @@ refusal-answers b x n e = (rw e, rw e)
 pub layout-answers : (c : Counts) (b b′ : Buffers) (w : Book) (x : Change) → x ≡ to w → Layout c b′ w → Rooms b′ b → Leaves b x (answer.Done c) b′
 unfolding edited after
 layout-answers c b b′ w x e t r = (
-  rw e (ap answer.Done (layout-counts c b′ w t)),
-  rw e (layout-buffers c b′ w t ∙ laid-out-same b′ b w r),
+  rw e (ap answer.Done (layout-counts t)),
+  rw e (layout-buffers t ∙ laid-out-same b′ b w r),
 )
 
 -- the number, the counts and the buffers that are left, from the answer r

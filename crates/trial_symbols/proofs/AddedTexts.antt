@@ -99,7 +99,7 @@ module _ {c : Counts} {place : ℕ} {s n m l q j l′ q′ j′ : List ℕ} {x :
 
   -- what `add_event` asks, with `event-lies`
   pub now-laid : laid k lent-now ≡ true
-  now-laid = laid-from k lent-now (i .book) (i .layout) .0
+  now-laid = laid-from (i .layout) .0
 
   pub some-nodes : 0 < k .nodes
   some-nodes =
@@ -147,7 +147,7 @@ module _ {c : Counts} {place : ℕ} {s n m l q j l′ q′ j′ : List ℕ} {x :
       module _ {r : Edited} {l₁ q₁ j₁ : List ℕ} (h : Makes k lent-now (λ b w. add-event b s w v) r (five n m l₁ q₁ j₁)) where
         event-now : add-event lent-now s (book-of k lent-now) v ≡ add-event lent s (i .book) v
         event-now =
-            ap (λ (w : Book). add-event lent-now s w v) (laid-from k lent-now (i .book) (i .layout) .1)
+            ap (λ (w : Book). add-event lent-now s w v) (laid-from (i .layout) .1)
             ∙ event-same lent-now lent (i .rooms) s (i .book) v
 
         onward : (w : Change) → add-event lent s (i .book) v ≡ w
@@ -187,7 +187,7 @@ module _ {c : Counts} {place : ℕ} {s n m l q j l′ q′ j′ : List ℕ} {x :
             let t : add-event lent s (i .book) v ≡ to b = sym event-now ∙ w .is in
             let kind : eqb (held .kind) rust ≡ false = ne-eqb (held .kind) rust (λ o. omega (arith, i .asked .2, layout-held .kind, o)) in
             let some-held : 0 < length (held .nodes) = omega (arith, i .asked .1, layout-held .nodes .count) in
-            let fits = fits-same lent-now lent (i .book) (i .rooms) (layout-fits k lent-now (i .book) (i .layout)) in
+            let fits = fits-same lent-now lent (i .book) (i .rooms) (layout-fits (i .layout)) in
             let g = event-grows lent held kind some-held s (i .book) (record { grown = i .grown; fits = fits }) v event-lies b t in
             let o : five n m l₁ q₁ j₁ ≡ laid-out lent b = w .laid ∙ laid-out-same lent-now lent b (i .rooms) in
             record {

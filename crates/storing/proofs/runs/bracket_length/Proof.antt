@@ -5,6 +5,9 @@ use Rattle.storing.proofs.Squeezing.{from-fits, part-fits, bracket-fits
 use Rattle.storing.proofs.runs.bracket_length.Statement.{statement}
 use Rattle.storing.proofs.runs.bracket_length.Tie as tie
 
+returns : tie.Need-returns
+returns c = search bracket-is
+
 pub bracket-length-spec : {M : Type 1} → statement M
 bracket-length-spec =
     tie.close
@@ -15,4 +18,4 @@ bracket-length-spec =
     (λ c κs. search needs)
     (λ c. search (part-fits, arith))
     (λ c. search (bracket-fits, arith))
-    (λ c. search bracket-is))
+    returns)
