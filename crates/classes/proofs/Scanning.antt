@@ -114,12 +114,12 @@ module _ (s : List ℕ) (k : Class) (i : ℕ) (left : scan Exact false s ≡ sca
     pub scan-star : getD s i 0 ≡ 42 → Star ≡ scan Exact false s
     scan-star e = sym (here ∙ rw (eq-eqb (getD s i 0) 42 e))
 
-    module _ (n : getD s i 0 ≡ 42 → ⊥) (r : Class) (e : r ≡ scanned k (getD s i 0)) where
+    module _ (r : Class) (e : r ≡ scanned k (getD s i 0)) where
       pub scan-escape : getD s i 0 ≡ 92 → scan Exact false s ≡ scan r false (drop (i + 2) s)
-      scan-escape q = here ∙ rw (ne-eqb (getD s i 0) 42 n, eq-eqb (getD s i 0) 92 q, ← e, scan-skip, drop-drop, add-assoc)
+      scan-escape q = here ∙ rw (ne-eqb (getD s i 0) 42 (λ z. omega arith), eq-eqb (getD s i 0) 92 q, ← e, scan-skip, drop-drop, add-assoc)
 
-      pub scan-on : (getD s i 0 ≡ 92 → ⊥) → scan Exact false s ≡ scan r false (drop (i + 1) s)
-      scan-on q = here ∙ rw (ne-eqb (getD s i 0) 42 n, ne-eqb (getD s i 0) 92 q, ← e)
+      pub scan-on : (getD s i 0 ≡ 42 → ⊥) → (getD s i 0 ≡ 92 → ⊥) → scan Exact false s ≡ scan r false (drop (i + 1) s)
+      scan-on n q = here ∙ rw (ne-eqb (getD s i 0) 42 n, ne-eqb (getD s i 0) 92 q, ← e)
 
 -- ---- blocks without a sign
 pub mark-byte : (b : Bool) → boolByte b ≡ cond b 1 0

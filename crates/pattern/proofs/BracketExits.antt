@@ -2,7 +2,7 @@
 use Prim.Native.Nat.{ℕ, suc, _+_, _-_, _<_, _≤_}
 use mathlib.Core.Path.{_≡_, refl, sym, ap, _∙_}
 use mathlib.Core.List.{List, [], _∷_}
-use mathlib.Core.Bool.{Bool, true, false, not, cond, _&&_, _||_}
+use mathlib.Core.Bool.{Bool, true, false, not, cond, _&&_, _||_, and-false}
 use native.Mathlib.Nat.{add-assoc}
 use native.Mathlib.Decide.{decLt, ℕ-discrete}
 use native.Mathlib.Numerals.{add-one}
@@ -26,6 +26,14 @@ use Rattle.pattern.proofs.Bytes.{inside-nil, inside-close, inside-cons,
 use Rattle.pattern.proofs.Places.{walk-pieces, number-within, ascii-byte}
 
 -- ---- the mark
+pub mark-few : (token : Bool) (s : List ℕ) → mark-as token s ≤ length s
+mark-few token [] = omega arith
+mark-few token (c ∷ s) = go (eqb c 33 || token && eqb c 94)
+  where
+    go : (t : Bool) → cond t 1 0 ≤ length (c ∷ s)
+    go true = omega arith
+    go false = omega arith
+
 module _ (token : Bool) (s : List ℕ) (at : ℕ) where
   pub mark-end : length s ≤ at → 0 ≡ mark-as token (drop at s)
   mark-end h = rw (drop-of-length-le s h)
@@ -34,16 +42,15 @@ module _ (token : Bool) (s : List ℕ) (at : ℕ) where
     pub mark-bang : getD s at 0 ≡ 33 → 1 ≡ mark-as token (drop at s)
     mark-bang q = rw (drop-cons s at 0 h, q)
 
+    pub mark-caret : token ≡ true → getD s at 0 ≡ 94 → 1 ≡ mark-as token (drop at s)
+    mark-caret t q = rw (drop-cons s at 0 h, q, t)
+
     module _ (n : getD s at 0 ≡ 33 → ⊥) where
       pub mark-plain : token ≡ false → 0 ≡ mark-as token (drop at s)
       mark-plain t = rw (drop-cons s at 0 h, ne-eqb (getD s at 0) 33 n, t)
 
-      module _ (t : token ≡ true) where
-        pub mark-caret : getD s at 0 ≡ 94 → 1 ≡ mark-as token (drop at s)
-        mark-caret q = rw (drop-cons s at 0 h, q, t)
-
-        pub mark-other : (getD s at 0 ≡ 94 → ⊥) → 0 ≡ mark-as token (drop at s)
-        mark-other m = rw (drop-cons s at 0 h, ne-eqb (getD s at 0) 33 n, t, ne-eqb (getD s at 0) 94 m)
+      pub mark-other : (getD s at 0 ≡ 94 → ⊥) → 0 ≡ mark-as token (drop at s)
+      mark-other m = rw (drop-cons s at 0 h, ne-eqb (getD s at 0) 33 n, ne-eqb (getD s at 0) 94 m, and-false token)
 
 -- ---- what stands between
 -- how many bytes are left before the first `]` from i on
@@ -168,21 +175,20 @@ module _ (e : Edition) (body : List ℕ) (x at : ℕ) (inv : holds-from e body x
 pub record Opens (e : Edition) (rest : List ℕ) (negated : Bool) (from : ℕ) : Type 0 where
   pub reads : opened e (chars rest) ≡ bracketed e negated from (between e (chars (drop from rest))) (chars rest)
   pub skips : drop from (chars rest) ≡ chars (drop from rest)
-  pub room : from ≤ length rest
 
 -- by its mark
 pub opens : (e : Edition) (rest : List ℕ) → Opens e rest (eqb (mark-as false rest) 1) (mark-as false rest)
 unfolding opened between
-opens e [] = record { reads = rw chars-nil; skips = refl; room = omega arith }
+opens e [] = record { reads = rw chars-nil; skips = refl }
 opens e (c ∷ s) = go (ℕ-discrete c 33)
   where
     go : Dec (c ≡ 33) → Opens e (c ∷ s) (eqb (mark-as false (c ∷ s)) 1) (mark-as false (c ∷ s))
     go (yes q) =
         let k : chars (33 ∷ s) ≡ 33 ∷ chars s = chars-cons-ascii 33 s (omega arith) in
-        rw q (record { reads = rw k; skips = rw k; room = omega arith })
+        rw q (record { reads = rw k; skips = rw k })
     go (no n) =
         let m : read c s .what ≡ 33 → ⊥ = λ q. n (sym (ascii-byte c s (omega arith)) ∙ q) in
-        rw (ne-eqb c 33 n) (record { reads = rw (chars-cons c s, ne-eqb (read c s .what) 33 m); skips = refl; room = omega arith })
+        rw (ne-eqb c 33 n) (record { reads = rw (chars-cons c s, ne-eqb (read c s .what) 33 m); skips = refl })
 
 inside-part : (s : List ℕ) → take (length (inside s)) s ≡ inside s
 unfolding inside
@@ -202,12 +208,14 @@ between-part e (c ∷ s) = rw (inside-part s)
 pub between-few : (e : Edition) (s : List ℕ) → length (between e s) ≤ length s
 between-few e s = omega (arith, simp length-take at (ap length (between-part e s)))
 
+-- mark and members lie in what is left, of a token as of stored bytes
+pub bracket-fits : (e : Edition) (token : Bool) (rest : List ℕ) {from k : ℕ} → from ≡ mark-as token rest → k ≡ length (between e (drop from rest))
+    → from + k ≤ length rest
+bracket-fits e token rest {from} p q = omega (arith, mark-few token rest, simp length-drop at (between-few e (drop from rest)))
+
 module _ (e : Edition) (rest : List ℕ) {from k : ℕ} (p : from ≡ mark-as false rest) (q : k ≡ length (between e (drop from rest))) where
   here : Opens e rest (eqb from 1) from
   here = rw p (opens e rest)
-
-  pub bracket-fits : from + k ≤ length rest
-  bracket-fits = omega (arith, here .room, simp length-drop at (between-few e (drop from rest)))
 
   bracket-behind : drop (opened e (chars rest) .more) (chars rest) ≡ chars (drop (from + k + 1) rest)
   unfolding bracketed
@@ -244,4 +252,4 @@ module _ (e : Edition) (rest : List ℕ) (x : ℕ) where
 
   pub told-within : bracket-told e rest x .past ≤ length rest + 1
   unfolding bracket-told
-  told-within = omega (arith, bracket-fits e rest refl refl)
+  told-within = omega (arith, bracket-fits e false rest refl refl)

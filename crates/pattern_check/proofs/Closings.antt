@@ -22,7 +22,7 @@ use Rattle.pattern.specs.Patterns.{between, opened}
 use Rattle.pattern.specs.Post.{mark-as}
 use Rattle.pattern_check.specs.Post.{chars-as, Closing-ok}
 use Rattle.pattern.proofs.Bytes.{behind-chars, closed-chars}
-use Rattle.pattern.proofs.BracketExits.{between-few}
+use Rattle.pattern.proofs.BracketExits.{mark-few, between-few}
 use Rattle.pattern_check.proofs.Negations.{behind-mark, closed, behind, token-good, token-behind}
 
 -- ---- the mark, which is ASCII
@@ -41,14 +41,6 @@ mark-chars token (a ∷ s) = go (decLt a 128)
     go : Dec (a < 128) → behind-mark token (chars (a ∷ s)) ≡ chars (behind-mark token (a ∷ s))
     go (yes h) = rw (chars-cons-ascii a s h) (ascii h (eqb a 33 || token && eqb a 94))
     go (no n) = rw (mark-high token a (omega arith), chars-cons, mark-high token (read a s .what) (read-high a s (omega arith)))
-
-pub mark-few : (token : Bool) (s : List ℕ) → mark-as token s ≤ length s
-mark-few token [] = omega arith
-mark-few token (c ∷ s) = go (eqb c 33 || token && eqb c 94)
-  where
-    go : (t : Bool) → cond t 1 0 ≤ length (c ∷ s)
-    go true = omega arith
-    go false = omega arith
 
 -- ---- the bracket
 module _ (e : Edition) (token : Bool) (s : List ℕ) where

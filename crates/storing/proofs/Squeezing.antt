@@ -19,9 +19,8 @@ use Rattle.pattern.specs.Patterns.{between, element, opened}
 use Rattle.pattern.specs.Post.{mark-as}
 use Rattle.pattern.specs.Storing.{stored-byte, negated-from, stored}
 use Rattle.pattern.specs.Runs.{squeezed, squeezed-past}
-use Rattle.pattern.proofs.BracketExits.{between-few}
+use Rattle.pattern.proofs.BracketExits.{mark-few, between-few}
 use Rattle.pattern.proofs.Runs.{element-bracket, element-other}
-use Rattle.pattern_check.proofs.Closings.{mark-few}
 use Rattle.pattern_check.proofs.Negations.{token-more}
 use Rattle.storing.specs.declared.runs.Walk.{Walk}
 use Rattle.storing.specs.declared.runs.Step.{Step}

@@ -17,6 +17,16 @@ Inv-loop pattern class₀ i₀ class i = scan Exact false pattern ≡ scan class
 abbrev μ-loop : tie.MeasureT-loop
 μ-loop pattern class₀ i₀ class i = length pattern - i
 
+returns : tie.Need-returns Inv-loop μ-loop
+returns c =
+    let t = c .before .before .before in
+    scan-star _ _ _ (t .before .loop .inv) (t .loop-test .taken) (c .if2 .taken)
+
+loop-again-2 : tie.Need-loop-again-2 Inv-loop μ-loop
+loop-again-2 c =
+    let t = c .before .before .before .before .before in
+    scan-escape _ _ _ (t .before .loop .inv) (t .loop-test .taken) _ (c .before .with-byte .ensures) (c .if3 .taken)
+
 pub analyze-glob-pattern-spec : {M : Type 1} → statement M
 analyze-glob-pattern-spec =
     tie.close
@@ -27,9 +37,9 @@ analyze-glob-pattern-spec =
     (λ c. c .plain-blocks .ensures)
     (λ c. search needs) (λ c. search needs) (λ c. omega arith)
     (λ c. search scan-plain)
-    (λ c. search scan-star)
+    returns
     (λ c κs. search needs) (λ c. search needs) (λ c. omega arith)
-    (λ c. search scan-escape)
+    loop-again-2
     (λ c. search needs) (λ c. omega arith)
     (λ c. search scan-on)
     (λ c. search scan-end))

@@ -5,6 +5,11 @@ use Rattle.pattern_check.proofs.Closings.{mark-fits, end-fits, stays-op
 use Rattle.pattern_check.proofs.closing_of.Statement.{statement}
 use Rattle.pattern_check.proofs.closing_of.Tie as tie
 
+returns-2 : tie.Need-returns-2
+returns-2 c =
+    let b = c .before in
+    closes _ _ _ _ (b .before .mark-at .ensures) _ _ (b .between-length .ensures) (omega (arith, c .if1 .left))
+
 pub closing-of-spec : {M : Type 1} → statement M
 closing-of-spec =
     tie.close
@@ -13,6 +18,6 @@ closing-of-spec =
     (λ c. search (mark-fits, arith))
     (λ c κs. search needs)
     (λ c. search (end-fits, arith))
-    (λ c. search stays-open)
+    (λ c. let b = c .before in stays-open _ _ _ _ (b .before .mark-at .ensures) _ _ (b .between-length .ensures) (omega (arith, c .if1 .taken)))
     (λ c. search needs)
-    (λ c. search closes))
+    returns-2)

@@ -16,6 +16,13 @@ Inv-loop src out₀ i₀ n₀ out i n = (n ≤ i) × Written (unescape src) out�
 abbrev μ-loop : tie.MeasureT-loop
 μ-loop src out₀ i₀ n₀ out i n = length src - i
 
+loop-again : tie.Need-loop-again Inv-loop μ-loop
+loop-again c =
+    let b = c .before .before in
+    let t = b .before .before in
+    let l = t .before in
+    (omega arith, written-more (l .loop .inv .1) (l .before .pre) (unescape-goes _ _ (t .loop-test .taken) (b .if1 .taken) (c .before .if2 .taken)))
+
 loop-again-2 : tie.Need-loop-again-2 Inv-loop μ-loop
 loop-again-2 c =
     (omega arith, ⊎-elim (λ last. search (written-more, unescape-stays-last)) (λ other. search (written-more, unescape-stays)) (c .before .if1 .came))
@@ -30,7 +37,7 @@ copy-unescaped-spec =
     (λ c. search needs) (λ c. search needs) (λ c. search needs)
     (λ c. search (written-room, unescape-some))
     (λ c. search needs) (λ c. search needs) (λ c. omega arith)
-    (λ c. (omega arith, search (written-more, unescape-goes)))
+    loop-again
     (λ c. search needs)
     (λ c. search (written-room, unescape-some))
     (λ c. search needs) (λ c. omega arith)

@@ -13,6 +13,11 @@ Inv-loop pattern i₀ n₀ i n = Counted pattern i n
 abbrev μ-loop : tie.MeasureT-loop
 μ-loop pattern i₀ n₀ i n = length pattern - i
 
+loop-again : tie.Need-loop-again Inv-loop μ-loop
+loop-again c =
+    let t = c .before .before in
+    counted-goes (t .before .loop .inv) (t .loop-test .taken) (c .if1 .taken)
+
 pub unescaped-length-spec : {M : Type 1} → statement M
 unescaped-length-spec =
     tie.close
@@ -21,7 +26,7 @@ unescaped-length-spec =
     μ-loop
     (λ c. search counted-start)
     (λ c. search needs) (λ c. search needs) (λ c. search needs) (λ c. omega arith)
-    (λ c. search counted-goes)
+    loop-again
     (λ c. search needs) (λ c. omega arith)
     (λ c. search counted-stays)
     (λ c. search counted-end))

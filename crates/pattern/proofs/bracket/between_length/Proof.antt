@@ -12,6 +12,14 @@ Inv-loop rest from i₀ i = Scanned rest from i
 abbrev μ-loop : tie.MeasureT-loop
 μ-loop rest from i₀ i = length rest - i
 
+loop-holds : tie.Need-loop-holds Inv-loop μ-loop
+loop-holds c = scan-starts
+
+returns-2 : tie.Need-returns-2 Inv-loop μ-loop
+returns-2 c =
+    let t = c .before .before in
+    scan-closes _ _ _ (t .before .before .if1 .left) (t .before .loop .inv) (t .loop-test .taken) (c .if2 .taken)
+
 pub between-length-spec : {M : Type 1} → statement M
 between-length-spec =
     tie.close
@@ -20,9 +28,9 @@ between-length-spec =
     μ-loop
     (λ c. search between-end)
     (λ c. search needs)
-    (λ c. search scan-starts)
+    loop-holds
     (λ c. search needs) (λ c. search needs)
-    (λ c. search scan-closes)
+    returns-2
     (λ c. search needs) (λ c. search needs)
     (λ c. search scan-again)
     (λ c. search needs)

@@ -14,9 +14,6 @@ lies c = search bracket-fits
 returns : tie.Need-returns
 returns c = search bracket-negated
 
-returns-2 : tie.Need-returns-2
-returns-2 c = search bracket-plain
-
 pub bracket-takes-spec : {M : Type 1} → statement M
 bracket-takes-spec =
     tie.close
@@ -26,4 +23,4 @@ bracket-takes-spec =
     (λ c κs. search needs) (λ c. omega (arith, lies (c .before .before .before)))
     returns
     (λ c. omega (arith, lies (c .before .before .before)))
-    returns-2)
+    (λ c. search bracket-plain))

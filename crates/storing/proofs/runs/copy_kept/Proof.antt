@@ -13,6 +13,12 @@ Inv-loop edition token out₀ w₀ i₀ n₀ out w i n = Copied edition token ou
 abbrev μ-loop : tie.MeasureT-loop
 μ-loop edition token out₀ w₀ i₀ n₀ out w i n = length token - i
 
+loop-again-2 : tie.Need-loop-again-2 Inv-loop μ-loop
+loop-again-2 c =
+    let s = c .before .before in
+    let l = s .before .before in
+    copied-more (l .loop .inv) _ (s .step-at .ensures) (c .if1 .left) (l .before .before .before .pre)
+
 pub copy-kept-spec : {M : Type 1} → statement M
 copy-kept-spec =
     tie.close
@@ -24,6 +30,6 @@ copy-kept-spec =
     (λ c. search copied-less)
     (λ c. search copied-room)
     (λ c. omega arith) (λ c. search needs)
-    (λ c. search copied-more)
+    loop-again-2
     (λ c. search copied-long)
     (λ c. search copied-all))

@@ -13,13 +13,16 @@ Inv-loop edition token w₀ i₀ n₀ w i n = Kept edition token w i n
 abbrev μ-loop : tie.MeasureT-loop
 μ-loop edition token w₀ i₀ n₀ w i n = length token - i
 
+loop-again : tie.Need-loop-again Inv-loop μ-loop
+loop-again c = search kept-less
+
 pub kept-length-spec : {M : Type 1} → statement M
 kept-length-spec =
     tie.close
     (tie.spec Inv-loop μ-loop
     (λ c. search kept-none)
     (λ c κs. search needs) (λ c. omega arith) (λ c. search needs)
-    (λ c. search kept-less)
+    loop-again
     (λ c. omega arith) (λ c. search needs)
     (λ c. search kept-more)
     (λ c. search kept-all))
