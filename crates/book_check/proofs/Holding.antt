@@ -90,15 +90,16 @@ module _ (c : Counts) (n m l p j : List ℕ) (g : laid c (five n m l p j) ≡ tr
     unfolding kind-good book-of
     more-nodes i = rw (ne-eqb (c .kind) regular h, nodes-count, ne-eqb (c .nodes) 1 i)
 
-    module _ (i : c .nodes ≡ 1) where
-      module _ (k : c .kind ≡ rust) where
-        pub rust-edited : (c .edits ≡ 0 → ⊥) → false ≡ kind-good (book-of c (five n m l p j))
-        unfolding kind-good book-of
-        rust-edited o = rw (ne-eqb (c .kind) regular h, nodes-count, eq-eqb (c .nodes) 1 i, eq-eqb (c .kind) rust k, edits-count, ne-eqb (c .edits) 0 o)
+    pub rust-edited : c .kind ≡ rust → (c .edits ≡ 0 → ⊥) → false ≡ kind-good (book-of c (five n m l p j))
+    unfolding kind-good book-of
+    rust-edited k o =
+        rw (ne-eqb (c .kind) regular h, nodes-count, eq-eqb (c .kind) rust k, edits-count, ne-eqb (c .edits) 0 o, and-false (eqb (c .nodes) 1))
 
-        pub star-decides : c .edits ≡ 0 → (r : Bool) → r ≡ some-star (things line-form (c .lines) l p) → r ≡ kind-good (book-of c (five n m l p j))
-        unfolding kind-good book-of
-        star-decides o r q = rw (ne-eqb (c .kind) regular h, nodes-count, eq-eqb (c .nodes) 1 i, eq-eqb (c .kind) rust k, edits-count, eq-eqb (c .edits) 0 o) q
+    module _ (i : c .nodes ≡ 1) where
+      pub star-decides : c .kind ≡ rust → c .edits ≡ 0 → (r : Bool) → r ≡ some-star (things line-form (c .lines) l p)
+          → r ≡ kind-good (book-of c (five n m l p j))
+      unfolding kind-good book-of
+      star-decides k o r q = rw (ne-eqb (c .kind) regular h, nodes-count, eq-eqb (c .nodes) 1 i, eq-eqb (c .kind) rust k, edits-count, eq-eqb (c .edits) 0 o) q
 
       pub export-decides : (c .kind ≡ rust → ⊥) → eqb (c .kind) export ≡ kind-good (book-of c (five n m l p j))
       unfolding kind-good book-of

@@ -41,7 +41,7 @@ module _ (l : List ℕ) (n : ℕ) where
       pub edit-wrong : (getD l at 0 ≡ 1 → ⊥) → (getD l at 0 ≡ 2 → ⊥) → false ≡ fine edit-form edit-ok 0 n 0 l []
       unfolding edit-form edit-ok
       edit-wrong f g =
-          sym (z .goes ∙ thing-bad edit-form edit-ok 0 n l [] i 0 more room refl (omega arith) (rw (first, ne-eqb (getD l at 0) 1 f, ne-eqb (getD l at 0) 2 g)))
+          sym (z .goes ∙ thing-bad edit-form edit-ok 0 n l [] i 0 more room (rw (first, ne-eqb (getD l at 0) 1 f, ne-eqb (getD l at 0) 2 g)))
 
       -- a row whose edit is as asked
       next : edit-ok (record { what = getD l at 0; line = getD (drop (2 * i) l) 1 0 }) ≡ true → Listed l n (i + 1) (at + 2)

@@ -54,39 +54,37 @@ module _ {frame : Frame} {l ps : List ℕ} {n p : ℕ} where
       start-wrong f =
           sym (z .goes ∙ row-bad line-form (line-ok frame) p n l ps i o more room (ne-eqb _ _ (λ e. f (sym (row-number l i at 2 (z .place)) ∙ e))))
 
-      module _ (s : getD l (at + 2) 0 ≡ o) where
-        -- a row that tells bytes past p
-        pub size-wrong : p - o < getD l (at + 3) 0 → false ≡ fine line-form (line-ok frame) p n 0 l ps
+      -- a row that tells bytes past p
+      pub size-wrong : p - o < getD l (at + 3) 0 → false ≡ fine line-form (line-ok frame) p n 0 l ps
+      unfolding line-form
+      size-wrong h = sym (z .goes ∙ size-bad line-form (line-ok frame) p n l ps i o more room (omega (arith, sized)))
+
+      module _ {r : Bool}
+          (t : r ≡ line-ok frame (line-of (getD l at 0) (getD l (at + 1) 0) (take (o + getD l (at + 3) 0 - o) (drop o ps)))) where
+        -- the line that the row and its bytes are
+        lined : r ≡ line-ok frame (thing-at line-form i o l ps)
         unfolding line-form
-        size-wrong h = sym (z .goes ∙ size-bad line-form (line-ok frame) p n l ps i o more room (started s) (omega (arith, sized)))
+        lined =
+            t ∙ rw (
+              row-first l i at (z .place),
+              row-number l i at 1 (z .place),
+              row-number l i at 3 (z .place),
+              add-sub-cancel-left o (getD l (at + 3) 0),
+            )
 
-        module _ (h : getD l (at + 3) 0 ≤ p - o) {r : Bool}
-            (t : r ≡ line-ok frame (line-of (getD l at 0) (getD l (at + 1) 0) (take (o + getD l (at + 3) 0 - o) (drop o ps)))) where
-          -- the line that the row and its bytes are
-          lined : r ≡ line-ok frame (thing-at line-form i o l ps)
-          unfolding line-form
-          lined =
-              t ∙ rw (
-                row-first l i at (z .place),
-                row-number l i at 1 (z .place),
-                row-number l i at 3 (z .place),
-                add-sub-cancel-left o (getD l (at + 3) 0),
-              )
+        pub line-wrong : not r ≡ true → false ≡ fine line-form (line-ok frame) p n 0 l ps
+        unfolding line-form
+        line-wrong f = sym (z .goes ∙ thing-bad line-form (line-ok frame) p n l ps i o more room (sym lined ∙ not-true r f))
 
-          pub line-wrong : not r ≡ true → false ≡ fine line-form (line-ok frame) p n 0 l ps
-          unfolding line-form
-          line-wrong f =
-              sym (z .goes ∙ thing-bad line-form (line-ok frame) p n l ps i o more room (started s) (omega (arith, sized)) (sym lined ∙ not-true r f))
-
-          pub line-right : not r ≡ false → Lined frame l ps n p (i + 1) (at + 4) (o + getD l (at + 3) 0)
-          unfolding line-form
-          line-right f = record {
-            within = omega arith;
-            place = omega (arith, z .place);
-            upto = omega (arith, z .upto);
-            goes = z .goes ∙ row-more line-form (line-ok frame) p n l ps i o more room (started s) (omega (arith, sized)) (sym lined ∙ not-false r f)
-                ∙ ap (λ (k : ℕ). left line-form (line-ok frame) p n (i + 1) (o + k) l ps) sized;
-          }
+        pub line-right : getD l (at + 2) 0 ≡ o → getD l (at + 3) 0 ≤ p - o → not r ≡ false → Lined frame l ps n p (i + 1) (at + 4) (o + getD l (at + 3) 0)
+        unfolding line-form
+        line-right s h f = record {
+          within = omega arith;
+          place = omega (arith, z .place);
+          upto = omega (arith, z .upto);
+          goes = z .goes ∙ row-more line-form (line-ok frame) p n l ps i o more room (started s) (omega (arith, sized)) (sym lined ∙ not-false r f)
+              ∙ ap (λ (k : ℕ). left line-form (line-ok frame) p n (i + 1) (o + k) l ps) sized;
+        }
 
     module _ (done : n ≤ i) where
       -- bytes that do not end at p
@@ -108,12 +106,12 @@ module _ (frame : Frame) (l ps : List ℕ) (n p : ℕ) where
   unfolding line-form
   lines-short h = packs-no (line-laws frame) (λ t. omega (arith, t .rowroom))
 
-  module _ (h : p ≤ length ps) (z : Bool) (e : z ≡ all-zero (drop p ps)) where
+  module _ (z : Bool) (e : z ≡ all-zero (drop p ps)) where
     pub pool-left : not z ≡ true → false ≡ packs line-form (line-ok frame) n p l ps
-    pool-left f = packs-zero line-form (line-ok frame) n p l ps h e (not-true z f)
+    pool-left f = packs-zero line-form (line-ok frame) n p l ps e (not-true z f)
 
-    pub lines-left : (r : Bool) → not z ≡ false → r ≡ fine line-form (line-ok frame) p n 0 l ps → r ≡ packs line-form (line-ok frame) n p l ps
-    lines-left r f q = packs-rows line-form (line-ok frame) n p l ps h e (not-false z f) q
+    pub lines-left : (r : Bool) → p ≤ length ps → not z ≡ false → r ≡ fine line-form (line-ok frame) p n 0 l ps → r ≡ packs line-form (line-ok frame) n p l ps
+    lines-left r h f q = packs-rows line-form (line-ok frame) n p l ps h e (not-false z f) q
 
 -- ---- things of rows, and what the code in a line's row tells of it
 module _ {X : Type 0} (F : Form X) where

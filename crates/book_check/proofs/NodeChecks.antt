@@ -73,12 +73,12 @@ module _ (n p : ℕ) (l m : List ℕ) where
     pub start-bad : i < n → (getD l at 0 ≡ o → ⊥) → false ≡ fine node-form any-node p n 0 l m
     start-bad h f = sym (z .goes ∙ row-bad node-form any-node p n l m i o h wide (starts-is ∙ ne-eqb _ _ f))
 
+    pub name-past : i < n → p - o < getD l (at + 1) 0 → false ≡ fine node-form any-node p n 0 l m
+    name-past h f = sym (z .goes ∙ size-bad node-form any-node p n l m i o h wide (omega (arith, z .start, size-is)))
+
     module _ (h : i < n) (e : getD l at 0 ≡ o) where
       told : starts-at node-form i o l ≡ true
       told = starts-is ∙ eq-eqb _ _ e
-
-      pub name-past : p - o < getD l (at + 1) 0 → false ≡ fine node-form any-node p n 0 l m
-      name-past f = sym (z .goes ∙ size-bad node-form any-node p n l m i o h wide told (omega (arith, z .start, size-is)))
 
       pub rows-more : getD l (at + 1) 0 ≤ p - o → Rowing n p l m (i + 1) (at + 3) (o + getD l (at + 1) 0)
       rows-more f = record {
@@ -107,8 +107,8 @@ module _ (n p : ℕ) (l m : List ℕ) where
   unfolding node-form
   rows-lack h = packs-no node-laws (λ t. omega (arith, t .rowroom))
 
-  pub rest-bad : (z : Bool) → p ≤ length m → z ≡ all-zero (drop p m) → not z ≡ true → false ≡ packs node-form any-node n p l m
-  rest-bad z h e f = packs-zero node-form any-node n p l m h e (not-true z f)
+  pub rest-bad : (z : Bool) → z ≡ all-zero (drop p m) → not z ≡ true → false ≡ packs node-form any-node n p l m
+  rest-bad z e f = packs-zero node-form any-node n p l m e (not-true z f)
 
   pub rows-decide : (z r : Bool) → p ≤ length m → z ≡ all-zero (drop p m) → not z ≡ false → r ≡ fine node-form any-node p n 0 l m
       → r ≡ packs node-form any-node n p l m
@@ -131,10 +131,10 @@ name-blank [] e = refl
 name-blank (b ∷ t) e = named-blank b (both (named b) (every named t) e .0)
 
 -- whether it begins with what a skip takes, by its first byte b
-module _ (t : List ℕ) (n : every named t ≡ true) (b : ℕ) (e : b ≡ getD t 0 0) where
-  pub first-return : b ≡ carriage-return → true ≡ skips t 0
-  first-return k = rw (name-blank t n, ← e, eq-eqb b carriage-return k)
+pub first-blank : (t : List ℕ) (b : ℕ) → b ≡ getD t 0 0 → (k : ℕ) → b ≡ k → blank k ≡ true → true ≡ skips t 0
+first-blank t b e k h f = rw (← e, h, f)
 
+module _ (t : List ℕ) (n : every named t ≡ true) (b : ℕ) (e : b ≡ getD t 0 0) where
   pub first-hash : b ≡ hash → true ≡ skips t 0
   first-hash h = rw (name-blank t n, ← e, h)
 
@@ -154,6 +154,10 @@ module _ (t : List ℕ) where
   unfolding name-good
   name-long k = simp (lt-ltb script-limit (length (name-script t)) (omega (arith, name-length t)), and-false)
 
+  pub name-bad : (r : Bool) → r ≡ every named t → not r ≡ true → false ≡ name-good t
+  unfolding name-good
+  name-bad r e f = simp (sym e ∙ not-true r f, and-false)
+
   module _ (h : length t ≡ 0 → ⊥) where
     name-some : name-good t ≡ (not (over script-limit (name-script t)) && (every named t && not (skips t 0)))
     unfolding name-good
@@ -162,9 +166,6 @@ module _ (t : List ℕ) where
     module _ (k : length t ≤ script-limit - 3) where
       name-parts : name-good t ≡ (every named t && not (skips t 0))
       name-parts = passes-on name-some (ap not (le-ltb script-limit (length (name-script t)) (omega (arith, name-length t))))
-
-      pub name-bad : (r : Bool) → r ≡ every named t → not r ≡ true → false ≡ name-good t
-      name-bad r e f = sym (first-fails _ name-parts (sym e ∙ not-true r f))
 
       pub name-ends : (r q : Bool) → r ≡ every named t → not r ≡ false → q ≡ skips t 0 → not q ≡ name-good t
       name-ends r q e f g = ap not g ∙ sym (passes-on name-parts (sym e ∙ not-false r f))

@@ -24,14 +24,14 @@ module _ (d : List ℕ) (from to n : ℕ) where
       let t : take n (take n (drop from d)) ≡ take n (drop from d) = take-take n n (drop from d) (omega arith) in
       sym (rw (e, t, append-assoc, ← drop-drop n from d, take-append-drop, take-append-drop))
 
-  module _ (down : to ≤ from) (room : from + n ≤ length d) where
+  module _ (room : from + n ≤ length d) where
     long : length (take n (drop from d)) ≡ n
     long = length-take-le n (drop from d) (omega (arith, length-drop from d))
 
     module _ {l : List ℕ} {i : ℕ} (z : Moved l i) where
       -- the byte that is read is still as it was, and one more is moved
-      pub move-more : i < n → Moved (set l (to + i) (getD l (from + i) 0)) (i + 1)
-      move-more h =
+      pub move-more : to ≤ from → i < n → Moved (set l (to + i) (getD l (from + i) 0)) (i + 1)
+      move-more down h =
           let s : List ℕ = take n (drop from d) in
           let a : drop (from + i) l ≡ drop (from + i) d
           = ap (drop (from + i)) (z .list) ∙ paste-behind d s to i (from + i) (omega arith) (omega arith) (z .within) in

@@ -204,6 +204,8 @@ pub record Edits-left : Type 0 where
   pub refused : edits-left 0 (history full (add-h ∷ strikes 0 ∷ strikes 0 ∷ [])) ≡ 1
   pub lines : edits-left 0 (history many-more (symbols-ab ∷ symbols-bad ∷ [])) ≡ 2
   pub back : run many-more (symbols-ab ∷ symbols-bad ∷ undos 2) ≡ many-more
+  pub one-call : edits-left 0 (history many-more (symbols-ab ∷ [])) ≡ 2
+  pub one-call-back : run many-more (symbols-ab ∷ undos 2) ≡ many-more
 
 -- the lines of a text, which have room in the one book, behind its line, and in the other not
 abbrev pub exact-line : String → Line

@@ -2,7 +2,7 @@
 use Prim.Native.Nat.{ℕ, _+_, _*_, _≤_, _<_}
 use mathlib.Core.Path.{_≡_, refl, sym, ap, _∙_}
 use mathlib.Core.List.{List}
-use mathlib.Core.Bool.{Bool, true, false, _&&_, _||_}
+use mathlib.Core.Bool.{Bool, true, false, _&&_, _||_, and-false}
 use native.Mathlib.Numerals.{add-one}
 use native.Mathlib.Omega.{arith}
 use borrow.Author.Tests.{eq-eqb, ne-eqb}
@@ -54,17 +54,17 @@ module _ {n : ℕ} {l m t : List ℕ} where
         pub listing-local : (section ≡ global → ⊥) → Listing n l m t (i + 1)
         listing-local y = record { frame = z .frame; end = z .end; walk = walk-on (z .walk) h; goes = z .goes ∙ next ∙ rw (ne-eqb _ _ (λ k. y (section-is ∙ k))) }
 
-        module _ (y : section ≡ global) {bs : List ℕ} (b : bs ≡ bytes-of-line l m i) {r : Bool} (e : r ≡ same bs t) where
+        module _ {bs : List ℕ} (b : bs ≡ bytes-of-line l m i) {r : Bool} (e : r ≡ same bs t) where
           asked : r ≡ same (line-at (things line-form n l m) i .bytes) t
           asked = e ∙ ap (λ (u : List ℕ). same u t) (b ∙ walk-row (z .walk) h .bytes)
 
           -- it is the name's
-          pub listing-found : r ≡ true → true ≡ listed (things line-form n l m) t
-          listing-found k = sym (z .goes ∙ next ∙ rw (eq-eqb _ _ (sym section-is ∙ y), ← asked, k))
+          pub listing-found : section ≡ global → r ≡ true → true ≡ listed (things line-form n l m) t
+          listing-found y k = sym (z .goes ∙ next ∙ rw (eq-eqb _ _ (sym section-is ∙ y), ← asked, k))
 
           -- it is another's
           pub listing-other : r ≡ false → Listing n l m t (i + 1)
-          listing-other k = record { frame = z .frame; end = z .end; walk = walk-on (z .walk) h; goes = z .goes ∙ next ∙ rw (eq-eqb _ _ (sym section-is ∙ y), ← asked, k) }
+          listing-other k = record { frame = z .frame; end = z .end; walk = walk-on (z .walk) h; goes = z .goes ∙ next ∙ simp (← asked, k, and-false) }
 
     -- none is
     pub listing-none : n ≤ i → false ≡ listed (things line-form n l m) t

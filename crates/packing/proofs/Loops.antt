@@ -1,7 +1,7 @@
 -- The loops of src/lib.rt, on lists of numbers: what a buffer holds after each store, and what is left to compare. The premises are what the code has
 -- learned. Assumes nothing.
 use Prim.Native.Nat.{ℕ, suc, _+_, _-_, _<_, _≤_}
-use mathlib.Core.Path.{_≡_, sym, ap, ap₂, _∙_}
+use mathlib.Core.Path.{_≡_, refl, sym, ap, ap₂, _∙_}
 use mathlib.Core.Bool.{true, false}
 use mathlib.Core.List.{List, _∷_, append-nil}
 use native.Mathlib.Nat.{zero-add}
@@ -42,21 +42,28 @@ module _ {d l : List ℕ} {i : ℕ} (z : Cleared d l i) where
       ∙ rw (n, zero-add, drop-length, append-nil) (take-all (length d) (zeros (length d)) (omega arith))
 
 -- ---- whether the rest is zero: what is left from i on decides
-module _ (s : List ℕ) (from i : ℕ) (z : all-zero (drop from s) ≡ all-zero (drop i s)) where
+pub record Decides (s : List ℕ) (from i : ℕ) : Type 0 where
+  pub rest : all-zero (drop from s) ≡ all-zero (drop i s)
+
+-- at first all is left
+pub zero-starts : {s : List ℕ} {from : ℕ} → Decides s from from
+zero-starts = record { rest = refl }
+
+module _ {s : List ℕ} {from i : ℕ} (z : Decides s from i) where
   -- a number that is not zero answers no
   pub zero-stops : i < length s → (getD s i 0 ≡ 0 → ⊥) → false ≡ all-zero (drop from s)
   unfolding all-zero every
-  zero-stops h f = sym (z ∙ rw (drop-cons s i 0 h, ne-eqb (getD s i 0) 0 f))
+  zero-stops h f = sym (z .rest ∙ rw (drop-cons s i 0 h, ne-eqb (getD s i 0) 0 f))
 
   -- behind a zero the rest decides
-  pub zero-more : i < length s → getD s i 0 ≡ 0 → all-zero (drop from s) ≡ all-zero (drop (i + 1) s)
+  pub zero-more : i < length s → getD s i 0 ≡ 0 → Decides s from (i + 1)
   unfolding all-zero every
-  zero-more h e = z ∙ rw (add-one, drop-cons s i 0 h, e)
+  zero-more h e = record { rest = z .rest ∙ rw (add-one, drop-cons s i 0 h, e) }
 
   -- at the end the answer is yes
   pub zero-ends : length s ≤ i → true ≡ all-zero (drop from s)
   unfolding all-zero every
-  zero-ends h = sym (z ∙ rw (drop-of-length-le s h))
+  zero-ends h = sym (z .rest ∙ rw (drop-of-length-le s h))
 
 -- ---- whether two lists are the same: lists of one length that are equal from i on
 -- lists of two lengths are not the same

@@ -2,7 +2,7 @@
 -- the code has learned. Assumes nothing.
 use Prim.Native.Nat.{ℕ, suc, _+_, _-_, _*_, _≤_, _<_}
 use mathlib.Core.Path.{_≡_, sym, _∙_}
-use mathlib.Core.Bool.{Bool, true, false, _&&_}
+use mathlib.Core.Bool.{Bool, true, false, _&&_, and-false}
 use mathlib.Core.List.{List}
 use native.Mathlib.Nat.{mul-suc, sub-zero, mul-zero, mul-le-mul-left}
 use native.Mathlib.Numerals.{add-one}
@@ -60,16 +60,16 @@ module _ {X : Type 0} (F : Form X) (ok : X → Bool) (p n : ℕ) (l ps : List �
     sized s = passes-on turn s
 
     -- a row that tells bytes past p
-    pub size-bad : starts-at F i o l ≡ true → p < o + size-at F i l → left F ok p n i o l ps ≡ false
-    size-bad s h = first-fails _ (sized s) (lt-leb _ _ h)
+    pub size-bad : p < o + size-at F i l → left F ok p n i o l ps ≡ false
+    size-bad h = turn ∙ simp (lt-leb (o + size-at F i l) p h, and-false)
 
     asked : starts-at F i o l ≡ true → o + size-at F i l ≤ p
         → left F ok p n i o l ps ≡ (ok (thing-at F i o l ps) && left F ok p n (i + 1) (o + size-at F i l) l ps)
     asked s h = passes-on (sized s) (le-leb _ _ h)
 
     -- a thing that is not as asked
-    pub thing-bad : starts-at F i o l ≡ true → o + size-at F i l ≤ p → ok (thing-at F i o l ps) ≡ false → left F ok p n i o l ps ≡ false
-    thing-bad s h f = first-fails _ (asked s h) f
+    pub thing-bad : ok (thing-at F i o l ps) ≡ false → left F ok p n i o l ps ≡ false
+    thing-bad f = turn ∙ simp (f, and-false)
 
     -- a good row: the rows behind it decide
     pub row-more : starts-at F i o l ≡ true → o + size-at F i l ≤ p → ok (thing-at F i o l ps) ≡ true
@@ -101,8 +101,9 @@ module _ {X : Type 0} (F : Form X) (ok : X → Bool) (n k : ℕ) (l p : List ℕ
   rest h = simp (le-leb k (length p) h)
 
   -- the rest of the bytes' buffer is not zero
-  pub packs-zero : {z : Bool} → k ≤ length p → z ≡ all-zero (drop k p) → z ≡ false → false ≡ packs F ok n k l p
-  packs-zero h e f = sym (first-fails _ (rest h) (sym e ∙ f))
+  pub packs-zero : {z : Bool} → z ≡ all-zero (drop k p) → z ≡ false → false ≡ packs F ok n k l p
+  unfolding packs
+  packs-zero e f = simp (sym e ∙ f, and-false)
 
   -- it is zero, and the rows decide
   pub packs-rows : {z r : Bool} → k ≤ length p → z ≡ all-zero (drop k p) → z ≡ true → r ≡ fine F ok k n 0 l p → r ≡ packs F ok n k l p

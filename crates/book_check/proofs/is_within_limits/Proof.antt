@@ -27,10 +27,10 @@ is-within-limits-spec =
     tie.close
     (tie.spec
     (λ c. search needs)
-    (λ c. search nodes-over)
+    (λ c. nodes-over _ (omega (arith, c .if1 .taken)))
     (λ c. search needs)
-    (λ c. search lines-over)
+    (λ c. lines-over _ (omega (arith, c .if2 .taken)))
     (λ c. search needs)
-    (λ c. search pool-over)
+    (λ c. pool-over _ (omega (arith, c .if3 .taken)))
     (λ c. search needs)
     returns-4)

@@ -13,6 +13,9 @@ Inv-loop bytes₀ i₀ bytes i = Cleared bytes₀ bytes i
 abbrev μ-loop : tie.MeasureT-loop
 μ-loop bytes₀ i₀ bytes i = length bytes - i
 
+loop-again : tie.Need-loop-again Inv-loop μ-loop
+loop-again c = clear-more (c .before .loop .inv) (c .loop-test .taken)
+
 pub clear-bytes-spec : {M : Type 1} → statement M
 clear-bytes-spec =
     tie.close
@@ -22,6 +25,6 @@ clear-bytes-spec =
     (λ c. search clear-starts)
     (λ c. search needs) (λ c. search needs)
     (λ c. simp length-set (omega arith))
-    (λ c. search clear-more)
+    loop-again
     (λ c. search needs)
     (λ c. search clear-ends))

@@ -13,6 +13,12 @@ Inv-loop rows₀ i₀ rows i = Cleared rows₀ rows i
 abbrev μ-loop : tie.MeasureT-loop
 μ-loop rows₀ i₀ rows i = length rows - i
 
+loop-again : tie.Need-loop-again Inv-loop μ-loop
+loop-again c = clear-more (c .before .loop .inv) (c .loop-test .taken)
+
+returns : tie.Need-returns Inv-loop μ-loop
+returns c = clear-ends (c .before .loop .inv) (c .loop-test .left)
+
 pub clear-numbers-spec : {M : Type 1} → statement M
 clear-numbers-spec =
     tie.close
@@ -22,6 +28,6 @@ clear-numbers-spec =
     (λ c. search clear-starts)
     (λ c. search needs) (λ c. search needs) (λ c. search needs)
     (λ c. simp length-set (omega arith))
-    (λ c. search clear-more)
+    loop-again
     (λ c. search needs)
-    (λ c. search clear-ends))
+    returns)

@@ -1,18 +1,23 @@
 -- `zero_numbers` meets its contract. The loop's invariant: what is left from i on decides. Assumes nothing.
 use Prim.Native.Nat.{_-_}
-use mathlib.Core.Path.{_≡_, refl}
+use native.Mathlib.Omega.{arith}
 use borrow.Author.Needs.{needs}
-use lib.ListN.{length, drop}
-use Rattle.packing.specs.Padding.{all-zero}
-use Rattle.packing.proofs.Loops.{zero-stops, zero-more, zero-ends}
+use lib.ListN.{length}
+use Rattle.packing.proofs.Loops.{Decides, zero-starts, zero-stops, zero-more, zero-ends}
 use Rattle.packing.proofs.zero_numbers.Statement.{statement}
 use Rattle.packing.proofs.zero_numbers.Tie as tie
 
 abbrev Inv-loop : tie.InvT-loop
-Inv-loop rows from i₀ i = all-zero (drop from rows) ≡ all-zero (drop i rows)
+Inv-loop rows from i₀ i = Decides rows from i
 
 abbrev μ-loop : tie.MeasureT-loop
 μ-loop rows from i₀ i = length rows - i
+
+loop-again : tie.Need-loop-again Inv-loop μ-loop
+loop-again c = zero-more (c .before .before .before .loop .inv) (omega arith) (omega (arith, c .if1 .left))
+
+returns-2 : tie.Need-returns-2 Inv-loop μ-loop
+returns-2 c = zero-ends (c .before .loop .inv) (c .loop-test .left)
 
 pub zero-numbers-spec : {M : Type 1} → statement M
 zero-numbers-spec =
@@ -20,8 +25,8 @@ zero-numbers-spec =
     (tie.spec
     Inv-loop
     μ-loop
-    (λ c. refl) (λ c. search needs) (λ c. search needs)
-    (λ c. search zero-stops)
+    (λ c. zero-starts) (λ c. search needs) (λ c. search needs)
+    (λ c. zero-stops (c .before .before .before .loop .inv) (omega arith) (λ e. omega (arith, c .if1 .taken)))
     (λ c. search needs) (λ c. search needs)
-    (λ c. search zero-more)
-    (λ c. search zero-ends))
+    loop-again
+    returns-2)

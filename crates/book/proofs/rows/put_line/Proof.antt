@@ -6,6 +6,9 @@ use Rattle.book.proofs.LineRows.{row-stored}
 use Rattle.book.proofs.rows.put_line.Statement.{statement}
 use Rattle.book.proofs.rows.put_line.Tie as tie
 
+returns : tie.Need-returns
+returns c = search row-stored
+
 pub put-line-spec : {M : Type 1} → statement M
 put-line-spec =
     tie.close
@@ -17,4 +20,4 @@ put-line-spec =
     (λ c. search needs) (λ c. search needs)
     (λ c. simp length-set (omega arith))
     (λ c. search needs)
-    (λ c. search row-stored))
+    returns)

@@ -49,7 +49,9 @@ journal-fits-with-spec =
     (λ c. search needs)
     (λ c. search edit-out)
     (λ c κs. search needs) (λ c. search needs) (λ c. search needs)
-    (λ c. search add-early)
+    (λ c. let w = c .before .before .before .before .before .before .before in
+    add-early (w .before .loop .inv .1) (w .loop-test .taken) (c .before .before .before .before .if1 .left) (c .before .if2 .taken)
+    (λ e. omega (arith, c .if3 .taken)))
     (λ c. search needs)
     (λ c. search add-struck)
     (λ c. search needs)

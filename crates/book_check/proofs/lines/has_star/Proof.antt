@@ -11,8 +11,15 @@ Inv-loop lines pool n i₀ at₀ i at = Starring lines pool n i at
 abbrev μ-loop : tie.MeasureT-loop
 μ-loop lines pool n i₀ at₀ i at = n - i
 
+returns : tie.Need-returns Inv-loop μ-loop
+returns c =
+    let w = c .before .before .before in
+    star-found (w .before .loop .inv) (w .loop-test .taken) (c .before .is-bare-star .ensures) (c .if1 .taken)
+
 loop-again : tie.Need-loop-again Inv-loop μ-loop
-loop-again c = search star-next
+loop-again c =
+    let w = c .before .before .before in
+    star-next (w .before .loop .inv) (w .loop-test .taken) (c .before .is-bare-star .ensures) (c .if1 .left)
 
 pub has-star-spec : {M : Type 1} → statement M
 has-star-spec =
@@ -22,7 +29,7 @@ has-star-spec =
     μ-loop
     (λ c. search stars-start)
     (λ c. search needs) (λ c. search needs) (λ c. search needs) (λ c κs. search needs)
-    (λ c. search star-found)
+    returns
     (λ c. search needs) (λ c. search needs) (λ c. search needs)
     loop-again
     (λ c. search star-none))

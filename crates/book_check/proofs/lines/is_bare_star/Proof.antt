@@ -26,8 +26,9 @@ is-bare-star-spec =
     tie.close
     (tie.spec
     (λ c κs. search needs)
-    (λ c. search star-no-all)
+    (λ c. star-no-all _ _ (c .before .class-of .ensures) (λ e. omega (arith, c .if1 .taken)))
     (λ c κs. search needs)
-    (λ c. search star-global)
+    (λ c. let d = c .before .before in
+    star-global _ _ (d .before .class-of .ensures) (at-all d) _ (c .before .section-of .ensures) (λ e. omega (arith, c .if2 .taken)))
     (λ c κs. search needs)
     returns-3)

@@ -42,10 +42,10 @@ pub is-in-range-spec : {M : Type 1} → statement M
 is-in-range-spec =
     tie.close
     (tie.spec
-    (λ c. search range-node)
-    (λ c. search range-mark)
-    (λ c. search range-size)
+    (λ c. range-node _ _ _ _ (omega (arith, c .if1 .taken)))
+    (λ c. range-mark _ _ _ _ (omega (arith, c .if2 .taken)))
+    (λ c. range-size _ _ _ _ (omega (arith, c .if3 .taken)))
     (λ c κs. search needs)
     returns-4
     returns-5
-    (λ c. search range-class))
+    (λ c. range-class _ _ _ _ _ (c .before .before .class-of .ensures) (omega (arith, c .before .if4 .left)) (λ e. omega (arith, c .if5 .left))))

@@ -1,4 +1,5 @@
 -- `kind_allows` meets its contract. Assumes nothing.
+use native.Mathlib.Omega.{arith}
 use borrow.Author.Needs.{needs}
 use Rattle.book_check.proofs.LineChecks.{allows-local, allows-no-glob, allows-general, allows-global, allows-any}
 use Rattle.book_check.proofs.lines.kind_allows.Statement.{statement}
@@ -17,7 +18,9 @@ kind-allows-spec =
     (λ c κs. search needs)
     (λ c. search allows-local)
     (λ c κs. search needs)
-    (λ c. search allows-no-glob)
+    (λ c. let d = c .before .before in
+    allows-no-glob _ _ _ (d .before .before .section-of .ensures) (d .before .if1 .taken) (d .if2 .left) _ (c .before .class-of .ensures)
+    (λ e. omega (arith, c .if3 .taken)))
     (λ c κs. search needs)
     returns-3
     returns-4

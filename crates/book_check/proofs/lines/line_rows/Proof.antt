@@ -20,12 +20,15 @@ returns-2 c = search size-wrong
 
 loop-again : tie.Need-loop-again Inv-loop μ-loop
 loop-again c =
-    let w = c .before .before .before .before .before .before .before .before .before in
-    line-right (w .before .loop .inv) (w .before .before .before .before .pre .0) (w .loop-test .taken) (c .before .before .before .before .before .before .before .if1 .left)
-    (c .before .before .before .before .before .if2 .left) (c .before .line-good .ensures) (c .if3 .left)
+    let d = c .before .before .before .before .before in
+    let w = d .before .before .before .before in
+    line-right (w .before .loop .inv) (w .before .before .before .before .pre .0) (w .loop-test .taken) (c .before .line-good .ensures)
+    (omega (arith, d .before .before .if1 .left)) (omega (arith, d .if2 .left)) (c .if3 .left)
 
 returns-5 : tie.Need-returns-5 Inv-loop μ-loop
-returns-5 c = search lines-end
+returns-5 c =
+    let w = c .before .before in
+    lines-end (w .before .loop .inv) (w .loop-test .left) (omega (arith, c .before .if4 .left)) (c .zero-numbers .ensures)
 
 pub line-rows-spec : {M : Type 1} → statement M
 line-rows-spec =
@@ -36,7 +39,7 @@ line-rows-spec =
     (λ c. search lines-start)
     (λ c. search needs) (λ c. search needs) (λ c. search needs)
     (λ c. omega (arith, c .shared-slice-known3 .given (c .before .before .loop .at + 2)))
-    (λ c. search start-wrong)
+    (λ c. start-wrong (c .before .before .before .loop .inv) (omega arith) (omega arith) (λ e. omega (arith, c .if1 .taken)))
     (λ c. search needs) (λ c. search needs) (λ c. search needs)
     cast-size
     (λ c. search needs)
@@ -46,6 +49,6 @@ line-rows-spec =
     (λ c. search line-wrong)
     (λ c. search needs) (λ c. search needs) (λ c. search needs)
     loop-again
-    (λ c. search end-wrong)
+    (λ c. end-wrong (c .before .before .loop .inv) (omega arith) (λ e. omega (arith, c .if4 .taken)))
     (λ c κs. search needs)
     returns-5)

@@ -16,9 +16,6 @@ Inv-loop name i₀ i = every named name ≡ every named (drop i name)
 abbrev μ-loop : tie.MeasureT-loop
 μ-loop name i₀ i = length name - i
 
-returns : tie.Need-returns Inv-loop μ-loop
-returns c = every-stops named _ _ (c .before .before .before .before .loop .inv) (c .before .before .before .loop-test .taken) (sym (c .before .is-named .ensures) ∙ not-true _ (c .if1 .taken))
-
 loop-again : tie.Need-loop-again Inv-loop μ-loop
 loop-again c = every-more named _ _ (c .before .before .before .before .loop .inv) (c .before .before .before .loop-test .taken) (sym (c .before .is-named .ensures) ∙ not-false _ (c .if1 .left))
 
@@ -29,7 +26,8 @@ all-named-spec =
     Inv-loop
     μ-loop
     (λ c. refl) (λ c. search needs) (λ c κs. search needs)
-    returns
+    (λ c. every-stops named _ _ (c .before .before .before .before .loop .inv) (c .before .before .before .loop-test .taken)
+    (sym (c .before .is-named .ensures) ∙ not-true _ (c .if1 .taken)))
     (λ c. search needs) (λ c. search needs)
     loop-again
     (λ c. every-ends named _ _ (c .before .loop .inv) (c .loop-test .left)))

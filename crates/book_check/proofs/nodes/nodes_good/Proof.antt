@@ -41,7 +41,7 @@ loop-holds : tie.Need-loop-holds Inv-loop μ-loop
 loop-holds c =
     let d = c .before .before in
     let e = d .before .before in
-    nodes-start _ _ _ _ (e .before .before .before .pre) (e .if1 .left) (unnamed d) (parentless c)
+    nodes-start _ _ _ _ (e .before .before .before .pre) (λ q. omega (arith, e .if1 .left)) (unnamed d) (parentless c)
 
 loop-again : tie.Need-loop-again Inv-loop μ-loop
 loop-again c =

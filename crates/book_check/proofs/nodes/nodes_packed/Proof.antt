@@ -10,19 +10,16 @@ returns c = search names-lack
 returns-2 : tie.Need-returns-2
 returns-2 c = search rows-lack
 
-zero-bytes-requires : tie.Need-zero-bytes-requires
-zero-bytes-requires c κs = search needs
-
-returns-3 : tie.Need-returns-3
-returns-3 c = search rest-bad
-
-node-rows-requires : tie.Need-node-rows-requires
-node-rows-requires c κs = search needs
-
 returns-4 : tie.Need-returns-4
 returns-4 c = search rows-decide
 
 pub nodes-packed-spec : {M : Type 1} → statement M
 nodes-packed-spec =
     tie.close
-    (tie.spec returns returns-2 zero-bytes-requires returns-3 node-rows-requires returns-4)
+    (tie.spec
+    returns
+    returns-2
+    (λ c κs. search needs)
+    (λ c. search rest-bad)
+    (λ c κs. search needs)
+    returns-4)
