@@ -79,6 +79,11 @@ unfolding number-of
 number-none p [] h = refl
 number-none p (d ∷ ds) h = absurd (omega arith)
 
+number-large : (p : ℕ) (ds : List ℕ) → number-limit ≤ worth 0 ds → number-of p ds ≡ Nothing
+unfolding number-of
+number-large p [] h = refl
+number-large p (d ∷ ds) h = rw (le-ltb (worth 0 (d ∷ ds)) number-limit h)
+
 module _ {s : List ℕ} {at i n : ℕ} (inv : Read s at i n) where
   -- one digit more
   module _ (h : i < length s) {v : Bool} (e : v ≡ digit (getD s i 0)) (t : v ≡ true) where
@@ -114,17 +119,13 @@ module _ {s : List ℕ} {at i n : ℕ} (inv : Read s at i n) where
     unfolding number-at
     whole = rw (inv .all, e, append-nil)
 
-    pub read-none : i ≡ at → Nothing ≡ number-at s at
+    pub read-none : i ≤ at → Nothing ≡ number-at s at
     read-none h = sym (whole ∙ number-none at (inv .so-far) (omega (arith, inv .place)))
 
-    module _ (h : i ≡ at → ⊥) where
-      some : number-at s at ≡ cond (ltb (worth 0 (inv .so-far)) number-limit) (Number (worth 0 (inv .so-far)) (at + length (inv .so-far))) Nothing
-      some = whole ∙ number-some at (inv .so-far) (omega (arith, inv .place))
+    pub read-large : number-limit ≤ n → Nothing ≡ number-at s at
+    read-large k = sym (whole ∙ number-large at (inv .so-far) (inv .over k))
 
-      pub read-large : number-limit ≤ n → Nothing ≡ number-at s at
-      read-large k = sym (some ∙ rw (le-ltb (worth 0 (inv .so-far)) number-limit (inv .over k)))
-
-      pub read-number : n < number-limit → Number n i ≡ number-at s at
-      read-number k =
-          let z = inv .below k in
-          sym (some ∙ rw (← z, ← inv .place, lt-ltb n number-limit k))
+    pub read-number : at < i → n < number-limit → Number n i ≡ number-at s at
+    read-number h k =
+        let z = inv .below k in
+        sym (whole ∙ number-some at (inv .so-far) (omega (arith, inv .place)) ∙ rw (← z, ← inv .place, lt-ltb n number-limit k))

@@ -8,7 +8,7 @@ returns : tie.Need-returns
 returns c = search other-counts
 
 returns-2 : tie.Need-returns-2
-returns-2 c = search six-counts
+returns-2 c = let e = c .before .before .before .before .before .before in six-counts (e .before .args .counts .now) (e .if1 .left)
 
 pub counts-of-spec : {M : Type 1} → statement M
 counts-of-spec =

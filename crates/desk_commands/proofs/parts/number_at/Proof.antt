@@ -1,9 +1,13 @@
 -- `number_at` meets its contract. The loop's invariant: the digits so far are behind i. Assumes nothing.
 use Prim.Native.Nat.{_-_}
+use mathlib.Core.Path.{_≡_}
+use mathlib.Core.List.{[]}
 use mathlib.Core.Logic.{⊎-elim}
+use native.Mathlib.Omega.{arith}
 use borrow.Author.Needs.{needs}
 use borrow.Author.Tests.{not-false, not-true}
-use lib.ListN.{length}
+use lib.ListN.{length, drop}
+use Rattle.desk_commands.specs.Parts.{digits}
 use Rattle.desk_commands.proofs.Numbers.{Read, digit-low, digits-end, digits-past, read-large, read-more, read-none, read-number, read-over, read-starts, sum-fits, value-fits}
 use Rattle.desk_commands.proofs.parts.number_at.Statement.{statement}
 use Rattle.desk_commands.proofs.parts.number_at.Tie as tie
@@ -14,14 +18,20 @@ Inv-loop line at i₀ n₀ i n = Read line at i n
 abbrev μ-loop : tie.MeasureT-loop
 μ-loop line at i₀ n₀ i n = length line - i
 
+-- no digit is left
+ended : (c : tie.Left-loop Inv-loop μ-loop) → digits (drop (c .before .loop .i) (c .before .before .before .args .line .now)) ≡ []
+ended c = ⊎-elim (λ w. search digits-past) (λ w. search (digits-end, not-true)) (c .loop-test .came)
+
 returns : tie.Need-returns Inv-loop μ-loop
-returns c = ⊎-elim (λ w. search (read-none, digits-past)) (λ w. search (read-none, digits-end, not-true)) (c .before .loop-test .came)
+returns c = read-none (c .before .before .loop .inv) (ended (c .before)) (omega (arith, c .if3 .taken))
 
 returns-2 : tie.Need-returns-2 Inv-loop μ-loop
-returns-2 c = ⊎-elim (λ w. search (read-large, digits-past)) (λ w. search (read-large, digits-end, not-true)) (c .before .before .loop-test .came)
+returns-2 c = read-large (c .before .before .before .loop .inv) (ended (c .before .before)) (omega (arith, c .if4 .taken))
 
 returns-3 : tie.Need-returns-3 Inv-loop μ-loop
-returns-3 c = ⊎-elim (λ w. search (read-number, digits-past)) (λ w. search (read-number, digits-end, not-true)) (c .before .before .loop-test .came)
+returns-3 c =
+    let inv = c .before .before .before .loop .inv in
+    read-number inv (ended (c .before .before)) (omega (arith, c .before .if3 .left, inv .place)) (omega (arith, c .if4 .left))
 
 pub number-at-spec : {M : Type 1} → statement M
 number-at-spec =

@@ -16,9 +16,6 @@ start c = c .before .before .before .before .before .before .before .before .bef
 lies : (c : tie.After-known-told) → Line-lies (start c .args .lines .now) (start c .args .pool .now) (c .before .i .given .0 .0)
 lies c = search decider-lies
 
-node-version-requires : tie.Need-node-version-requires
-node-version-requires c κs = search decider-node
-
 returns : tie.Need-returns
 returns c = search unversioned
 
@@ -35,6 +32,6 @@ decided-version-spec =
     (λ c. let r = lies c in omega arith)
     (λ c. let r = lies c in omega arith)
     (λ c. let r = lies (c .before) in omega arith)
-    node-version-requires
+    (λ c κs. search decider-node)
     returns
     returns-2)

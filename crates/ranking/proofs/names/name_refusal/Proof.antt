@@ -35,13 +35,6 @@ returns-4 c =
     let d = c .before .before in
     raw-bad _ _ _ (raw-short (d .before .before)) (demangled-short (d .before)) (d .if3 .left) _ (c .before .is-utf8 .ensures) (c .if4 .taken)
 
-returns-5 : tie.Need-returns-5
-returns-5 c =
-    let e = c .before .before in
-    let d = e .before .before in
-    demangled-bad _ _ _ (raw-short (d .before .before)) (demangled-short (d .before)) (d .if3 .left) _ (e .before .is-utf8 .ensures) (e .if4 .left)
-    _ (c .before .is-utf82 .ensures) (c .if5 .taken)
-
 returns-6 : tie.Need-returns-6
 returns-6 c =
     let e = c .before .before in
@@ -59,5 +52,5 @@ name-refusal-spec =
     (λ c κs. search needs)
     returns-4
     (λ c κs. search needs)
-    returns-5
+    (λ c. search demangled-bad)
     returns-6)
