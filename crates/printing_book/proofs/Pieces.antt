@@ -123,3 +123,6 @@ module _ {d l : List ℕ} {e : ℕ} (c : Counts) (room : 128 ≤ length d) (p : 
         ∙ six (to-kind c) (spaced (space ∷ nodes-word) (c .nodes)) (spaced (space ∷ names-word) (c .names)) (spaced (space ∷ lines-word) (c .lines))
         (spaced (space ∷ pool-word) (c .pool)) (spaced (space ∷ edits-word) (c .edits) ++ line-end) in
         begins d (counts-shown c) (subst (λ (m : List ℕ). Puts d 0 m l′ r) z (all-placed .put))
+
+    pub counts-long : length l′ ≡ length d
+    counts-long = all-placed .long

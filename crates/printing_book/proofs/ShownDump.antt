@@ -123,3 +123,6 @@ module _ {c : Counts} {b : Buffers} {d : List ℕ} (k : Ready c b d) where
             ∙ ap (λ (t : List ℕ). x ++ (y ++ t))
             (append-assoc (buffer-shown lines-word (take (4 * c .lines) (b .lines))) (buffer-shown pool-word (take (c .pool) (b .pool))) journal-line) in
             begins d (dump-shown c b) (subst (λ (t : List ℕ). Puts d 0 t d₃ r) z (dump-placed .put))
+
+        pub dump-long : length d₃ ≡ length d
+        dump-long = dump-placed .long

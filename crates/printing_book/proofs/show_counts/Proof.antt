@@ -7,7 +7,7 @@ use lib.ListN.{length}
 use Rattle.numbers.specs.Signs.{space}
 use Rattle.book.specs.declared.Counts.{Counts}
 use Rattle.printing_book.specs.Shown.{shown-room}
-use Rattle.printing_book.proofs.Pieces.{Placed, counts-put, edits-word, end-room, kind-word, lines-word, names-word, nodes-word, pool-word, room-behind, room-of, spaced-behind, spaced-placed, to-edits, to-kind, to-lines, to-names, to-nodes, to-pool}
+use Rattle.printing_book.proofs.Pieces.{Placed, counts-long, counts-put, edits-word, end-room, kind-word, lines-word, names-word, nodes-word, pool-word, room-behind, room-of, spaced-behind, spaced-placed, to-edits, to-kind, to-lines, to-names, to-nodes, to-pool}
 use Rattle.printing_book.proofs.show_counts.Statement.{statement}
 use Rattle.printing_book.proofs.show_counts.Tie as tie
 
@@ -105,11 +105,6 @@ put-text-requires c κs =
     let p = c .before .before .before .before in
     end-room (start6 p .args .c) (ample (start6 p)) (edits p)
 
-same-length : tie.Need-same-length
-same-length c =
-    let long = edits (c .before .before .before .before .before .before .before) .long in
-    search needs
-
 returns : tie.Need-returns
 returns c =
     let q = c .before .before in
@@ -134,5 +129,8 @@ show-counts-spec =
     put-spaced-requires-6
     (λ c. search needs)
     put-text-requires
-    same-length
+    (λ c.
+    let q = c .before .before in
+    let p = q .before .before .before .before .before in
+    counts-long (start6 p .args .c) (ample (start6 p)) (edits p) (q .put-text .ensures))
     returns)

@@ -2,7 +2,7 @@
 use native.Mathlib.Omega.{arith}
 use borrow.Author.Needs.{needs}
 use Rattle.book.specs.Layout.{Buffers, five}
-use Rattle.printing_book.proofs.ShownDump.{Ready, dump-put, journal-room, lines-room, nodes-room, readied}
+use Rattle.printing_book.proofs.ShownDump.{Ready, dump-long, dump-put, journal-room, lines-room, nodes-room, readied}
 use Rattle.printing_book.proofs.dump.show_dump.Statement.{statement}
 use Rattle.printing_book.proofs.dump.show_dump.Tie as tie
 
@@ -32,9 +32,6 @@ put-pair-requires-2 c κs =
     let k = ready (p .before) in
     (omega (arith, k .held .lines), k .held .pool, omega (arith, lines-room k (p .put-pair .ensures)))
 
-same-length : tie.Need-same-length
-same-length c = search needs
-
 returns : tie.Need-returns
 returns c =
     let u = c .before .before in
@@ -56,5 +53,9 @@ show-dump-spec =
     let p = q .before .before .before .before .before .before .before .before in
     let k = ready (p .before) in
     (k .held .journal, journal-room k (p .put-pair .ensures) (q .put-pair2 .ensures)))
-    same-length
+    (λ c.
+    let u = c .before .before in
+    let q = u .before .before .before .before .before .before in
+    let p = q .before .before .before .before .before .before .before .before in
+    dump-long (ready (p .before)) (p .put-pair .ensures) (q .put-pair2 .ensures) (u .put-buffer .ensures))
     returns)
