@@ -30,6 +30,13 @@ byte-within [] i h = absurd (omega arith)
 byte-within (b ∷ s) zero h = omega arith
 byte-within (b ∷ s) (suc i) h = omega (arith, byte-within s i h)
 
+-- within the text, whatever stands past its end
+pub byte-any : (s : List ℕ) (i d e : ℕ) → i < length s → getD s i d ≡ getD s i e
+byte-any s i d e h =
+    let a = drop-cons s i d h in
+    let b = drop-cons s i e h in
+    cc
+
 -- ---- the first place
 abbrev pub passes : Test → List ℕ → ℕ → Bool
 passes t s i = t (getD s i 0) (getD s (i + 1) 0)

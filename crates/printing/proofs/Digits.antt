@@ -27,6 +27,9 @@ pub few-digits : (n : ℕ) → length (decimal n) ≤ 10
 unfolding decimal
 few-digits n = few-spelled 10 n
 
+pub few-places : (n : ℕ) {r : ℕ} → r ≡ length (decimal n) → r ≤ 10
+few-places n e = omega (arith, few-digits n)
+
 -- one digit, or the digits of the tenth and the last one
 one-digit : (k n : ℕ) → n < 10 → spelled (suc k) n ≡ (48 + n % 10) ∷ []
 unfolding spelled

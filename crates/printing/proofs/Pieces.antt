@@ -80,6 +80,9 @@ pub few-spaced : (word : List ℕ) (n : ℕ) → length (spaced word n) ≤ leng
 unfolding spaced
 few-spaced word n = omega (arith, length-append word (space ∷ decimal n), few-digits n)
 
+pub spaced-ends : (d : List ℕ) (at : ℕ) (word : List ℕ) (n : ℕ) {l : List ℕ} {r : ℕ} → Puts d at (spaced word n) l r → r ≤ at + length word + 11
+spaced-ends d at word n p = omega (arith, p .0, few-spaced word n)
+
 pub few-numbered : (word : List ℕ) (n : ℕ) → length (numbered word n) ≤ length word + 12
 unfolding numbered
 few-numbered word n = omega (arith, length-append (spaced word n) line-end, few-spaced word n)

@@ -131,20 +131,20 @@ module _ {w : Option Book} {s d : List ℕ} {from : ℕ} {l : List ℕ} {at end 
         (omega (arith, ample, inv .put .0, inv .few, answer-few w (drop at s), length-drop at s))
         (inv .put) (rw t at p))
 
-    -- the next line, up to its line feed
-    module _ {x : Found} (e : x ≡ first-from (is line-feed) s at) {p : ℕ} (f : x ≡ Here p) where
-      pub line-room : end + length (take (p - at) (drop at s)) + 48 ≤ length l
-      line-room = omega (arith, ample, inv .few, inv .long, line-long e f, line-found e f .within, line-found e f .onward)
+  -- the next line, up to its line feed
+  module _ (room : 0 < length s → from + 48 + 15 * length s ≤ length d) {x : Found} (e : x ≡ first-from (is line-feed) s at) {p : ℕ} (f : x ≡ Here p) where
+    pub line-room : end + length (take (p - at) (drop at s)) + 48 ≤ length l
+    line-room = omega (arith, room (omega (arith, next-within e f)), inv .few, inv .long, line-long e f, line-found e f .within, line-found e f .onward)
 
-      pub line-put : {m : List ℕ} {r : ℕ} → Puts l end (symbol-answered w (take (p - at) (drop at s))) m r → Answered w s d from m (p + 1) r
-      line-put q =
-          let t = symbol-answered w (take (p - at) (drop at s)) in
-          let few = answer-few w (take (p - at) (drop at s)) in
-          record {
-            piece = inv .piece ++ t;
-            whole = inv .whole ∙ rw (line-answered w s at p (sym e ∙ f)) (sym (append-assoc (inv .piece) t (answers w (lines-in [] (drop (p + 1) s)))));
-            within = omega (arith, line-found e f .within);
-            few = omega (arith, few, line-long e f, q .0, inv .few, line-found e f .onward);
-            long = puts-long l end t (omega (arith, few, line-room)) q ∙ inv .long;
-            put = puts-both d from (inv .piece) t (omega (arith, few, line-room, inv .put .0, inv .long)) (inv .put) q;
-          }
+    pub line-put : {m : List ℕ} {r : ℕ} → Puts l end (symbol-answered w (take (p - at) (drop at s))) m r → Answered w s d from m (p + 1) r
+    line-put q =
+        let t = symbol-answered w (take (p - at) (drop at s)) in
+        let few = answer-few w (take (p - at) (drop at s)) in
+        record {
+          piece = inv .piece ++ t;
+          whole = inv .whole ∙ rw (line-answered w s at p (sym e ∙ f)) (sym (append-assoc (inv .piece) t (answers w (lines-in [] (drop (p + 1) s)))));
+          within = omega (arith, line-found e f .within);
+          few = omega (arith, few, line-long e f, q .0, inv .few, line-found e f .onward);
+          long = puts-long l end t (omega (arith, few, line-room)) q ∙ inv .long;
+          put = puts-both d from (inv .piece) t (omega (arith, few, line-room, inv .put .0, inv .long)) (inv .put) q;
+        }

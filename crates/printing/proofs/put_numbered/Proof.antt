@@ -1,7 +1,9 @@
 -- `put_numbered` meets its contract. Assumes nothing.
+use Prim.Native.Nat.{_+_, _≤_}
 use borrow.Author.Needs.{needs}
 use native.Mathlib.Omega.{arith}
-use Rattle.printing.proofs.Pieces.{few-spaced, numbered-put}
+use lib.ListN.{length}
+use Rattle.printing.proofs.Pieces.{numbered-put, spaced-ends}
 use Rattle.printing.proofs.put_numbered.Statement.{statement}
 use Rattle.printing.proofs.put_numbered.Tie as tie
 
@@ -13,9 +15,9 @@ slice-aggregate-put-text c = search needs
 
 put-text-requires : tie.Need-put-text-requires
 put-text-requires c κs =
-    let at-put-spaced = c .before .before .before .before in
-    let a = at-put-spaced .before .before .before .before .args in
-    omega (arith, few-spaced (a .word .now) (a .n))
+    let p = c .before .before .before .before in
+    let few : p .put-spaced .result ≤ 0 + length (p .before .before .before .before .args .word .now) + 11 = search spaced-ends in
+    omega arith
 
 returns : tie.Need-returns
 returns c =

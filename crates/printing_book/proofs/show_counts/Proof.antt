@@ -105,12 +105,6 @@ put-text-requires c κs =
     let p = c .before .before .before .before in
     end-room (start6 p .args .c) (ample (start6 p)) (edits p)
 
-same-length : tie.Need-same-length
-same-length c =
-    let q = c .before .before in
-    let p = q .before .before .before .before .before in
-    counts-long (start6 p .args .c) (ample (start6 p)) (edits p) (q .put-text .ensures)
-
 returns : tie.Need-returns
 returns c =
     let q = c .before .before in
@@ -135,5 +129,8 @@ show-counts-spec =
     put-spaced-requires-6
     (λ c. search needs)
     put-text-requires
-    same-length
+    (λ c.
+    let q = c .before .before in
+    let p = q .before .before .before .before .before in
+    counts-long (start6 p .args .c) (ample (start6 p)) (edits p) (q .put-text .ensures))
     returns)

@@ -1,4 +1,5 @@
 -- `render_listing` meets its contract. Assumes nothing.
+use native.Mathlib.Omega.{arith}
 use borrow.Author.Needs.{needs}
 use Rattle.book.specs.Layout.{five}
 use Rattle.printing_listing.proofs.Inputs.{line-room, lines-room, not-listed, script-count, script-within, symbols-within, too-long-listed, whole-listed}
@@ -86,7 +87,7 @@ returns-3 c =
     let a = at-args .args in
     let r = at-render-script .render-script in
     whole-listed (five (a .nodes .now) (a .names .now) (a .lines .now) (a .pool .now) (a .journal .now)) (a .text .now) (a .out .now) _ (at-has-room .has-room .ensures)
-    (at-if1 .if1 .left) _ (at-script-end .script-end .ensures) _ (at-symbols-start .symbols-start .ensures) (at-if2 .if2 .left)
+    (at-if1 .if1 .left) _ (at-script-end .script-end .ensures) _ (at-symbols-start .symbols-start .ensures) (omega (arith, at-if2 .if2 .left))
     (r .result) (r .last .1 .1 .1 .1 .1 .1 .1 .0)
     (five (r .last .1 .1 .0) (r .last .1 .1 .1 .0) (r .last .1 .1 .1 .1 .0) (r .last .1 .1 .1 .1 .1 .0) (r .last .1 .1 .1 .1 .1 .1 .0)) (r .ensures)
 

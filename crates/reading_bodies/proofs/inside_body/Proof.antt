@@ -1,5 +1,6 @@
 -- `inside_body` meets its contract. A word that stands in the text ends within it, so the place behind it fits. Assumes nothing.
-use Rattle.reading_matchers.proofs.Stepping.{word-fits}
+use Rattle.numbers.specs.Marks.{local}
+use Rattle.reading_matchers.proofs.Stepping.{word-fits, word-goes, word-missing}
 use Rattle.reading_bodies.specs.Bodies.{inside-body}
 use Rattle.reading_bodies.proofs.Deciding.{goes-section, ways}
 use Rattle.reading_bodies.proofs.inside_body.Statement.{statement}
@@ -7,7 +8,9 @@ use Rattle.reading_bodies.proofs.inside_body.Tie as tie
 
 returns-2 : tie.Need-returns-2
 unfolding inside-body
-returns-2 c = search (ways, goes-section)
+returns-2 c =
+    let start = c .before .before .before .before .before .before .before .before .before in
+    search (word-goes, word-missing, goes-section (start .args .c) _ local (c .before .with-section2 .ensures))
 
 pub inside-body-spec : {M : Type 1} → statement M
 unfolding inside-body

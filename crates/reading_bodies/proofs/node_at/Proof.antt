@@ -1,12 +1,13 @@
 -- `node_at` meets its contract. Assumes nothing.
+use borrow.Author.Tests.{ne-eqb}
 use Rattle.reading_bodies.specs.Bodies.{node-at}
-use Rattle.reading_bodies.proofs.Deciding.{name-ends, ways}
+use Rattle.reading_bodies.proofs.Deciding.{left, name-ends, ways}
 use Rattle.reading_bodies.proofs.node_at.Statement.{statement}
 use Rattle.reading_bodies.proofs.node_at.Tie as tie
 
 returns-2 : tie.Need-returns-2
 unfolding node-at
-returns-2 c = search (ways, name-ends)
+returns-2 c = search (left, ne-eqb, name-ends)
 
 pub node-at-spec : {M : Type 1} → statement M
 unfolding node-at

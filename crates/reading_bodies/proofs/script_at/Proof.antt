@@ -1,7 +1,7 @@
 -- `script_at` meets its contract. A `{` lies within the text, so the place behind it fits. Assumes nothing.
 use Rattle.reading_matchers.proofs.Stepping.{byte-fits}
 use Rattle.reading_bodies.specs.Bodies.{script-at}
-use Rattle.reading_bodies.proofs.Deciding.{ways}
+use Rattle.reading_bodies.proofs.Deciding.{byte-is, goes, taken, ways}
 use Rattle.reading_bodies.proofs.script_at.Statement.{statement}
 use Rattle.reading_bodies.proofs.script_at.Tie as tie
 
@@ -10,7 +10,7 @@ add-move-to c = search (ways, byte-fits)
 
 returns : tie.Need-returns
 unfolding script-at
-returns c = search ways
+returns c = search (taken, byte-is, goes)
 
 pub script-at-spec : {M : Type 1} → statement M
 unfolding script-at

@@ -4,6 +4,9 @@ use Rattle.reading_matchers.proofs.Exits.{bare-refused, bare-open, bare
 use Rattle.reading_matchers.proofs.bare_line.Statement.{statement}
 use Rattle.reading_matchers.proofs.bare_line.Tie as tie
 
+returns-3 : tie.Need-returns-3
+returns-3 c = search bare-goes
+
 pub bare-line-spec : {M : Type 1} → statement M
 bare-line-spec =
     tie.close
@@ -12,4 +15,4 @@ bare-line-spec =
     (λ c. search needs) (λ c. search needs) (λ c κs. search needs) (λ c. search needs) (λ c κs. search needs)
     (λ c. search bare-refused)
     (λ c. search bare-open)
-    (λ c. search bare-goes))
+    returns-3)

@@ -1,4 +1,5 @@
 -- `bare_end` meets its contract. Assumes nothing.
+use native.Mathlib.Omega.{arith}
 use borrow.Author.Needs.{needs}
 use Rattle.reading_tokens.proofs.Enders.{bare-to-brace, bare-at-once, bare-all}
 use Rattle.reading_tokens.proofs.bare_end.Statement.{statement}
@@ -17,7 +18,9 @@ enum-told : tie.Need-enum-told
 enum-told c = search needs
 
 returns-2 : tie.Need-returns-2
-returns-2 c = search bare-at-once
+returns-2 c =
+    let at-q = c .before .before in
+    bare-at-once _ _ _ (at-q .before .before .find .ensures) _ (at-q .q .given .1) (omega (arith, c .if1 .left))
 
 returns-3 : tie.Need-returns-3
 returns-3 c = search bare-all

@@ -1,4 +1,5 @@
 -- `extern_end` meets its contract. Assumes nothing.
+use native.Mathlib.Omega.{arith}
 use borrow.Author.Needs.{needs}
 use Rattle.reading_tokens.proofs.Enders.{extern-none-left, extern-at-once, extern-closed, extern-no-semicolon, extern-apart}
 use Rattle.reading_tokens.proofs.extern_end.Statement.{statement}
@@ -8,10 +9,16 @@ returns : tie.Need-returns
 returns c = search extern-none-left
 
 returns-2 : tie.Need-returns-2
-returns-2 c = search extern-at-once
+returns-2 c =
+    let at-q = c .before .before in
+    let at-find = at-q .before .before in
+    let at-if1 = at-find .before in
+    extern-at-once _ _ _ _ (at-if1 .before .before .pre) (at-if1 .if1 .left) _ (at-find .find .ensures) _ (at-q .q .given .1) (omega (arith, c .if2 .taken))
 
 returns-3 : tie.Need-returns-3
-returns-3 c = search extern-closed
+returns-3 c =
+    let start = c .before .before .before .before .before .before .before .before .before .before in
+    search (extern-closed (start .args .edition) (start .args .last) (start .args .s .now) (start .args .at) (start .pre))
 
 returns-4 : tie.Need-returns-4
 returns-4 c = search extern-no-semicolon

@@ -1,4 +1,5 @@
 -- `to_semicolon` meets its contract. Assumes nothing.
+use native.Mathlib.Omega.{arith}
 use borrow.Author.Needs.{needs}
 use Rattle.reading_tokens.proofs.Enders.{semicolon-behind, semicolon-at-once, semicolon-missing}
 use Rattle.reading_tokens.proofs.to_semicolon.Statement.{statement}
@@ -17,7 +18,9 @@ enum-told : tie.Need-enum-told
 enum-told c = search needs
 
 returns-2 : tie.Need-returns-2
-returns-2 c = search semicolon-at-once
+returns-2 c =
+    let at-semicolon = c .before .before in
+    semicolon-at-once _ _ _ _ (at-semicolon .before .before .find .ensures) _ (at-semicolon .semicolon .given .1) (omega (arith, c .if1 .left))
 
 returns-3 : tie.Need-returns-3
 returns-3 c = search semicolon-missing

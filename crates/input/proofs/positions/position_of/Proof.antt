@@ -12,15 +12,23 @@ Inv-loop s place line₀ column₀ i₀ line column i = Walked s place line colu
 abbrev μ-loop : tie.MeasureT-loop
 μ-loop s place line₀ column₀ i₀ line column i = length s - i
 
+loop-holds : tie.Need-loop-holds Inv-loop μ-loop
+loop-holds c = walk-starts
+
+loop-again : tie.Need-loop-again Inv-loop μ-loop
+loop-again c =
+    let at-if1 = c .before .before in
+    walk-line (at-if1 .before .before .loop .inv) (at-if1 .before .loop-test .taken) (at-if1 .if1 .left) (c .if2 .taken)
+
 pub position-of-spec : {M : Type 1} → statement M
 position-of-spec =
     tie.close
     (tie.spec
     Inv-loop
     μ-loop
-    (λ c. search walk-starts)
+    loop-holds
     (λ c. search needs) (λ c. search needs) (λ c. search needs) (λ c. search needs)
-    (λ c. search walk-line)
+    loop-again
     (λ c. search needs) (λ c. search needs)
     (λ c. search walk-on)
     (λ c. search walk-ends)

@@ -18,6 +18,9 @@ loop-holds : tie.Need-loop-holds Inv-loop μ-loop
 unfolding mark
 loop-holds c = refl
 
+loop-again : tie.Need-loop-again Inv-loop μ-loop
+loop-again c = search mark-on
+
 pub find-mark-spec : {M : Type 1} → statement M
 find-mark-spec =
     tie.close
@@ -28,5 +31,5 @@ find-mark-spec =
     (λ c κs. search needs)
     (λ c. search mark-here)
     (λ c. search needs) (λ c. search needs) (λ c. search needs)
-    (λ c. search mark-on)
+    loop-again
     (λ c. search mark-none))

@@ -4,6 +4,9 @@ use Rattle.input.proofs.Marks.{end-fits, mark-by, mark-ends, no-first, 
 use Rattle.input.proofs.splitting.is_mark.Statement.{statement}
 use Rattle.input.proofs.splitting.is_mark.Tie as tie
 
+returns-4 : tie.Need-returns-4
+returns-4 c = search mark-by
+
 pub is-mark-spec : {M : Type 1} → statement M
 is-mark-spec =
     tie.close
@@ -16,4 +19,4 @@ is-mark-spec =
     (λ c. search end-fits)
     (λ c. search mark-ends)
     (λ c κs. search needs)
-    (λ c. search mark-by))
+    returns-4)

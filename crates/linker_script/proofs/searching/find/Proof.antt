@@ -30,7 +30,13 @@ loop-again : tie.Need-loop-again Inv-loop μ-loop Inv-loop2 μ-loop2
 loop-again c = search block-on
 
 loop2-again : tie.Need-loop2-again Inv-loop μ-loop Inv-loop2 μ-loop2
-loop2-again c = search find-on
+loop2-again c =
+    let at-loop2-test = c .before .before in
+    let a = at-loop2-test .before .before .before .before .before .before .args in
+    find-on (a .s .now) (a .x) (a .at) _ (at-loop2-test .before .loop2 .inv) (at-loop2-test .loop2-test .taken) (omega (arith, c .if3 .left))
+
+returns-2 : tie.Need-returns-2 Inv-loop μ-loop Inv-loop2 μ-loop2
+returns-2 c = search find-here
 
 pub find-spec : {M : Type 1} → statement M
 find-spec =
@@ -46,7 +52,7 @@ find-spec =
     (λ c. omega (arith, inside (c .before .before))) (λ c. omega (arith, inside (c .before .before)))
     loop-again
     (λ c. search needs) (λ c. search needs)
-    (λ c. search find-here)
+    returns-2
     (λ c. search needs) (λ c. search needs)
     loop2-again
     (λ c. search find-none))

@@ -1,4 +1,5 @@
 -- `show_dump` meets its contract. Assumes nothing.
+use native.Mathlib.Omega.{arith}
 use borrow.Author.Needs.{needs}
 use Rattle.book.specs.Layout.{Buffers, five}
 use Rattle.printing_book.proofs.ShownDump.{Ready, dump-long, dump-put, journal-room, lines-room, nodes-room, readied}
@@ -29,21 +30,7 @@ put-pair-requires-2 : tie.Need-put-pair-requires-2
 put-pair-requires-2 c κs =
     let p = c .before .before .before .before .before .before .before in
     let k = ready (p .before) in
-    (k .held .lines, k .held .pool, lines-room k (p .put-pair .ensures))
-
-put-buffer-requires : tie.Need-put-buffer-requires
-put-buffer-requires c κs =
-    let q = c .before .before .before .before .before in
-    let p = q .before .before .before .before .before .before .before .before in
-    let k = ready (p .before) in
-    (k .held .journal, journal-room k (p .put-pair .ensures) (q .put-pair2 .ensures))
-
-same-length : tie.Need-same-length
-same-length c =
-    let u = c .before .before in
-    let q = u .before .before .before .before .before .before in
-    let p = q .before .before .before .before .before .before .before .before in
-    dump-long (ready (p .before)) (p .put-pair .ensures) (q .put-pair2 .ensures) (u .put-buffer .ensures)
+    (omega (arith, k .held .lines), k .held .pool, omega (arith, lines-room k (p .put-pair .ensures)))
 
 returns : tie.Need-returns
 returns c =
@@ -61,6 +48,14 @@ show-dump-spec =
     (λ c. search needs) (λ c. search needs) (λ c. search needs) (λ c. search needs) (λ c. search needs)
     put-pair-requires-2
     (λ c. search needs) (λ c. search needs) (λ c. search needs)
-    put-buffer-requires
-    same-length
+    (λ c κs.
+    let q = c .before .before .before .before .before in
+    let p = q .before .before .before .before .before .before .before .before in
+    let k = ready (p .before) in
+    (k .held .journal, journal-room k (p .put-pair .ensures) (q .put-pair2 .ensures)))
+    (λ c.
+    let u = c .before .before in
+    let q = u .before .before .before .before .before .before in
+    let p = q .before .before .before .before .before .before .before .before in
+    dump-long (ready (p .before)) (p .put-pair .ensures) (q .put-pair2 .ensures) (u .put-buffer .ensures))
     returns)

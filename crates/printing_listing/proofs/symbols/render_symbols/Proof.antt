@@ -40,7 +40,7 @@ put-answer-requires c κs =
     let at-find = at-p .before .before in
     let at-loop = at-find .before .before in
     let at-args = at-loop .before .before .before .before .before .before .before .before in
-    (line-room (at-loop .loop .inv) (at-find .before .loop-test .taken) (at-args .pre .0) (at-find .find .ensures) (at-p .p .given .1), at-args .pre .1)
+    (line-room (at-loop .loop .inv) (at-args .pre .0) (at-find .find .ensures) (at-p .p .given .1), at-args .pre .1)
 
 add-at : tie.Need-add-at Inv-loop μ-loop
 add-at c =
@@ -55,7 +55,7 @@ loop-less : tie.Need-loop-less Inv-loop μ-loop
 loop-less c =
     let at-p = c .before .before .before .before .before .before in
     let at-find = at-p .before .before in
-    next-less (at-find .before .before .loop .inv) (at-find .find .ensures) (at-p .p .given .1)
+    omega (arith, next-less (at-find .before .before .loop .inv) (at-find .find .ensures) (at-p .p .given .1))
 
 loop-again : tie.Need-loop-again Inv-loop μ-loop
 loop-again c =
@@ -64,8 +64,7 @@ loop-again c =
     let at-find = at-p .before .before in
     let at-loop = at-find .before .before in
     let at-args = at-loop .before .before .before .before .before .before .before .before in
-    line-put (at-loop .loop .inv) (at-find .before .loop-test .taken) (at-args .pre .0) (at-find .find .ensures) (at-p .p .given .1)
-    (at-put-answer .put-answer .ensures)
+    line-put (at-loop .loop .inv) (at-args .pre .0) (at-find .find .ensures) (at-p .p .given .1) (at-put-answer .put-answer .ensures)
 
 put-answer-requires-2 : tie.Need-put-answer-requires-2 Inv-loop μ-loop
 put-answer-requires-2 c κs =
@@ -85,7 +84,7 @@ returns c =
     (at-put-answer2 .put-answer2 .ensures)
 
 returns-2 : tie.Need-returns-2 Inv-loop μ-loop
-returns-2 c = answers-end (c .before .loop .inv) (c .loop-test .left)
+returns-2 c = answers-end (c .before .loop .inv) (omega (arith, c .loop-test .left))
 
 pub render-symbols-spec : {M : Type 1} → statement M
 render-symbols-spec =

@@ -6,6 +6,12 @@ use Rattle.printing_symbols.proofs.Asked.{name-count, part-room, plain-
 use Rattle.printing_symbols.proofs.symbols.render_symbol.Statement.{statement}
 use Rattle.printing_symbols.proofs.symbols.render_symbol.Tie as tie
 
+render-asked-requires : tie.Need-render-asked-requires
+render-asked-requires c κs = search needs
+
+render-asked-requires-2 : tie.Need-render-asked-requires-2
+render-asked-requires-2 c κs = search part-room
+
 returns : tie.Need-returns
 returns c =
     let at-render-asked = c .before .before in
@@ -34,13 +40,15 @@ pub render-symbol-spec : {M : Type 1} → statement M
 render-symbol-spec =
     tie.close
     (tie.spec
-    (λ c κs. search needs) (λ c. search needs) (λ c κs. search needs) (λ c. search needs)
+    (λ c κs. search needs) (λ c. search needs)
+    render-asked-requires
+    (λ c. search needs)
     (λ c. search version-fits)
     (λ c. search name-count)
     (λ c. search version-starts)
     (λ c. search version-starts)
     (λ c. search needs)
-    (λ c κs. search part-room)
+    render-asked-requires-2
     (λ c. search needs)
     returns
     (λ c. search needs)
