@@ -33,7 +33,8 @@ returns-4 : tie.Need-returns-4
 returns-4 c =
     let v = c .before .before .before .before .before .before in
     let h = v .before .before .before .before .before in
-    symbol-added (listed (h .before)) (entry (h .before) .args .text .now) _ (omega (arith, h .if3 .left)) _ (v .before .place-of .ensures) _ _ (v .add-lines .ensures)
+    symbol-added (listed (h .before)) (entry (h .before) .args .text .now) _ (omega (arith, h .if3 .left))
+    _ (v .before .place-of .ensures) _ _ (v .add-lines .ensures)
 
 pub add-symbol-spec : {M : Type 1} → statement M
 add-symbol-spec =
