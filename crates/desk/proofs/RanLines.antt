@@ -3,9 +3,9 @@
 use Prim.Native.Nat.{ℕ, _+_, _-_, _<_, _≤_}
 use mathlib.Core.Path.{_≡_, refl, sym, ap, _∙_}
 use mathlib.Core.List.{List, [], _∷_}
-use mathlib.Core.Bool.{Bool, true, false, not}
+use mathlib.Core.Bool.{Bool, true, false}
 use native.Mathlib.Omega.{arith}
-use borrow.Author.Tests.{leb-false, leb-true, le-leb, lt-leb, not-false, not-true}
+use borrow.Author.Tests.{leb-false, leb-true, le-leb, lt-leb}
 use lib.Dec.{leb}
 use lib.ListN.{length}
 use Rattle.numbers.specs.Signs.{line-feed, question}
@@ -18,6 +18,7 @@ use Rattle.desk_commands.specs.declared.Command.the-variants as command
 use Rattle.desk_commands.specs.declared.Edit.{Edit}
 use Rattle.desk_commands.specs.declared.Question.{Question}
 use Rattle.desk_commands.specs.Commands.{command-of}
+use Rattle.printing.specs.Printing.{answer-room}
 use Rattle.printing_book.specs.Shown.{shown-room}
 use Rattle.desk.specs.declared.answering.Ran.{Ran}
 use Rattle.desk.specs.Answers.{Runs, Tells}
@@ -47,33 +48,31 @@ module _ (n room shown out : ℕ) (e : room ≡ shown) where
       by true f = sym (le-leb (shown + n) out (omega (arith, leb-true n (out - room) f)))
       by false f = sym (lt-leb (shown + n) out (omega (arith, leb-false n (out - room) f)))
 
--- ---- the line t: r is answered, l is left of d, and b′ of the buffers b. x is whether there is room, and the code asked whether there is none
-module _ (c : Counts) (t d : List ℕ) (x : Bool) (e : x ≡ leb (shown-room c + length t) (length d)) where
-  pub not-answered : (b : Buffers) → not x ≡ true → Runs-line c b t d (not-run c) d b
-  unfolding line-ran line-printed line-leaves has-room
-  not-answered b h = rw (← e, not-true x h) (refl, refl, refl)
+-- room for what is shown is room for an answer
+pub shown-suffices : (c : Counts) (n : ℕ) → shown-room c ≤ n → answer-room ≤ n
+unfolding shown-room
+shown-suffices c n h = omega arith
 
-  module _ (h : not x ≡ false) where
-    pub line-room : shown-room c + length t ≤ length d
-    line-room = leb-true (shown-room c + length t) (length d) (sym e ∙ not-false x h)
+-- ---- the line t, for which there is none
+pub not-answered : (c : Counts) (b : Buffers) (t d : List ℕ) → length d < shown-room c + length t → Runs-line c b t d (not-run c) d b
+unfolding line-ran line-printed line-leaves has-room
+not-answered c b t d h = rw (lt-leb (shown-room c + length t) (length d) h) (refl, refl, refl)
 
-    pub answer-room : 128 ≤ length d
-    unfolding shown-room
-    answer-room = omega (arith, line-room)
+-- and for which there is: r is answered, l is left of d, and b′ of the buffers b
+module _ (c : Counts) (t d : List ℕ) (h : shown-room c + length t ≤ length d) (b : Buffers) (m : Command) (f : m ≡ command-of t) (l : List ℕ) (r : Ran)
+    (b′ : Buffers) where
+  answered : Runs c b (λ b w. step c b w t m) d r l b′ → Runs-line c b t d r l b′
+  unfolding line-ran line-printed line-leaves has-room line-step
+  answered p = rw (le-leb (shown-room c + length t) (length d) h, ← f) p
 
-    module _ (b : Buffers) (m : Command) (f : m ≡ command-of t) (l : List ℕ) (r : Ran) (b′ : Buffers) where
-      answered : Runs c b (λ b w. step c b w t m) d r l b′ → Runs-line c b t d r l b′
-      unfolding line-ran line-printed line-leaves has-room line-step
-      answered p = rw (← e, not-false x h, ← f) p
+  pub edit-answered : (v : Edit) → m ≡ command.Edits v → Runs c b (λ b w. edit-step c b w t v) d r l b′ → Runs-line c b t d r l b′
+  unfolding step
+  edit-answered v g p = answered (rw g p)
 
-      pub edit-answered : (v : Edit) → m ≡ command.Edits v → Runs c b (λ b w. edit-step c b w t v) d r l b′ → Runs-line c b t d r l b′
-      unfolding step
-      edit-answered v g p = answered (rw g p)
+  pub question-answered : (q : Question) → m ≡ command.Asks q → Tells c b (λ b w. question-told c b w t q) d r l → b′ ≡ b → Runs-line c b t d r l b′
+  unfolding step question-step
+  question-answered q g p i = answered (rw g (p .0, p .1, i))
 
-      pub question-answered : (q : Question) → m ≡ command.Asks q → Tells c b (λ b w. question-told c b w t q) d r l → b′ ≡ b → Runs-line c b t d r l b′
-      unfolding step question-step
-      question-answered q g p i = answered (rw g (p .0, p .1, i))
-
-      pub unknown-answered : m ≡ command.Unknown → (r ≡ untold c 2) × (l ≡ front (question ∷ line-feed ∷ []) d) → b′ ≡ b → Runs-line c b t d r l b′
-      unfolding step
-      unknown-answered g p i = answered (rw g (p .0, p .1, i))
+  pub unknown-answered : m ≡ command.Unknown → (r ≡ untold c 2) × (l ≡ front (question ∷ line-feed ∷ []) d) → b′ ≡ b → Runs-line c b t d r l b′
+  unfolding step
+  unknown-answered g p i = answered (rw g (p .0, p .1, i))

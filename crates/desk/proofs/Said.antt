@@ -1,7 +1,7 @@
 -- What is put for an edit that is done: edit by edit. o is the buffer that was lent for it, l what it is then, and k how many bytes were put. Assumes nothing.
 use Prim.Native.Nat.{ℕ, _-_}
 use mathlib.Core.Path.{_≡_}
-use mathlib.Core.List.{List, [], _∷_}
+use mathlib.Core.List.{List}
 use mathlib.Core.Bool.{Bool}
 use Rattle.lists.specs.Texts.{codes}
 use Rattle.book.specs.declared.Counts.{Counts}
@@ -21,9 +21,8 @@ module _ (c d : Counts) (e : Edit) (o l : List ℕ) (k : ℕ) where
   unfolding done-said
   strike-said line g p = rw g p
 
-  pub undo-said : e ≡ edit.Undo → Puts o 0 (117 ∷ 110 ∷ 100 ∷ 111 ∷ 110 ∷ 101 ∷ 10 ∷ []) l k → Begins o (done-said c d e) l k
-  unfolding done-said codes
-  undo-said g p = rw g (begins o (117 ∷ 110 ∷ 100 ∷ 111 ∷ 110 ∷ 101 ∷ 10 ∷ []) p)
+  pub undo-said : (t : List ℕ) → e ≡ edit.Undo → Puts o 0 t l k → t ≡ done-said c d edit.Undo → Begins o (done-said c d e) l k
+  undo-said t g p i = rw (g, ← i) (begins o t p)
 
   pub settle-said : e ≡ edit.Settle → Begins o (numbered (codes "settled") (d .lines)) l k → Begins o (done-said c d e) l k
   unfolding done-said

@@ -1,4 +1,5 @@
 -- `add_symbol` meets its contract, by the laws of AskedSymbol. Assumes nothing.
+use native.Mathlib.Omega.{arith}
 use borrow.Author.Needs.{needs}
 use Rattle.book.specs.Layout.{Buffers, five}
 use Rattle.trial_symbols.proofs.AskedSymbol.{Listed, lines-asks, symbol-added, symbol-kind, symbol-listed, symbol-long, symbol-no-book}
@@ -26,13 +27,14 @@ returns-2 c =
     symbol-kind _ _ _ (d .before .is-book .ensures) (d .if1 .left) _ _ (c .if2 .taken)
 
 returns-3 : tie.Need-returns-3
-returns-3 c = symbol-long (listed (c .before)) _ _ (c .if3 .taken)
+returns-3 c = symbol-long (listed (c .before)) (entry (c .before) .args .text .now) _ (omega (arith, c .if3 .taken))
 
 returns-4 : tie.Need-returns-4
 returns-4 c =
     let v = c .before .before .before .before .before .before in
     let h = v .before .before .before .before .before in
-    symbol-added (listed (h .before)) _ _ (h .if3 .left) _ (v .before .place-of .ensures) _ _ (v .add-lines .ensures)
+    symbol-added (listed (h .before)) (entry (h .before) .args .text .now) _ (omega (arith, h .if3 .left))
+    _ (v .before .place-of .ensures) _ _ (v .add-lines .ensures)
 
 pub add-symbol-spec : {M : Type 1} → statement M
 add-symbol-spec =

@@ -1,6 +1,8 @@
 -- `say_done` meets its contract. Assumes nothing.
+use mathlib.Core.Path.{refl}
 use borrow.Author.Needs.{needs}
 use Rattle.lists.specs.Texts.{codes}
+use Rattle.desk.specs.Edits.{done-said}
 use Rattle.desk.proofs.Said.{add-said, settle-said, strike-said, symbol-said, undo-said}
 use Rattle.desk.proofs.edits.say_done.Statement.{statement}
 use Rattle.desk.proofs.edits.say_done.Tie as tie
@@ -22,11 +24,12 @@ returns-2 c =
     strike-said (a .c) (a .d) (a .e) (a .out .now) _ (put .put-numbered2 .result) _ (which .e .given .1) (put .put-numbered2 .ensures)
 
 returns-3 : tie.Need-returns-3
+unfolding done-said codes
 returns-3 c =
     let put = c .before .before in
     let which = put .before .before .before in
     let a = which .before .before .before .args in
-    undo-said (a .c) (a .d) (a .e) (a .out .now) _ (put .put-text .result) (which .enum-told2 .given .1) (put .put-text .ensures)
+    undo-said (a .c) (a .d) (a .e) (a .out .now) _ (put .put-text .result) _ (which .enum-told2 .given .1) (put .put-text .ensures) refl
 
 returns-4 : tie.Need-returns-4
 unfolding codes
@@ -42,7 +45,8 @@ returns-5 c =
     let put = c .before .before in
     let which = put .before .before .before .before in
     let a = which .before .before .before .args in
-    symbol-said (a .c) (a .d) (a .e) (a .out .now) _ (put .put-numbered4 .result) _ _ _ (which .enum-told4 .given .1) (put .before .excess .ensures) (put .put-numbered4 .ensures)
+    symbol-said (a .c) (a .d) (a .e) (a .out .now) _ (put .put-numbered4 .result) _ _ _ (which .enum-told4 .given .1)
+    (put .before .excess .ensures) (put .put-numbered4 .ensures)
 
 pub say-done-spec : {M : Type 1} → statement M
 say-done-spec =

@@ -5,14 +5,6 @@ use Rattle.desk.proofs.Shown.{ask-room, ask-told, show-told}
 use Rattle.desk.proofs.questions.run_question.Statement.{statement}
 use Rattle.desk.proofs.questions.run_question.Tie as tie
 
-run-ask-requires : tie.Need-run-ask-requires
-run-ask-requires c κs =
-    let at-tail = c .before in
-    let at-q = at-tail .before .before in
-    let at-args = at-q .before .before .before .before .before .before .before .before .before in
-    let a = at-args .args in
-    ask-room (a .c) (a .line .now) (a .out .now) (at-args .pre) _ (at-q .q .given .0 .0) (at-tail .tail .ensures)
-
 returns : tie.Need-returns
 returns c =
     let at-run-ask = c .before .before in
@@ -36,7 +28,9 @@ run-question-spec =
     tie.close
     (tie.spec
     (λ c. search needs) (λ c κs. search needs)
-    run-ask-requires
+    (λ c κs. let q = c .before .before .before in
+    let s = q .before .before .before .before .before .before .before .before .before in
+    ask-room (s .args .c) (s .args .line .now) (s .args .out .now) (s .pre) _ (q .q .given .0 .0) (c .before .tail .ensures))
     (λ c. search needs) (λ c κs. search needs) (λ c. search needs)
     returns
     (λ c. search needs)

@@ -11,8 +11,10 @@ Inv-loop lines pool n i₀ i = Unstruck n lines pool i
 abbrev μ-loop : tie.MeasureT-loop
 μ-loop lines pool n i₀ i = n - i
 
-returns : tie.Need-returns Inv-loop μ-loop
-returns c = search none-stops
+loop-again : tie.Need-loop-again Inv-loop μ-loop
+loop-again c =
+    let u = c .before .before .before in
+    none-more _ _ _ _ (u .before .loop .inv) (u .loop-test .taken) _ (c .before .is-struck .ensures) (c .if1 .left)
 
 returns-2 : tie.Need-returns-2 Inv-loop μ-loop
 returns-2 c = search none-ends
@@ -25,7 +27,7 @@ none-struck-spec =
     μ-loop
     (λ c. search none-starts)
     (λ c. search needs) (λ c. search needs) (λ c. search needs) (λ c. search needs) (λ c κs. search needs)
-    returns
+    (λ c. search none-stops)
     (λ c. search needs) (λ c. search needs)
-    (λ c. search none-more)
+    loop-again
     returns-2)

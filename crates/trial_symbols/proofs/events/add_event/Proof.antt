@@ -35,7 +35,7 @@ append-requires : tie.Need-append-requires
 append-requires c κs =
     let e = c .before .before .before .before .before in
     let s = entry (e .before .before) in
-    (s .pre .0, s .pre .1, omega arith, line-language (e .e .given .1) (s .args .s .now) (s .pre .2))
+    (s .pre .0, s .pre .1, omega arith, omega (arith, line-language (e .e .given .1) (s .args .s .now) (s .pre .2)))
 
 returns : tie.Need-returns
 unfolding add-event
