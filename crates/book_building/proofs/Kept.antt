@@ -20,6 +20,7 @@ use Rattle.pattern.specs.Storing.{stored, stored-byte, negated-from}
 use Rattle.classes.specs.declared.Class.{Class}
 use Rattle.classes.specs.declared.Class.the-variants.{Exact, Escaped, NonStar, Star, All}
 use Rattle.classes.specs.Classes.{class-number, class-of}
+use Rattle.classes.proofs.ClassNumbers.{class-few}
 use Rattle.storing.specs.Keeping.{Keep, kept, refused, inside-kept, keep, keep-as, keep-glob, keep-when}
 use Rattle.storing.proofs.Keeping.{bytes, keep-few}
 use Rattle.book.specs.Books.{edition-of, frame-with, new-line, regular}
@@ -92,13 +93,6 @@ keep-fine e t = go (over token-limit t)
     go : (x : Bool) → Kept-fine e (cond x (refused too-long) (keep-as e (class-of t) (inside-kept t)))
     go true = tt
     go false = as-fine e (class-of t) (inside-kept t)
-
-pub class-few : (k : Class) → class-number k ≤ all-class
-class-few Exact = omega arith
-class-few Escaped = omega arith
-class-few NonStar = omega arith
-class-few Star = omega arith
-class-few All = omega arith
 
 -- ---- a line of what is kept
 -- in a Regular book

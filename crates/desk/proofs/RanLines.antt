@@ -1,7 +1,7 @@
 -- What the release desk answers to a line of its input: command by command, and where there is no room. d is the buffer that was lent for it, l what is left
 -- there, and k how many bytes were put. Assumes nothing.
 use Prim.Native.Nat.{ℕ, _+_, _-_, _<_, _≤_}
-use mathlib.Core.Path.{_≡_, refl, sym, ap, _∙_}
+use mathlib.Core.Path.{_≡_, refl, sym, ap}
 use mathlib.Core.List.{List, [], _∷_}
 use mathlib.Core.Bool.{Bool, true, false}
 use native.Mathlib.Omega.{arith}
@@ -53,7 +53,7 @@ pub shown-suffices : (c : Counts) (n : ℕ) → shown-room c ≤ n → answer-ro
 unfolding shown-room
 shown-suffices c n h = omega arith
 
--- ---- the line t, for which there is none
+-- ---- the line t, for which there is no room
 pub not-answered : (c : Counts) (b : Buffers) (t d : List ℕ) → length d < shown-room c + length t → Runs-line c b t d (not-run c) d b
 unfolding line-ran line-printed line-leaves has-room
 not-answered c b t d h = rw (lt-leb (shown-room c + length t) (length d) h) (refl, refl, refl)

@@ -15,10 +15,11 @@ use Rattle.matching.specs.declared.Tried.{Tried}
 use Rattle.pattern.specs.Patterns.{refusal}
 use Rattle.matching.specs.Tests.{match-of}
 use Rattle.classes.specs.declared.Class.{Class}
-use Rattle.classes.specs.declared.Class.the-variants.{Exact, Escaped, NonStar, Star, All}
+use Rattle.classes.specs.declared.Class.the-variants.{Escaped}
 use Rattle.storing.specs.declared.Stored.{Stored}
 use Rattle.storing.specs.declared.Stored.the-variants.{As, Refused}
 use Rattle.classes.specs.Classes.{class-number, class-of}
+use Rattle.classes.proofs.ClassNumbers.{class-few}
 use Rattle.storing.specs.Keeping.{unescape, Keep, kept, refused, keep}
 use Rattle.storing.specs.Answers.{Stores, keep-answer}
 use Rattle.glob_match.specs.Answers.{answer-told, class-told, length-told, match-told, match-when, store-told, unasked-told}
@@ -34,13 +35,6 @@ told-long (kept j b) m {k} {n} e = by (leb (length b) m) e
     by true e = cc
     by false e = let z : _≡_ {A = ℕ} 0 1 = cc in absurd (omega arith)
 told-long (refused j) m e = let z : _≡_ {A = ℕ} 0 1 = cc in absurd (omega arith)
-
-class-few : (k : Class) → class-number k ≤ all-class
-class-few Exact = omega arith
-class-few Escaped = omega arith
-class-few NonStar = omega arith
-class-few Star = omega arith
-class-few All = omega arith
 
 -- ---- the class
 module _ (t : List ℕ) where

@@ -30,7 +30,7 @@ byte-within [] i h = absurd (omega arith)
 byte-within (b ∷ s) zero h = omega arith
 byte-within (b ∷ s) (suc i) h = omega (arith, byte-within s i h)
 
--- within the text, whatever stands past its end
+-- a byte within the text is the same, whatever is read past its end
 pub byte-any : (s : List ℕ) (i d e : ℕ) → i < length s → getD s i d ≡ getD s i e
 byte-any s i d e h =
     let a = drop-cons s i d h in

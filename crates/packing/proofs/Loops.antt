@@ -42,21 +42,21 @@ module _ {d l : List ℕ} {i : ℕ} (z : Cleared d l i) where
       ∙ rw (n, zero-add, drop-length, append-nil) (take-all (length d) (zeros (length d)) (omega arith))
 
 -- ---- whether the rest is zero: what is left from i on decides
-pub record Decides (s : List ℕ) (from i : ℕ) : Type 0 where
+pub record Zeros-left (s : List ℕ) (from i : ℕ) : Type 0 where
   pub rest : all-zero (drop from s) ≡ all-zero (drop i s)
 
 -- at first all is left
-pub zero-starts : {s : List ℕ} {from : ℕ} → Decides s from from
+pub zero-starts : {s : List ℕ} {from : ℕ} → Zeros-left s from from
 zero-starts = record { rest = refl }
 
-module _ {s : List ℕ} {from i : ℕ} (z : Decides s from i) where
+module _ {s : List ℕ} {from i : ℕ} (z : Zeros-left s from i) where
   -- a number that is not zero answers no
   pub zero-stops : i < length s → (getD s i 0 ≡ 0 → ⊥) → false ≡ all-zero (drop from s)
   unfolding all-zero every
   zero-stops h f = sym (z .rest ∙ rw (drop-cons s i 0 h, ne-eqb (getD s i 0) 0 f))
 
   -- behind a zero the rest decides
-  pub zero-more : i < length s → getD s i 0 ≡ 0 → Decides s from (i + 1)
+  pub zero-more : i < length s → getD s i 0 ≡ 0 → Zeros-left s from (i + 1)
   unfolding all-zero every
   zero-more h e = record { rest = z .rest ∙ rw (add-one, drop-cons s i 0 h, e) }
 

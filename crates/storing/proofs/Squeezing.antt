@@ -15,11 +15,11 @@ use lib.Seq.{drop-drop}
 use Rattle.lists.specs.Front.{front}
 use Rattle.lists.proofs.FrontLaws.{Written, written-start, written-room, written-more, written-end}
 use Rattle.numbers.specs.declared.Edition.{Edition}
-use Rattle.pattern.specs.Patterns.{between, element, opened}
+use Rattle.pattern.specs.Patterns.{between, opened}
 use Rattle.pattern.specs.Post.{mark-as}
 use Rattle.pattern.specs.Storing.{stored-byte, negated-from, stored}
 use Rattle.pattern.specs.Runs.{squeezed, squeezed-past}
-use Rattle.pattern.proofs.BracketExits.{mark-few, between-few}
+use Rattle.pattern.proofs.BracketExits.{mark-few, bracket-fits}
 use Rattle.pattern.proofs.Runs.{element-bracket, element-other}
 use Rattle.pattern_check.proofs.Negations.{token-more}
 use Rattle.storing.specs.declared.runs.Walk.{Walk}
@@ -37,11 +37,14 @@ module _ (t : List ℕ) (i m : ℕ) (token : Bool) (k : m ≡ mark-as token (dro
   from-fits f = omega (arith, marked)
 
   module _ (e : Edition) (x : ℕ) (l : x ≡ length (between e (drop (i + 1 + m) t))) where
-    pub part-fits : Fits w64 (length t) → Fits w64 (m + x)
-    part-fits f = omega (arith, marked, between-few e (drop (i + 1 + m) t), length-drop (i + 1 + m) t)
+    lies : m + x ≤ length (drop (i + 1) t)
+    lies = bracket-fits e token (drop (i + 1) t) k (rw drop-drop l)
 
-    pub bracket-fits : Fits w64 (length t) → Fits w64 (m + x + 1)
-    bracket-fits f = omega (arith, marked, between-few e (drop (i + 1 + m) t), length-drop (i + 1 + m) t)
+    pub part-fits : Fits w64 (length t) → Fits w64 (m + x)
+    part-fits f = omega (arith, lies, length-drop (i + 1) t)
+
+    pub past-fits : Fits w64 (length t) → Fits w64 (m + x + 1)
+    past-fits f = omega (arith, lies, length-drop (i + 1) t)
 
 pub bracket-is : (e : Edition) (t : List ℕ) (i m x : ℕ) → m ≡ mark-as true (drop (i + 1) t) → x ≡ length (between e (drop (i + 1 + m) t))
     → m + x + 1 ≡ bracket-more e (drop (i + 1) t)

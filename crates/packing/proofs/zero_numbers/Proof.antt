@@ -3,12 +3,12 @@ use Prim.Native.Nat.{_-_}
 use native.Mathlib.Omega.{arith}
 use borrow.Author.Needs.{needs}
 use lib.ListN.{length}
-use Rattle.packing.proofs.Loops.{Decides, zero-starts, zero-stops, zero-more, zero-ends}
+use Rattle.packing.proofs.Loops.{Zeros-left, zero-starts, zero-stops, zero-more, zero-ends}
 use Rattle.packing.proofs.zero_numbers.Statement.{statement}
 use Rattle.packing.proofs.zero_numbers.Tie as tie
 
 abbrev Inv-loop : tie.InvT-loop
-Inv-loop rows from i₀ i = Decides rows from i
+Inv-loop rows from i₀ i = Zeros-left rows from i
 
 abbrev μ-loop : tie.MeasureT-loop
 μ-loop rows from i₀ i = length rows - i

@@ -12,6 +12,7 @@ node-begins-requires c κs =
     node-asks (a .s .now) (a .g) (a .nodes .now) (a .names .now) (a .lines .now) (a .pool .now) (s .pre .0) (a .e) _ _ (s .pre .1) (s .pre .2)
     (c .before .before .before .e .given .1)
 
+-- sections and languages go up to 1 alike, so that this asks nothing of their order
 line-stands-requires : tie.Need-line-stands-requires
 line-stands-requires c κs =
     let s = c .before .before .before .before .before .before .before .before .before .before in

@@ -10,7 +10,7 @@ use Rattle.book.specs.Layout.{line-width, row-of-line, standing-code}
 use Rattle.book_rooms.proofs.Putting.{room-limit}
 use Rattle.book_rooms.proofs.Rows.{row-number, row-within}
 use Rattle.book_building.proofs.LineEvents.{line-added, line-ends, line-refused, line-rowless}
-use Rattle.book_building.proofs.Kept.{class-few}
+use Rattle.classes.proofs.ClassNumbers.{class-few}
 use Rattle.book_building.proofs.lines.take_line.Statement.{statement}
 use Rattle.book_building.proofs.lines.take_line.Tie as tie
 

@@ -13,7 +13,7 @@ Inv-loop frame lines pool n p raw demangled edition best₀ line₀ i₀ best li
 abbrev μ-loop : tie.MeasureT-loop
 μ-loop frame lines pool n p raw demangled edition best₀ line₀ i₀ best line i = n - i
 
--- a line that is matched is ahead of the best
+-- a line that is held against the name is ahead of the best
 ahead : (c : tie.Else1 Inv-loop μ-loop) → c .before .rank-of .result < c .before .before .before .before .before .loop .best
 ahead c = omega (arith, c .if1 .left)
 

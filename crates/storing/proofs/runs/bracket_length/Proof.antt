@@ -1,7 +1,7 @@
 -- `bracket_length` meets its contract. Assumes nothing.
 use native.Mathlib.Omega.{arith}
 use borrow.Author.Needs.{needs}
-use Rattle.storing.proofs.Squeezing.{from-fits, part-fits, bracket-fits, bracket-is}
+use Rattle.storing.proofs.Squeezing.{from-fits, part-fits, past-fits, bracket-is}
 use Rattle.storing.proofs.runs.bracket_length.Statement.{statement}
 use Rattle.storing.proofs.runs.bracket_length.Tie as tie
 
@@ -17,5 +17,5 @@ bracket-length-spec =
     (λ c. search (from-fits, arith))
     (λ c κs. search needs)
     (λ c. search (part-fits, arith))
-    (λ c. search (bracket-fits, arith))
+    (λ c. search (past-fits, arith))
     returns)

@@ -15,7 +15,7 @@ use Rattle.book.specs.View.{book-of}
 use Rattle.book.proofs.Views.{Layout, laid-packs}
 use Rattle.book_rooms.specs.Rooms.{edit-row, fits-row}
 use Rattle.book_rooms.proofs.Rows.{edit-refusal, edit-within, row-number, row-within}
-use Rattle.book_building.proofs.Kept.{class-few}
+use Rattle.classes.proofs.ClassNumbers.{class-few}
 use Rattle.trial_add.proofs.Appending.{append-editless, append-ends, append-made, append-refused, append-rowless, pool-asked}
 use Rattle.trial_add.proofs.adding.append.Statement.{statement}
 use Rattle.trial_add.proofs.adding.append.Tie as tie
