@@ -5,9 +5,6 @@ use Rattle.reading_bodies.proofs.Deciding.{byte-is, goes, taken, ways}
 use Rattle.reading_bodies.proofs.script_at.Statement.{statement}
 use Rattle.reading_bodies.proofs.script_at.Tie as tie
 
-add-move-to : tie.Need-add-move-to
-add-move-to c = search (ways, byte-fits)
-
 returns : tie.Need-returns
 unfolding script-at
 returns c = search (taken, byte-is, goes)
@@ -18,7 +15,7 @@ script-at-spec =
     tie.close
     (tie.spec
     (λ c κs. search ways)
-    add-move-to
+    (λ c. search (ways, byte-fits))
     (λ c κs. search ways)
     returns
     (λ c κs. search ways) (λ c. search ways))

@@ -54,9 +54,6 @@ returns-3 c =
     let d = c .before .before in
     strike-past _ _ _ _ (d .before .before .before .is-book .ensures) (d .before .before .if1 .left) (d .if2 .left) (c .if3 .taken)
 
-returns-4 : tie.Need-returns-4
-returns-4 c = strike-struck (told (c .before .before .before)) _ (c .before .is-struck .ensures) (c .if4 .taken)
-
 returns-5 : tie.Need-returns-5
 returns-5 c =
     let d = c .before .before .before .before in
@@ -80,7 +77,7 @@ strike-spec =
     (λ c. search needs) (λ c. search needs) (λ c. search needs)
     (λ c. strike-line-room (told (c .before)))
     (λ c κs. search needs) (λ c. search needs) (λ c. search needs)
-    returns-4
+    (λ c. strike-struck (told (c .before .before .before)) _ (c .before .is-struck .ensures) (c .if4 .taken))
     (λ c. search needs) (λ c κs. search needs) (λ c. search needs) (λ c. search needs)
     returns-5
     (λ c. omega (arith, roomy c .stands))

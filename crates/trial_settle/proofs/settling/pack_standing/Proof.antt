@@ -20,11 +20,6 @@ turn c =
     let u = c .before .before .before in
     sift-fits (u .before .loop .inv) (u .loop-test .taken)
 
-loop-again : tie.Need-loop-again Inv-loop μ-loop
-loop-again c =
-    let u = c .before .before .before .before .before in
-    sift-skips (u .before .loop .inv) (u .loop-test .taken) (c .before .is-struck .ensures) (c .if1 .taken)
-
 add-written : tie.Need-add-written Inv-loop μ-loop
 add-written c = omega (arith, turn (c .before .before .before .before .before .before .before .before .before .before))
 
@@ -53,7 +48,8 @@ pack-standing-spec =
     (λ c. omega (arith, turn c))
     (λ c. omega (arith, turn c))
     (λ c. omega arith) (λ c κs. omega arith) (λ c. omega arith)
-    loop-again
+    (λ c. let u = c .before .before .before .before .before in
+    sift-skips (u .before .loop .inv) (u .loop-test .taken) (c .before .is-struck .ensures) (c .if1 .taken))
     (λ c. omega arith)
     (λ c. omega (arith, turn (c .before .before .before)))
     (λ c κs. omega arith)
