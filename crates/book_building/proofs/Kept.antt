@@ -1,12 +1,11 @@
 -- What is kept of a token is as a book's line asks: a kept glob stands, All has no bytes, and no line is longer than a token may be. Assumes
 -- nothing.
 use Prim.Native.Nat.{ℕ, _≤_, _<_}
-use mathlib.Core.Path.{_≡_, refl, ap, ap₂}
-use mathlib.Core.List.{List, [], _∷_}
+use mathlib.Core.Path.{_≡_, refl, ap}
+use mathlib.Core.List.{List}
 use mathlib.Core.Bool.{Bool, true, false, cond, not, _||_}
-use native.Mathlib.Decide.{ℕ-discrete}
 use native.Mathlib.Omega.{arith}
-use borrow.Author.Tests.{eq-eqb, ne-eqb, eqb-true, le-leb, lt-ltb}
+use borrow.Author.Tests.{eq-eqb, eqb-true, le-leb, lt-ltb}
 use lib.Dec.{eqb}
 use lib.ListN.{length}
 use Rattle.numbers.specs.Classes.{all-class, nonstar-class, star-class}
@@ -16,7 +15,8 @@ use Rattle.numbers.specs.Refusals.{too-long}
 use Rattle.lists.proofs.SameLaws.{same-refl}
 use Rattle.numbers.specs.declared.Edition.{Edition}
 use Rattle.pattern.specs.Patterns.{refusal}
-use Rattle.pattern.specs.Storing.{stored, stored-byte, negated-from}
+use Rattle.pattern.specs.Storing.{stored}
+use Rattle.pattern.proofs.Stored.{stored-twice}
 use Rattle.classes.specs.declared.Class.{Class}
 use Rattle.classes.specs.declared.Class.the-variants.{Exact, Escaped, NonStar, Star, All}
 use Rattle.classes.specs.Classes.{class-number, class-of}
@@ -25,34 +25,6 @@ use Rattle.storing.specs.Keeping.{Keep, kept, refused, inside-kept, keep, keep-
 use Rattle.storing.proofs.Keeping.{bytes, keep-few}
 use Rattle.book.specs.Books.{edition-of, frame-with, new-line, regular}
 use Rattle.book.specs.Sanity.{content-good, glob-stands, in-range, kind-allows, line-ok}
-
--- ---- storing twice changes nothing
-byte-twice : (b : Bool) (c : ℕ) → stored-byte b (stored-byte b c) ≡ stored-byte b c
-unfolding stored-byte
-byte-twice false c = refl
-byte-twice true c = go (ℕ-discrete c 94)
-  where
-    go : Dec (c ≡ 94) → stored-byte true (stored-byte true c) ≡ stored-byte true c
-    go (yes h) = rw h
-    go (no n) = rw (ne-eqb c 94 n, ne-eqb c 94 n)
-
-byte-opens : (b : Bool) (c : ℕ) → eqb (stored-byte b c) 91 ≡ eqb c 91
-unfolding stored-byte
-byte-opens false c = refl
-byte-opens true c = go (ℕ-discrete c 94)
-  where
-    go : Dec (c ≡ 94) → eqb (stored-byte true c) 91 ≡ eqb c 91
-    go (yes h) = rw h
-    go (no n) = rw (ne-eqb c 94 n)
-
-negated-twice : (b : Bool) (s : List ℕ) → negated-from b (negated-from b s) ≡ negated-from b s
-unfolding negated-from
-negated-twice b [] = refl
-negated-twice b (c ∷ s) = rw (byte-opens b c) (ap₂ (λ (x : ℕ) (l : List ℕ). x ∷ l) (byte-twice b c) (negated-twice (eqb c 91) s))
-
-pub stored-twice : (e : Edition) (t : List ℕ) → stored e (stored e t) ≡ stored e t
-unfolding stored
-stored-twice e t = negated-twice false t
 
 -- ---- what is kept, by its class
 abbrev Fine : Edition → Class → List ℕ → Type 0

@@ -1,60 +1,26 @@
 -- The exits of the checks of one line, from its numbers and its bytes. The premises are what the code has learned.
 -- Assumes nothing.
-use Prim.Native.Nat.{ℕ, _+_, _/_, _≤_, _<_}
-use mathlib.Core.Path.{_≡_, refl, sym, _∙_}
+use Prim.Native.Nat.{ℕ, _/_, _≤_, _<_}
+use mathlib.Core.Path.{_≡_}
 use mathlib.Core.List.{List, []}
 use mathlib.Core.Bool.{Bool, true, false, not, and-false}
-use native.Mathlib.Numerals.{add-one}
 use native.Mathlib.Omega.{arith}
 use borrow.Author.Tests.{eq-eqb, ne-eqb, le-leb, lt-leb, lt-ltb, le-ltb, not-true, not-false}
 use lib.Dec.{eqb}
-use lib.ListN.{length, drop, getD, drop-of-length-le}
-use lib.Seq.{drop-cons}
+use lib.ListN.{length}
 use Rattle.numbers.specs.Classes.{all-class, exact-class, nonstar-class, star-class}
 use Rattle.numbers.specs.Limits.{token-limit}
 use Rattle.numbers.specs.Marks.{general, global, local}
-use Rattle.numbers.specs.Signs.{caret, opening-bracket}
 use Rattle.lists.specs.Same.{same}
 use Rattle.numbers.specs.declared.Edition.{Edition}
 use Rattle.pattern.specs.Patterns.{refusal}
-use Rattle.pattern.specs.Storing.{stored, negated-from, stored-byte}
+use Rattle.pattern.specs.Storing.{stored}
 use Rattle.book.specs.declared.Frame.{Frame}
 use Rattle.book.specs.Books.{edition-of, export, rust}
 use Rattle.book.specs.Layout.{class-in, language-in, line-of, section-in, struck-mark}
 use Rattle.book.specs.Sanity.{bare-star, content-good, glob-stands, in-range, kind-allows, line-ok}
 
--- ---- a glob that storing leaves as it is: what is left from i on decides; `b` says that a `[` stands just before i
-pub record Unchanged (s : List ℕ) (i : ℕ) (b : Bool) : Type 0 where
-  pub rest : same (negated-from false s) s ≡ same (negated-from b (drop i s)) (drop i s)
-
--- a byte that is no `^` stays as it is
-plain : (s : List ℕ) (i : ℕ) → i < length s → (getD s i 0 ≡ caret → ⊥) → (b : Bool)
-    → same (negated-from b (drop i s)) (drop i s) ≡ same (negated-from (eqb (getD s i 0) opening-bracket) (drop (i + 1) s)) (drop (i + 1) s)
-unfolding same negated-from stored-byte
-plain s i h f true = rw (add-one, drop-cons s i 0 h, ne-eqb (getD s i 0) caret f, eq-eqb (getD s i 0) (getD s i 0) refl)
-plain s i h f false = rw (add-one, drop-cons s i 0 h, eq-eqb (getD s i 0) (getD s i 0) refl)
-
-pub stored-starts : (s : List ℕ) → Unchanged s 0 false
-stored-starts s = record { rest = refl }
-
-module _ (s : List ℕ) (i : ℕ) (b : Bool) (z : Unchanged s i b) where
-  -- `[^`
-  pub stored-stops : (e : Edition) → i < length s → b ≡ true → getD s i 0 ≡ caret → false ≡ same (stored e s) s
-  unfolding same stored negated-from stored-byte
-  stored-stops e h t c = sym (z .rest ∙ rw (drop-cons s i 0 h, t, c))
-
-  pub stored-plain : i < length s → (getD s i 0 ≡ caret → ⊥) → Unchanged s (i + 1) (eqb (getD s i 0) opening-bracket)
-  stored-plain h f = record { rest = z .rest ∙ plain s i h f b }
-
-  -- no `[` stands before the byte
-  pub stored-first : i < length s → b ≡ false → Unchanged s (i + 1) (eqb (getD s i 0) opening-bracket)
-  unfolding same negated-from stored-byte
-  stored-first h t = record { rest = z .rest ∙ rw (add-one, drop-cons s i 0 h, t, eq-eqb (getD s i 0) (getD s i 0) refl) }
-
-  pub stored-ends : (e : Edition) → length s ≤ i → true ≡ same (stored e s) s
-  unfolding same stored negated-from
-  stored-ends e h = sym (z .rest ∙ rw (drop-of-length-le s h))
-
+-- ---- a glob that storing leaves as it is
 module _ (e : Edition) (s : List ℕ) (n : ℕ) (k : n ≡ refusal e s) where
   pub glob-refused : (n ≡ 0 → ⊥) → false ≡ glob-stands e s
   unfolding glob-stands

@@ -4,9 +4,7 @@ ghost use mathlib.Core.Path.{_≡_};
 ghost use mathlib.Core.List.{[]};
 ghost use Prim.Native.Nat.{_*_, _≤_};
 ghost use lib.ListN.{length};
-ghost use Rattle.lists.specs.Same.{same};
 ghost use Rattle.packing.specs.Tables.{fine, packs, things};
-ghost use Rattle.pattern.specs.Storing.{stored};
 ghost use Rattle.book.specs.Layout.{line-form, line-of, line-width};
 ghost use Rattle.book.specs.Sanity.{bare-star, content-good, glob-stands, in-range, kind-allows, line-ok, some-star};
 use book::EXPORT;
@@ -29,25 +27,7 @@ use numbers::TOKEN_LIMIT;
 use packing::zero_bytes;
 use packing::zero_numbers;
 use pattern_check::pattern_refusal;
-
-// Whether no `[^` stands in a glob, which storing would change.
-fn is_as_stored(edition: Edition, glob: &[u8]) -> bool
-    ensures { λ r. ⌜ r ≡ same (stored edition (now (glob .entry))) (now (glob .entry)) ⌝ }
-{
-    let mut i = 0;
-    let mut opened = false;
-    while i < glob.len() {
-        let c = glob[i];
-        if opened {
-            if c == b'^' {
-                return false;
-            }
-        }
-        opened = c == b'[';
-        i += 1;
-    }
-    true
-}
+use storing::runs::is_as_stored;
 
 fn glob_stands(edition: Edition, glob: &[u8]) -> bool
     ensures { λ r. ⌜ r ≡ glob-stands edition (now (glob .entry)) ⌝ }

@@ -14,7 +14,8 @@ use Rattle.numbers.specs.Limits.{over, script-limit, token-limit}
 use Rattle.numbers.specs.Refusals.{bad-extern, bad-pattern, glob-not-utf8, no-room, too-long, unclosed, unknown-parent, unreadable}
 use Rattle.utf8.specs.Utf8.{chars, utf8}
 use Rattle.numbers.specs.declared.Edition.{Edition}
-use Rattle.pattern.specs.Patterns.{refusal, shaped-from}
+use Rattle.lists.specs.Pieces.{sound}
+use Rattle.pattern.specs.Patterns.{element, refusal}
 use Rattle.pattern.specs.Storing.{stored}
 use Rattle.classes.specs.declared.Class.{Class}
 use Rattle.classes.specs.declared.Class.the-variants.{Exact, Escaped, NonStar, Star, All}
@@ -51,7 +52,7 @@ Says-declined (declined n p) = Says n
 
 glob-says : (e : Edition) (k : Class) (t : List ℕ) → Kept-says (keep-glob e k t)
 unfolding keep-glob keep-when refusal
-glob-says e k t = go (utf8 (stored e t)) (shaped-from e false (chars (stored e t)))
+glob-says e k t = go (utf8 (stored e t)) (sound (element e) (chars (stored e t)))
   where
     go : (x y : Bool)
         → Kept-says (cond (eqb (cond x (cond y 0 bad-pattern) glob-not-utf8) 0) (kept k (stored e t)) (refused (cond x (cond y 0 bad-pattern) glob-not-utf8)))

@@ -12,8 +12,9 @@ use Rattle.linker_script.specs.Skip.{blank, move, skip-past, skip}
 use Rattle.linker_script.specs.Trim.{white, trim-end}
 use Rattle.utf8.specs.Utf8.{scalar, character, none, when, tail, two, three, four, starts, read, chars, utf8}
 use Rattle.pattern.specs.Patterns.{holds, some-holds, member, inside, between, takes, bracketed, opened, element, elements}
-use Rattle.pattern.specs.Patterns.{ended, first, somewhere, matches, adjacent-from, shaped-from, refusal}
-use Rattle.pattern.specs.Storing.{stored-byte, negated-from, stored}
+use Rattle.pattern.specs.Patterns.{ended, first, somewhere, matches, refusal}
+use Rattle.pattern.specs.Runs.{squeezed-past, squeezed}
+use Rattle.pattern.specs.Storing.{stored-byte, negated-from, negated, stored}
 use Rattle.classes.specs.Classes.{quoted, unquoted, lone-star, nonstar, scanned, scan, class-of}
 use Rattle.storing.specs.Keeping.{unescaped, unescape, keep-when, keep-glob, keep-as, inside-kept, keep}
 use Rattle.reading_tokens.specs.Tokens.{begins, named, name-in, to-semicolon, to-brace, to-either, bare-extern-end, bare-end, bare-skip}
@@ -46,8 +47,8 @@ use Rattle.trial.specs.Symbols.{add-event, add-events, add-reading, symbol-aske
 unfoldable pub keeping : ℕ
 unfolding codes pieces pieces-past sound sound-past same any every
     scalar character none when tail two three four starts read chars utf8
-    holds some-holds member inside between takes bracketed opened element elements ended first somewhere matches adjacent-from shaped-from refusal
-    stored-byte negated-from stored
+    holds some-holds member inside between takes bracketed opened element elements ended first somewhere matches refusal
+    squeezed-past squeezed stored-byte negated-from negated stored
     quoted unquoted lone-star nonstar scanned scan class-of
     unescaped unescape keep-when keep-glob keep-as inside-kept keep
 keeping = 0

@@ -1,2 +1,3 @@
 pub mod Computing
 pub mod Theorem
+pub mod RunTheorem

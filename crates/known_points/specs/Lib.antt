@@ -1,2 +1,3 @@
 pub mod Tables
 pub mod KnownPoints
+pub mod RunPoints

@@ -1,2 +1,3 @@
-// The known points of document 01, as one table (specs/KnownPoints.antt) under one theorem about the definitions (proofs/Theorem.antt); and how any table of
-// known points is told (specs/Tables.antt) and proved (proofs/Computing.antt). No code.
+// The known points of document 01, as one table (specs/KnownPoints.antt) under one theorem about the definitions (proofs/Theorem.antt); those of request 01 of
+// document 02, runs of stars, as another (specs/RunPoints.antt, proofs/RunTheorem.antt); and how any table of known points is told (specs/Tables.antt) and
+// proved (proofs/Computing.antt). No code.

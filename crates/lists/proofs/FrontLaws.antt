@@ -46,6 +46,9 @@ module _ {A : Type 0} where
     pub written-end : r ≡ [] → l ≡ front w d
     written-end e = z .list ∙ rw (← z .whole, e, append-nil)
 
+    pub written-count : r ≡ [] → n ≡ length w
+    written-count e = omega (arith, ap length (z .whole), length-append (z .so-far) r, z .count, ap length e)
+
     pub written-room : length w ≤ length d → 0 < length r → n < length l
     written-room fits h = omega (arith, ap length (z .whole), length-append (z .so-far) r, z .count, z .long)
 

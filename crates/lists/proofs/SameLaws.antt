@@ -1,12 +1,13 @@
 -- `same` is equality. Assumes nothing.
 use Prim.Native.Nat.{ℕ}
-use mathlib.Core.Path.{_≡_, refl, ap₂}
+use mathlib.Core.Path.{_≡_, refl, sym, ap, ap₂}
 use mathlib.Core.List.{List, [], _∷_}
-use mathlib.Core.Bool.{true, false≢true}
+use mathlib.Core.Bool.{true, false, false≢true}
 use lib.Dec.{eqb}
+use lib.ListN.{length}
 use borrow.Author.Tests.{eqb-true, eq-eqb}
 use Rattle.lists.specs.Same.{same}
-use Rattle.lists.proofs.Tests.{both}
+use Rattle.lists.proofs.Tests.{both, fails}
 
 -- lists that are the same are equal
 pub same-equal : (l m : List ℕ) → same l m ≡ true → l ≡ m
@@ -23,3 +24,7 @@ pub same-refl : (l : List ℕ) → same l l ≡ true
 unfolding same
 same-refl [] = refl
 same-refl (x ∷ l) = rw (eq-eqb x x refl) (same-refl l)
+
+-- lists of other lengths are not
+pub same-lengths : (l m : List ℕ) → (length l ≡ length m → ⊥) → false ≡ same l m
+same-lengths l m f = sym (fails (λ t. f (ap length (same-equal l m t))))

@@ -47,7 +47,7 @@ fn say_reading(no: u32) {
         return say(b"a pattern that is not UTF-8\n");
     }
     if no == 6 {
-        return say(b"a bracket that is not closed, or two `*` side by side\n");
+        return say(b"a bracket that is not closed\n");
     }
     if no == 7 {
         return say(b"a parent that no earlier node is\n");

@@ -21,7 +21,7 @@ bad-extern = 4
 abbrev pub glob-not-utf8 : ℕ
 glob-not-utf8 = 5
 
--- "bracket not closed, or adjacent `*` outside one"
+-- "bracket not closed", and 02, request 01: "6 now means an unclosed bracket only"
 abbrev pub bad-pattern : ℕ
 bad-pattern = 6
 

@@ -66,10 +66,6 @@ module _ {s : List ℕ} {from i : ℕ} (z : Zeros-left s from i) where
   zero-ends h = sym (z .rest ∙ rw (drop-of-length-le s h))
 
 -- ---- whether two lists are the same: lists of one length that are equal from i on
--- lists of two lengths are not the same
-pub same-lengths : (a b : List ℕ) → (length a ≡ length b → ⊥) → false ≡ same a b
-same-lengths a b f = sym (fails (λ t. f (ap length (same-equal a b t))))
-
 pub record Alike (a b : List ℕ) (i : ℕ) : Type 0 where
   pub long : length a ≡ length b
   pub within : i ≤ length a

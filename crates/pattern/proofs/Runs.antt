@@ -1,5 +1,5 @@
 -- Runs of stars, squeezed (`squeezed` of specs/Runs.antt). What is kept has the elements of what was given, without the stars behind a star, so that it
--- matches the same names; it is well formed where that is; squeezed again it stays; and its characters are those of the bytes, squeezed.
+-- matches the same names; it is well formed where that is; it has no run, and what has none stays; and its characters are those of the bytes, squeezed.
 -- Proved by a walk that goes over bytes, or characters, one after the other, and remembers where it stands: outside brackets, or where in one.
 -- Assumes nothing.
 use Prim.Native.Nat.{ℕ, zero, suc, _+_, _≤_}
@@ -10,13 +10,13 @@ use native.Mathlib.Omega.{arith}
 use borrow.Author.Tests.{ne-eqb, eqb-true, lt-ltb}
 use lib.Dec.{eqb, ltb, leb·suc-suc}
 use lib.ListN.{length, getD, drop}
-use Rattle.lists.proofs.Tests.{both}
+use Rattle.lists.proofs.Tests.{both, neither}
 use Rattle.lists.specs.Pieces.{piece, pieces, pieces-past, sound, sound-past}
 use Rattle.numbers.specs.declared.Edition.{Edition}
 use Rattle.utf8.specs.Utf8.{chars, utf8}
 use Rattle.utf8.proofs.Changes.{Change, changed, Ascii-only, chars-changed, utf8-changed}
 use Rattle.pattern.specs.Patterns.{Element, star, one, any-one, literal, inside, between, member, Taker, bracket, bracketed, opened, element, elements, somewhere, first, takes, matches}
-use Rattle.pattern.specs.Runs.{squeezed-past, squeezed, runless}
+use Rattle.pattern.specs.Runs.{squeezed-past, squeezed, runless, has-run}
 use Rattle.pattern.specs.Storing.{stored-byte, negated-from}
 
 -- ---- the walk
@@ -271,6 +271,41 @@ module _ (e : Edition) where
     unfolding squeezed sound
     sound-squeezed = squeezes s .good 0
 
+-- ---- they have no run; and where there is none all stays
+pub runless-apart : (b : Bool) (p : List Element) → has-run b (runless b p) ≡ false
+unfolding has-run runless
+runless-apart b [] = refl
+runless-apart true (star ∷ p) = runless-apart true p
+runless-apart false (star ∷ p) = runless-apart true p
+runless-apart b (one m ∷ p) = runless-apart false p
+
+-- no star just before makes no run
+apart-behind : (b : Bool) (p : List Element) → has-run b p ≡ false → has-run false p ≡ false
+unfolding has-run
+apart-behind b [] h = refl
+apart-behind b (star ∷ p) h = neither b (has-run true p) h .1
+apart-behind b (one m ∷ p) h = h
+
+module _ (e : Edition) where
+  apart-stays : (k : ℕ) (b : Bool) (s : List ℕ) → has-run b (pieces-past (element e) k s) ≡ false → squeezed-past e k b s ≡ s
+  unfolding squeezed-past pieces-past has-run
+  apart-stays zero b [] h = refl
+  apart-stays (suc k) b [] h = refl
+  apart-stays (suc k) b (c ∷ s) h = ap (_∷_ c) (apart-stays k false s (apart-behind b (pieces-past (element e) k s) h))
+  apart-stays zero b (c ∷ s) h = go (eqb c 42) refl (apart-stays 0 true s) (apart-stays (element e c s .more) false s)
+    where
+      go : (t : Bool) → eqb c 42 ≡ t → (has-run true (pieces-past (element e) 0 s) ≡ false → squeezed-past e 0 true s ≡ s)
+          → (has-run false (pieces-past (element e) (element e c s .more) s) ≡ false → squeezed-past e (element e c s .more) false s ≡ s)
+          → cond t (cond b (squeezed-past e 0 true s) (c ∷ squeezed-past e 0 true s)) (c ∷ squeezed-past e (element e c s .more) false s) ≡ c ∷ s
+      go true q k l =
+          let n = neither b (has-run true (pieces-past (element e) 0 s)) (rw (element-star e c s q) at h) in
+          rw (n .0) (ap (_∷_ c) (k (n .1)))
+      go false q k l = ap (_∷_ c) (l (rw (element-taking e c s q .is) at h))
+
+  pub squeezed-stays : (s : List ℕ) → has-run false (pieces (element e) s) ≡ false → squeezed e s ≡ s
+  unfolding squeezed pieces
+  squeezed-stays s = apart-stays 0 false s
+
 -- ---- and they match the same: a run of stars means what one star means
 somewhere-by : (f g : List ℕ → Bool) → ((s : List ℕ) → f s ≡ g s) → (s : List ℕ) → somewhere f s ≡ somewhere g s
 unfolding somewhere
@@ -313,6 +348,20 @@ matches-as (one m ∷ p) =
 -- for every pattern and every name
 pub runless-matches : (p : List Element) (s : List ℕ) → matches (runless false p) s ≡ matches p s
 runless-matches p = matches-as p .behind-one
+
+-- ---- it is no longer
+pub squeezed-few : (e : Edition) (k : ℕ) (b : Bool) (s : List ℕ) → length (squeezed-past e k b s) ≤ length s
+unfolding squeezed-past
+squeezed-few e zero b [] = omega arith
+squeezed-few e (suc k) b [] = omega arith
+squeezed-few e (suc k) b (c ∷ s) = omega (arith, squeezed-few e k false s)
+squeezed-few e zero b (c ∷ s) = go (eqb c 42) b (squeezed-few e 0 true s) (squeezed-few e (element e c s .more) false s)
+  where
+    go : (t b : Bool) → length (squeezed-past e 0 true s) ≤ length s → length (squeezed-past e (element e c s .more) false s) ≤ length s
+        → length (cond t (cond b (squeezed-past e 0 true s) (c ∷ squeezed-past e 0 true s)) (c ∷ squeezed-past e (element e c s .more) false s)) ≤ length (c ∷ s)
+    go true true h k = omega arith
+    go true false h k = omega arith
+    go false b h k = omega arith
 
 -- ---- squeezed again it stays
 module _ (q : Place) (c : ℕ) (s : List ℕ) where

@@ -1,6 +1,7 @@
 -- Patterns, as 01 has them under 'Classes and patterns'. "Patterns work on characters": a pattern's bytes are read as characters (`utf8`), these as
 -- elements, and the elements match the characters of a name. How a pattern is spelled is known to `element` and what stands above it here, and to
--- `stored` of Storing.antt; both take the edition (02, request 06), of which there is one. What matches what knows elements only.
+-- what is stored of one (Storing.antt, Runs.antt): `element`, `negated` and `squeezed` take the edition (02, request 06), of which there is one. What matches
+-- what knows elements only.
 -- Assumes nothing.
 use Prim.Native.Nat.{ℕ, _+_}
 use mathlib.Core.List.{List, [], _∷_}
@@ -104,19 +105,9 @@ matches (star ∷ p) s = somewhere (matches p) s
 matches (one m ∷ p) s = first (takes m) (matches p) s
 
 -- ---- what is refused
--- whether two stars stand side by side; `b` says that one stands just before
-unfoldable pub adjacent-from : Bool → List Element → Bool
-adjacent-from b [] = false
-adjacent-from b (star ∷ p) = b || adjacent-from true p
-adjacent-from b (one m ∷ p) = adjacent-from false p
-
--- each bracket is closed, and no two stars stand side by side outside one, of the characters s; `b` says that a star stands just before
-unfoldable pub shaped-from : Edition → Bool → List ℕ → Bool
-shaped-from e b s = sound (element e) s && not (adjacent-from b (pieces (element e) s))
-
--- "bracket not closed, or adjacent `*` outside one", of the characters s; 0 where it is not so
+-- 02, request 01: "6 now means an unclosed bracket only", of the characters s; 0 where each is closed
 abbrev pub shape-refusal : Edition → List ℕ → ℕ
-shape-refusal e s = cond (shaped-from e false s) 0 bad-pattern
+shape-refusal e s = cond (sound (element e) s) 0 bad-pattern
 
 -- "glob not UTF-8", then that
 unfoldable pub refusal : Edition → List ℕ → ℕ

@@ -1,10 +1,10 @@
--- Runs of stars, as 02 will have them stored (request 01): "a run outside a bracket is kept as one star". Nothing is stored so yet, and 6 refuses them.
+-- Runs of stars (02, request 01): "a run outside a bracket is kept as one star".
 -- Proved of these definitions (proofs/Runs.antt), for every text and name: what is kept has the elements of what was given, without the stars behind a
--- star, and matches the same names; squeezed again it stays; its characters are those of the text, squeezed.
+-- star, and matches the same names; it has no run, and squeezed again it stays; its characters are those of the text, squeezed.
 -- Assumes nothing.
 use Prim.Native.Nat.{ℕ, zero, suc}
 use mathlib.Core.List.{List, [], _∷_}
-use mathlib.Core.Bool.{Bool, true, false, cond}
+use mathlib.Core.Bool.{Bool, true, false, cond, _||_}
 use lib.Dec.{eqb}
 use Rattle.numbers.specs.Signs.{asterisk}
 use Rattle.numbers.specs.declared.Edition.{Edition}
@@ -26,3 +26,9 @@ unfoldable pub runless : Bool → List Element → List Element
 runless b [] = []
 runless b (star ∷ p) = cond b (runless true p) (star ∷ runless true p)
 runless b (one m ∷ p) = one m ∷ runless false p
+
+-- whether two stars stand side by side among elements; `b` says that one stands just before
+unfoldable pub has-run : Bool → List Element → Bool
+has-run b [] = false
+has-run b (star ∷ p) = b || has-run true p
+has-run b (one m ∷ p) = has-run false p

@@ -1,5 +1,5 @@
--- A bracket of a token, read as it stands and as it is stored, of characters: both close at the same place, and behind it the one is what is stored of the
--- other. Where the stored bracket has the mark `!`, the token has `!` or `^`.
+-- A bracket of a token, read as it stands and with each `[^` as `[!`, of characters: both close at the same place, and behind it the same has become of the
+-- rest. Where the changed bracket has the mark `!`, the token has `!` or `^`.
 -- Assumes nothing.
 use Prim.Native.Nat.{ℕ, suc, _+_, _<_}
 use mathlib.Core.Path.{_≡_, refl, sym, ap, _∙_}
@@ -18,6 +18,7 @@ use Rattle.numbers.specs.declared.Edition.{Edition}
 use Rattle.pattern.specs.Patterns.{inside, between, Element, bracketed, opened}
 use Rattle.pattern.specs.Storing.{stored-byte, negated-from}
 use Rattle.pattern.specs.Post.{mark-as}
+use Rattle.pattern.proofs.Stored.{length-negated, sign-stored}
 use Rattle.pattern_check.specs.Post.{chars-as}
 
 -- what follows the mark of a bracket, of what follows its `[`
@@ -86,24 +87,10 @@ mark-same (c ∷ s) = go (ℕ-discrete c 94) (ℕ-discrete c 33)
     go (no n) (no k) = simp (ne-eqb c 94 n, ne-eqb c 33 k)
 
 -- ---- what stands between is as long, and behind the `]` no `[` stands just before
-closes-stored : (b : Bool) (c : ℕ) → eqb (stored-byte b c) 93 ≡ eqb c 93
-unfolding stored-byte
-closes-stored false c = refl
-closes-stored true c = go (ℕ-discrete c 94)
-  where
-    go : Dec (c ≡ 94) → eqb (stored-byte true c) 93 ≡ eqb c 93
-    go (yes h) = rw h
-    go (no n) = rw (ne-eqb c 94 n)
-
-length-stored : (b : Bool) (s : List ℕ) → length (negated-from b s) ≡ length s
-unfolding negated-from
-length-stored b [] = refl
-length-stored b (c ∷ s) = ap suc (length-stored (eqb c 91) s)
-
 inside-stored : (b : Bool) (s : List ℕ) → length (inside (negated-from b s)) ≡ length (inside s)
 unfolding negated-from inside
 inside-stored b [] = refl
-inside-stored b (c ∷ s) = rw (closes-stored b c) (go (eqb c 93) (inside-stored (eqb c 91) s))
+inside-stored b (c ∷ s) = rw (sign-stored 93 refl refl b c) (go (eqb c 93) (inside-stored (eqb c 91) s))
   where
     go : (t : Bool) → length (inside (negated-from (eqb c 91) s)) ≡ length (inside s)
         → length (cond t [] (stored-byte b c ∷ inside (negated-from (eqb c 91) s))) ≡ length (cond t [] (c ∷ inside s))
@@ -128,7 +115,7 @@ module _ (e : Edition) where
 
   closed-stored : (token b : Bool) (s : List ℕ) → closed e (chars-as token b s) ≡ closed e s
   closed-stored false b s = refl
-  closed-stored true b s = rw (between-stored, length-stored)
+  closed-stored true b s = rw (between-stored, length-negated)
 
   past-between : (b : Bool) (s : List ℕ) → drop (length (between e s) + 1) (negated-from b s) ≡ negated-from false (behind e s)
   unfolding negated-from between

@@ -1,5 +1,6 @@
--- Storing a token and reading its characters commute: the characters of the stored bytes are the token's characters, stored, and the stored bytes are
--- UTF-8 where the token is. A byte that changes is ASCII, before and after, so no longer character does.
+-- Making each `[^` into `[!` and reading characters commute: the characters of the changed bytes are the token's characters, changed, and the bytes are UTF-8
+-- where the token is. A byte that changes is ASCII, before and after, so no longer character does. Of runs of stars pattern/proofs/Runs.antt says the same, so
+-- what is refused of a token is asked of its characters with each `[^` as `[!`.
 -- Assumes nothing.
 use Prim.Native.Nat.{ℕ, _<_, _≤_}
 use mathlib.Core.Path.{_≡_, refl}
@@ -11,7 +12,9 @@ use lib.Dec.{eqb}
 use Rattle.utf8.specs.Utf8.{chars, utf8}
 use Rattle.utf8.proofs.Changes.{Change, changed, Ascii-only, chars-changed, utf8-changed}
 use Rattle.numbers.specs.declared.Edition.{Edition}
-use Rattle.pattern.specs.Storing.{stored-byte, negated-from, stored, read-as}
+use Rattle.pattern.specs.Patterns.{refusal, shape-refusal}
+use Rattle.pattern.specs.Storing.{stored-byte, negated-from, negated, stored, read-as}
+use Rattle.pattern.proofs.Runs.{chars-squeezed, sound-squeezed, utf8-squeezed}
 use Rattle.pattern_check.specs.Post.{chars-as}
 
 -- ---- the change: nothing is dropped, and a place says whether a `[` stands just before
@@ -55,14 +58,8 @@ module _ (b : Bool) (s : List ℕ) where
   pub utf8-stored : utf8 (negated-from b s) ≡ utf8 s
   utf8-stored = rw (negated-changed b s) (utf8-changed negation-ascii b s)
 
--- ---- of a token that is still to be stored, and of what is stored
-module _ (e : Edition) where
-  pub chars-read : (token : Bool) (p : List ℕ) → chars (read-as e token p) ≡ chars-as token false (chars p)
-  unfolding stored
-  chars-read true p = chars-stored false p
-  chars-read false p = refl
-
-  pub utf8-read : (token : Bool) (p : List ℕ) → utf8 (read-as e token p) ≡ utf8 p
-  unfolding stored
-  utf8-read true p = utf8-stored false p
-  utf8-read false p = refl
+-- ---- what is refused of a token that is still to be stored, and of what is stored: runs of stars do not matter
+pub refusal-read : (e : Edition) (token : Bool) (p : List ℕ) → refusal e (read-as e token p) ≡ cond (utf8 p) (shape-refusal e (chars-as token false (chars p))) 5
+unfolding refusal stored negated
+refusal-read e true p = rw (utf8-squeezed, chars-squeezed, sound-squeezed, chars-stored, utf8-stored)
+refusal-read e false p = refl

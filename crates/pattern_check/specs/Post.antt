@@ -13,7 +13,7 @@ use Rattle.pattern.specs.Storing.{negated-from}
 use Rattle.pattern_check.specs.declared.Closing.{Closing}
 use Rattle.pattern_check.specs.declared.Closing.the-variants.{Behind, Open}
 
--- the characters that are asked, as `read-as` has the bytes; `b` says that a `[` stands just before
+-- the characters that are asked, of a token each `[^` as `[!`; `b` says that a `[` stands just before
 abbrev pub chars-as : Bool → Bool → List ℕ → List ℕ
 chars-as true b s = negated-from b s
 chars-as false b s = s

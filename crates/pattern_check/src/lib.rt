@@ -1,5 +1,5 @@
-// What is refused of a pattern: bytes that are not UTF-8; a bracket that is not closed, or stars side by side outside a bracket. It is asked of the
-// bytes that are, or will be, stored. Of a token these are not written yet, so the walk reads a `^` behind `[` as the `!` that it becomes.
+// What is refused of a pattern: bytes that are not UTF-8, or a bracket that is not closed. It is asked of the bytes that are, or will be, stored. Of a token
+// these are not written yet, so the walk reads a `^` behind `[` as the `!` that it becomes; runs of stars close no bracket and open none.
 ghost use mathlib.Core.Path.{_≡_};
 ghost use mathlib.Core.Bool.{false};
 ghost use Prim.Native.Nat.{_≤_};
@@ -32,26 +32,15 @@ fn closing_of(edition: Edition, p: &[u8], at: usize, token: bool) -> Closing
     Closing::Behind(end + 1)
 }
 
-// 6, or 0 where the brackets are closed and the stars apart.
+// 6, or 0 where the brackets are closed.
 fn shape_refusal(edition: Edition, p: &[u8], token: bool) -> u32
     ensures { λ r. ⌜ r ≡ shape-refusal edition (chars-as token false (chars (now (p .entry)))) ⌝ }
 {
     let mut at = 0;
-    let mut starred = false;
     while at < p.len() {
         let f = utf8::character_at(p, at);
-        let c = f.number;
         let next = f.next;
-        if c == 42 {
-            if starred {
-                return BAD_PATTERN;
-            }
-            starred = true;
-            at = next;
-            continue;
-        }
-        starred = false;
-        if c != 91 {
+        if f.number != 91 {
             at = next;
             continue;
         }

@@ -1,5 +1,5 @@
 // Replays worked examples of verlist's input (data/cases.txt) against render_listing, in verlist's own room. Prints the line of each whose output is
-// not the one that was derived by hand from document 01, with what came instead; then how many are the same and how many are not. A case is two
+// not the one that was derived by hand from documents 01 and 02, with what came instead; then how many are the same and how many are not. A case is two
 // lines, the input behind `< ` and the whole output behind `> `; lines that begin otherwise say what the cases are about. In both,
 //     \n \r \t \f     are those bytes
 //     \x and two hex digits of small letters is a byte

@@ -1,9 +1,11 @@
 -- What a function answers and leaves in a lent buffer d, exit by exit. Assumes nothing.
 use Prim.Native.Nat.{ℕ, _<_, _≤_}
-use mathlib.Core.Path.{_≡_, refl, _∙_}
+use mathlib.Core.Path.{_≡_, refl, sym, _∙_}
 use mathlib.Core.List.{List, [], _++_}
+use mathlib.Core.Bool.{Bool, true, false, not}
 use native.Mathlib.Omega.{arith}
-use borrow.Author.Tests.{le-leb, lt-leb}
+use borrow.Author.Tests.{le-leb, leb-true, lt-leb, not-false, not-true}
+use lib.Dec.{leb}
 use lib.ListN.{length, take, drop}
 use lib.Seq.{take-length}
 use Rattle.lists.specs.Front.{front}
@@ -17,7 +19,7 @@ use Rattle.storing.specs.declared.Stored.{Stored}
 use Rattle.storing.specs.declared.Stored.the-variants.{As, Refused}
 use Rattle.storing.specs.Keeping.{Keep, kept, keep-glob}
 use Rattle.storing.specs.Answers.{keep-answer, keep-buffer}
-use Rattle.storing.proofs.Keeping.{length-stored, glob-refused, glob-kept}
+use Rattle.storing.proofs.Keeping.{glob-refused, glob-kept}
 
 module _ (d : List ℕ) where
   -- the bytes b, which are n
@@ -53,17 +55,25 @@ module _ (d : List ℕ) where
       taken : keep-glob e k t ≡ kept k (stored e t)
       taken = glob-kept e k t n q z
 
-      pub glob-full-answer : length d < length t → Refused 8 ≡ keep-answer (keep-glob e k t) (length d)
-      glob-full-answer h = rw taken (search (full-answer, length-stored))
+      -- and r what `has_room` does
+      module _ (r : Bool) (l : r ≡ leb (length (stored e t)) (length d)) where
+        pub glob-full-answer : not r ≡ true → Refused 8 ≡ keep-answer (keep-glob e k t) (length d)
+        unfolding keep-answer
+        glob-full-answer h = rw (taken, ← l, not-true r h)
 
-      pub glob-full-buffer : length d < length t → d ≡ keep-buffer (keep-glob e k t) d
-      glob-full-buffer h = rw taken (search (full-buffer, length-stored))
+        pub glob-full-buffer : not r ≡ true → d ≡ keep-buffer (keep-glob e k t) d
+        unfolding keep-buffer
+        glob-full-buffer h = rw (taken, ← l, not-true r h)
 
-      pub glob-room-answer : length t ≤ length d → As k (length t) ≡ keep-answer (keep-glob e k t) (length d)
-      glob-room-answer h = rw taken (search (room-answer, length-stored))
+        module _ (h : not r ≡ false) where
+          pub glob-fits : length (stored e t) ≤ length d
+          glob-fits = leb-true (length (stored e t)) (length d) (sym l ∙ not-false r h)
 
-      pub glob-room-buffer : length t ≤ length d → (d′ : List ℕ) → d′ ≡ front (stored e t) d → d′ ≡ keep-buffer (keep-glob e k t) d
-      glob-room-buffer h d′ f = rw taken (search (room-buffer, length-stored))
+          pub glob-room-answer : (m : ℕ) → m ≡ length (stored e t) → As k m ≡ keep-answer (keep-glob e k t) (length d)
+          glob-room-answer m q = rw taken (room-answer k (stored e t) m q (omega (arith, q, glob-fits)))
+
+          pub glob-room-buffer : (d′ : List ℕ) → d′ ≡ front (stored e t) d → d′ ≡ keep-buffer (keep-glob e k t) d
+          glob-room-buffer d′ f = rw taken (room-buffer k (stored e t) (length (stored e t)) refl glob-fits d′ f)
 
   -- nothing is stored
   module _ (x : Keep) (q : x ≡ kept All []) where

@@ -1,7 +1,7 @@
--- What is kept of a token: its bytes without their escapes, or with each `[^` as `[!`, byte by byte; by its class, and where it is refused; and that it is
--- no longer than the token and has its class. Assumes nothing.
+-- What is kept of a token: its bytes without their escapes, or with each `[^` as `[!`, byte by byte (runs of stars: Squeezing.antt); by its class, and where
+-- it is refused; and that it is no longer than the token and has its class. Assumes nothing.
 use Prim.Native.Nat.{ℕ, suc, _+_, _-_, _<_, _≤_}
-use mathlib.Core.Path.{_≡_, refl, sym, ap, _∙_}
+use mathlib.Core.Path.{_≡_, refl, ap, _∙_}
 use mathlib.Core.List.{List, [], _∷_}
 use mathlib.Core.Bool.{Bool, true, false, cond}
 use native.Mathlib.Nat.{add-assoc}
@@ -15,7 +15,10 @@ use Rattle.numbers.specs.Limits.{over, token-limit}
 use Rattle.numbers.specs.Refusals.{too-long}
 use Rattle.lists.specs.Pieces.{piece}
 use Rattle.lists.proofs.PiecesLaws.{pieces-cons, pieces-end, pieces-few}
-use Rattle.pattern.specs.Storing.{stored, stored-byte, negated-from}
+use Rattle.pattern.specs.Storing.{stored, stored-byte, negated, negated-from}
+use Rattle.pattern.specs.Runs.{squeezed}
+use Rattle.pattern.proofs.Runs.{squeezed-few}
+use Rattle.pattern.proofs.Stored.{length-negated}
 use Rattle.numbers.specs.declared.Edition.{Edition}
 use Rattle.pattern.specs.Patterns.{refusal}
 use Rattle.classes.specs.declared.Class.{Class}
@@ -96,21 +99,9 @@ pub negated-here : (b : Bool) (s : List ℕ) (i : ℕ) → i < length s → (x :
 unfolding negated-from
 negated-here b s i h x e = rw (byte-here s i h, e)
 
-pub negated-end : (b : Bool) (s : List ℕ) (i : ℕ) → length s ≤ i → negated-from b (drop i s) ≡ []
-unfolding negated-from
-negated-end b s i h = rw (drop-of-length-le s h)
-
-length-negated : (b : Bool) (s : List ℕ) → length (negated-from b s) ≡ length s
-unfolding negated-from
-length-negated b [] = refl
-length-negated b (c ∷ s) = ap suc (length-negated (eqb c 91) s)
-
-pub negated-fits : (s d : List ℕ) → length s ≤ length d → length (negated-from false s) ≤ length d
-negated-fits s d h = rw length-negated h
-
-pub length-stored : (e : Edition) (s : List ℕ) → length s ≡ length (stored e s)
-unfolding stored
-length-stored e s = sym (length-negated false s)
+pub stored-few : (e : Edition) (s : List ℕ) → length (stored e s) ≤ length s
+unfolding stored negated squeezed
+stored-few e s = omega (arith, squeezed-few e 0 false (negated-from false s), length-negated false s)
 
 -- ---- a glob; n is what `pattern_refusal` answers
 module _ (e : Edition) (k : Class) (t : List ℕ) (n : ℕ) (q : n ≡ refusal e (stored e t)) where
@@ -189,7 +180,7 @@ unfolding keep-glob keep-when
 glob-few e k t = few (eqb (refusal e (stored e t)) 0)
   where
     few : (x : Bool) → length (bytes (cond x (kept k (stored e t)) (refused (refusal e (stored e t))))) ≤ length t
-    few true = omega (arith, length-stored e t)
+    few true = omega (arith, stored-few e t)
     few false = omega arith
 
 as-few : (e : Edition) (k : Class) (t : List ℕ) → length (bytes (keep-as e k t)) ≤ length t

@@ -1,32 +1,36 @@
 -- A walk over a glob token's bytes, where `[^` becomes `[!` and runs of stars are squeezed: what one step puts, how many bytes are kept, and that they
--- stand at a buffer's front. Assumes nothing.
+-- stand at a buffer's front; and whether all are. Assumes nothing.
 use Prim.Native.Nat.{ℕ, zero, suc, _+_, _-_, _<_, _≤_}
-use mathlib.Core.Path.{_≡_, refl, ap, _∙_}
-use mathlib.Core.List.{List, [], _∷_}
-use mathlib.Core.Bool.{Bool, true, false, cond}
+use mathlib.Core.Path.{_≡_, refl, sym, ap, ap₂, _∙_}
+use mathlib.Core.List.{List, [], _∷_, _++_}
+use mathlib.Core.Bool.{Bool, true, false, not, cond, _&&_, and-false, false≢true}
 use native.Mathlib.Decide.{ℕ-discrete}
 use native.Mathlib.Omega.{arith}
-use borrow.Author.Tests.{eq-eqb, ne-eqb}
+use borrow.Author.Tests.{eq-eqb, eqb-true, le-leb, ne-eqb, not-true}
 use mir.Syntax.{w64}
 use mir.Val.{Fits}
-use lib.Dec.{eqb}
-use lib.ListN.{length, getD, set, drop, length-drop, drop-of-length-le}
+use lib.Dec.{eqb, leb}
+use lib.ListN.{length, getD, set, take, drop, length-drop, drop-of-length-le}
 use lib.Seq.{drop-drop}
 use Rattle.lists.specs.Front.{front}
-use Rattle.lists.proofs.FrontLaws.{Written, written-start, written-room, written-more, written-end}
+use Rattle.lists.specs.Same.{same}
+use Rattle.lists.proofs.SameLaws.{same-lengths, same-refl}
+use Rattle.lists.proofs.Tests.{both}
+use Rattle.lists.proofs.FrontLaws.{Written, written-start, written-room, written-more, written-end, written-count}
 use Rattle.numbers.specs.declared.Edition.{Edition}
-use Rattle.pattern.specs.Patterns.{between, opened}
+use Rattle.pattern.specs.Patterns.{between, element, opened}
 use Rattle.pattern.specs.Post.{mark-as}
-use Rattle.pattern.specs.Storing.{stored-byte, negated-from, stored}
+use Rattle.pattern.specs.Storing.{stored-byte, negated-from, negated, stored}
 use Rattle.pattern.specs.Runs.{squeezed, squeezed-past}
 use Rattle.pattern.proofs.BracketExits.{mark-few, bracket-fits}
-use Rattle.pattern.proofs.Runs.{element-bracket, element-other}
+use Rattle.pattern.proofs.Runs.{element-bracket, element-other, squeezed-few}
+use Rattle.pattern.proofs.Stored.{length-negated, sign-stored}
 use Rattle.pattern_check.proofs.Negations.{token-more}
 use Rattle.storing.specs.declared.runs.Walk.{Walk}
 use Rattle.storing.specs.declared.runs.Step.{Step}
-use Rattle.storing.specs.Runs.{kept-run}
-use Rattle.storing.specs.Post.{kept-from, kept-step, put-by, bracket-more}
-use Rattle.storing.proofs.Keeping.{negated-here}
+use Rattle.storing.specs.Post.{at-start, bracket-more, kept-from, kept-step, pair, plain, plain-from, put-by}
+use Rattle.storing.proofs.Answers.{copied}
+use Rattle.storing.proofs.Keeping.{byte-here, negated-here, stored-few}
 
 -- ---- `bracket_length`: the mark behind the `[` at i takes m bytes, and what stands between x
 module _ (t : List ℕ) (i m : ℕ) (token : Bool) (k : m ≡ mark-as token (drop (i + 1) t)) (h : i < length t) where
@@ -50,24 +54,80 @@ pub bracket-is : (e : Edition) (t : List ℕ) (i m x : ℕ) → m ≡ mark-as tr
     → m + x + 1 ≡ bracket-more e (drop (i + 1) t)
 bracket-is e t i m x k l = rw (← k, drop-drop, l)
 
--- ---- a byte as it is stored is a star, or a `[`, where it was one
-star-stored : (b : Bool) (c : ℕ) → eqb (stored-byte b c) 42 ≡ eqb c 42
-unfolding stored-byte
-star-stored false c = refl
-star-stored true c = go (ℕ-discrete c 94)
-  where
-    go : Dec (c ≡ 94) → eqb (stored-byte true c) 42 ≡ eqb c 42
-    go (yes h) = rw h
-    go (no n) = rw (ne-eqb c 94 n)
+-- ---- `is_plain`: what is left from i on decides, behind the byte p
+pub record Plain (t : List ℕ) (p i : ℕ) : Type 0 where
+  pub rest : plain t ≡ plain-from p (drop i t)
 
-bracket-stored : (b : Bool) (c : ℕ) → eqb (stored-byte b c) 91 ≡ eqb c 91
-unfolding stored-byte
-bracket-stored false c = refl
-bracket-stored true c = go (ℕ-discrete c 94)
+pub plain-none : (t : List ℕ) → Plain t 0 0
+plain-none t = record { rest = refl }
+
+module _ {t : List ℕ} {p i : ℕ} (z : Plain t p i) where
+  pub plain-all : length t ≤ i → true ≡ plain t
+  unfolding plain-from
+  plain-all h = sym (z .rest ∙ rw (drop-of-length-le t h))
+
+  module _ (h : i < length t) (r : Bool) (q : r ≡ pair p (getD t i 0)) where
+    paired : plain t ≡ (not r && plain-from (getD t i 0) (drop (i + 1) t))
+    unfolding plain-from
+    paired = z .rest ∙ rw (q, byte-here t i h)
+
+    pub plain-stops : r ≡ true → false ≡ plain t
+    plain-stops k = sym (paired ∙ rw k)
+
+    pub plain-more : r ≡ false → Plain t (getD t i 0) (i + 1)
+    plain-more k = record { rest = paired ∙ rw k }
+
+-- ---- and such a token is kept as it stands, in each edition and wherever its brackets are
+plain-here : (p c : ℕ) (s : List ℕ) → plain-from p (c ∷ s) ≡ true → (pair p c ≡ false) × (plain-from c s ≡ true)
+unfolding plain-from
+plain-here p c s h = let k = both (not (pair p c)) (plain-from c s) h in (not-true (pair p c) (k .0), k .1)
+
+plain-negated : (p : ℕ) (s : List ℕ) → plain-from p s ≡ true → negated-from (eqb p 91) s ≡ s
+unfolding negated-from stored-byte pair
+plain-negated p [] h = refl
+plain-negated p (c ∷ s) h = let k = plain-here p c s h in ap₂ (λ (x : ℕ) (l : List ℕ). x ∷ l) (go (ℕ-discrete c 94) (k .0)) (plain-negated c s (k .1))
   where
-    go : Dec (c ≡ 94) → eqb (stored-byte true c) 91 ≡ eqb c 91
-    go (yes h) = rw h
-    go (no n) = rw (ne-eqb c 94 n)
+    go : Dec (c ≡ 94) → pair p c ≡ false → stored-byte (eqb p 91) c ≡ c
+    go (yes q) k = let n : eqb p 91 ≡ false = rw q at k in rw n
+    go (no n) k = rw (ne-eqb c 94 n, and-false (eqb p 91))
+
+module _ (e : Edition) where
+  plain-squeezed : (p k : ℕ) (b : Bool) (s : List ℕ) → plain-from p s ≡ true → (b ≡ true → p ≡ 42) → squeezed-past e k b s ≡ s
+  unfolding squeezed-past pair
+  plain-squeezed p zero b [] h q = refl
+  plain-squeezed p (suc k) b [] h q = refl
+  plain-squeezed p (suc k) b (c ∷ s) h q = ap (_∷_ c) (plain-squeezed c k false s (plain-here p c s h .1) (λ x. absurd (false≢true x)))
+  plain-squeezed p zero b (c ∷ s) h q =
+      let k = plain-here p c s h in
+      go (eqb c 42) refl b q (k .0) (plain-squeezed c 0 true s (k .1)) (plain-squeezed c (element e c s .more) false s (k .1) (λ x. absurd (false≢true x)))
+    where
+      go : (t : Bool) → eqb c 42 ≡ t → (b : Bool) → (b ≡ true → p ≡ 42) → pair p c ≡ false
+          → ((true ≡ true → c ≡ 42) → squeezed-past e 0 true s ≡ s) → squeezed-past e (element e c s .more) false s ≡ s
+          → cond t (cond b (squeezed-past e 0 true s) (c ∷ squeezed-past e 0 true s)) (c ∷ squeezed-past e (element e c s .more) false s) ≡ c ∷ s
+      go true n true q k l m = absurd (false≢true (sym k ∙ rw (n, eq-eqb p 42 (q refl))))
+      go true n false q k l m = ap (_∷_ c) (l (λ x. eqb-true c 42 n))
+      go false n b q k l m = ap (_∷_ c) m
+
+  plain-stored : (t : List ℕ) → plain t ≡ true → stored e t ≡ t
+  unfolding stored negated squeezed
+  plain-stored t h = rw (plain-negated 0 t h) (plain-squeezed 0 0 false t h (λ x. absurd (false≢true x)))
+
+  -- where `is_plain` answers so
+  module _ (t : List ℕ) (r : Bool) (q : r ≡ plain t) (h : r ≡ true) where
+    whole : stored e t ≡ t
+    whole = plain-stored t (sym q ∙ h)
+
+    pub plain-unchanged : true ≡ same (stored e t) t
+    plain-unchanged = rw whole (sym (same-refl t))
+
+    pub plain-count : length t ≡ length (stored e t)
+    plain-count = rw whole
+
+    pub plain-fits : (n : ℕ) → length (stored e t) ≤ n → length t ≤ n
+    plain-fits n k = rw whole at k
+
+    pub plain-copied : (d d′ : List ℕ) → d′ ≡ take (length t) t ++ drop (length t) d → d′ ≡ front (stored e t) d
+    plain-copied d d′ k = rw whole (copied t d d′ k)
 
 -- ---- within an element a byte stays
 within-element : (e : Edition) (n : ℕ) (b : Bool) (x : ℕ) (s : List ℕ) → (n ≡ 0 → ⊥) → squeezed-past e n b (x ∷ s) ≡ x ∷ squeezed-past e (n - 1) false s
@@ -92,7 +152,7 @@ module _ (e : Edition) (t : List ℕ) (i : ℕ) (w : Walk) (h : i < length t) (x
 
     module _ (k : getD t i 0 ≡ 42) where
       is-star : eqb x 42 ≡ true
-      is-star = rw (q, star-stored (w .opened) (getD t i 0)) (eq-eqb (getD t i 0) 42 k)
+      is-star = rw (q, sign-stored 42 refl refl (w .opened) (getD t i 0)) (eq-eqb (getD t i 0) 42 k)
 
       pub step-star : kept-from e w (drop i t)
           ≡ cond (w .starred) (kept-from e (record { left = 0; starred = true; opened = eqb (getD t i 0) 91 }) (drop (i + 1) t))
@@ -102,41 +162,45 @@ module _ (e : Edition) (t : List ℕ) (i : ℕ) (w : Walk) (h : i < length t) (x
 
     module _ (n : getD t i 0 ≡ 42 → ⊥) where
       no-star : eqb x 42 ≡ false
-      no-star = rw (q, star-stored (w .opened) (getD t i 0)) (ne-eqb (getD t i 0) 42 n)
+      no-star = rw (q, sign-stored 42 refl refl (w .opened) (getD t i 0)) (ne-eqb (getD t i 0) 42 n)
 
       pub step-bracket : eqb (getD t i 0) 91 ≡ true → (m : ℕ) → m ≡ bracket-more e (drop (i + 1) t) → (r : Step) → r ≡ kept-step x m (eqb (getD t i 0) 91)
           → kept-from e w (drop i t) ≡ put-by r (kept-from e (r .then) (drop (i + 1) t))
       unfolding kept-from squeezed-past
       step-bracket k m l r z =
-          let b : eqb x 91 ≡ true = rw (q, bracket-stored (w .opened) (getD t i 0)) k in
+          let b : eqb x 91 ≡ true = rw (q, sign-stored 91 refl refl (w .opened) (getD t i 0)) k in
           rw z (outside ∙ rw (no-star, k, element-bracket e x (negated-from true (drop (i + 1) t)) b, token-more e (drop (i + 1) t), ← l))
 
       pub step-other : eqb (getD t i 0) 91 ≡ false → (r : Step) → r ≡ kept-step x 0 (eqb (getD t i 0) 91)
           → kept-from e w (drop i t) ≡ put-by r (kept-from e (r .then) (drop (i + 1) t))
       unfolding kept-from squeezed-past
       step-other k r z =
-          let b : eqb x 91 ≡ false = rw (q, bracket-stored (w .opened) (getD t i 0)) k in
+          let b : eqb x 91 ≡ false = rw (q, sign-stored 91 refl refl (w .opened) (getD t i 0)) k in
           rw z (outside ∙ rw (no-star, k, element-other e x (negated-from false (drop (i + 1) t)) no-star b))
 
 -- ---- the walk's start and its end
-pub kept-start : (e : Edition) (t : List ℕ) → kept-run e t ≡ kept-from e (record { left = 0; starred = false; opened = false }) t
-unfolding kept-run kept-from squeezed stored
+pub kept-start : (e : Edition) (t : List ℕ) → stored e t ≡ kept-from e at-start t
+unfolding kept-from squeezed stored negated
 kept-start e t = refl
 
 pub kept-end : (e : Edition) (w : Walk) (t : List ℕ) (i : ℕ) → length t ≤ i → kept-from e w (drop i t) ≡ []
 unfolding kept-from negated-from squeezed-past
 kept-end e w t i h = rw (drop-of-length-le t h)
 
+pub kept-few : (e : Edition) (w : Walk) (s : List ℕ) → length (kept-from e w s) ≤ length s
+unfolding kept-from
+kept-few e w s = omega (arith, squeezed-few e (w .left) (w .starred) (negated-from (w .opened) s), length-negated (w .opened) s)
+
 -- ---- `kept_length`: of the first i bytes n are kept, and with what is kept of the others they are all
 pub record Kept (e : Edition) (t : List ℕ) (w : Walk) (i n : ℕ) : Type 0 where
   pub few : n ≤ i
-  pub rest : length (kept-run e t) ≡ n + length (kept-from e w (drop i t))
+  pub rest : length (stored e t) ≡ n + length (kept-from e w (drop i t))
 
-pub kept-none : (e : Edition) (t : List ℕ) → Kept e t (record { left = 0; starred = false; opened = false }) 0 0
-kept-none e t = record { few = omega arith; rest = omega (arith, ap length (kept-start e t)) }
+pub kept-none : (e : Edition) (t : List ℕ) (w : Walk) → w ≡ at-start → Kept e t w 0 0
+kept-none e t w h = rw h (record { few = omega arith; rest = omega (arith, ap length (kept-start e t)) })
 
 module _ {e : Edition} {t : List ℕ} {w : Walk} {i n : ℕ} (z : Kept e t w i n) where
-  pub kept-all : length t ≤ i → n ≡ length (kept-run e t)
+  pub kept-all : length t ≤ i → n ≡ length (stored e t)
   kept-all h = omega (arith, z .rest, ap length (kept-end e w t i h))
 
   module _ (r : Step) (q : kept-from e w (drop i t) ≡ put-by r (kept-from e (r .then) (drop (i + 1) t))) where
@@ -146,18 +210,29 @@ module _ {e : Edition} {t : List ℕ} {w : Walk} {i n : ℕ} (z : Kept e t w i n
     pub kept-less : r .dropped ≡ true → Kept e t (r .then) (i + 1) n
     kept-less h = record { few = omega (arith, z .few); rest = z .rest ∙ rw (q, h) refl }
 
+-- ---- `has_room`: what is kept is no longer than the token
+module _ (e : Edition) (t : List ℕ) (room : ℕ) where
+  pub token-fits : length t ≤ room → true ≡ leb (length (stored e t)) room
+  token-fits h = sym (le-leb (length (stored e t)) room (omega (arith, stored-few e t)))
+
+  pub kept-fits : (n : ℕ) → n ≡ length (stored e t) → leb n room ≡ leb (length (stored e t)) room
+  kept-fits n q = rw q
+
 -- ---- `copy_kept`: n bytes, at the front of the buffer that was d, are what is kept of the first i
 pub record Copied (e : Edition) (t d l : List ℕ) (w : Walk) (i n : ℕ) : Type 0 where
   pub few : n ≤ i
-  pub written : Written (kept-run e t) d l n (kept-from e w (drop i t))
+  pub written : Written (stored e t) d l n (kept-from e w (drop i t))
 
-pub copied-none : (e : Edition) (t d : List ℕ) → Copied e t d d (record { left = 0; starred = false; opened = false }) 0 0
-unfolding kept-run kept-from squeezed stored
-copied-none e t d = record { few = omega arith; written = written-start }
+pub copied-none : (e : Edition) (t d : List ℕ) (w : Walk) → w ≡ at-start → Copied e t d d w 0 0
+unfolding kept-from squeezed stored negated
+copied-none e t d w h = rw h (record { few = omega arith; written = written-start })
 
 module _ {e : Edition} {t d l : List ℕ} {w : Walk} {i n : ℕ} (z : Copied e t d l w i n) where
-  pub copied-all : length t ≤ i → l ≡ front (kept-run e t) d
+  pub copied-all : length t ≤ i → l ≡ front (stored e t) d
   copied-all h = written-end (z .written) (kept-end e w t i h)
+
+  pub copied-count : length t ≤ i → n ≡ length (stored e t)
+  copied-count h = written-count (z .written) (kept-end e w t i h)
 
   pub copied-long : length l ≡ length d
   copied-long = z .written .long
@@ -168,7 +243,7 @@ module _ {e : Edition} {t d l : List ℕ} {w : Walk} {i n : ℕ} (z : Copied e t
         let k : kept-from e w (drop i t) ≡ kept-from e (r .then) (drop (i + 1) t) = q ∙ rw h in
         record { few = omega (arith, z .few); written = rw k at (z .written) }
 
-    module _ (h : r .dropped ≡ false) (fits : length (kept-run e t) ≤ length d) where
+    module _ (h : r .dropped ≡ false) (fits : length (stored e t) ≤ length d) where
       next-put : kept-from e w (drop i t) ≡ r .put ∷ kept-from e (r .then) (drop (i + 1) t)
       next-put = q ∙ rw h
 
@@ -180,3 +255,34 @@ module _ {e : Edition} {t d l : List ℕ} {w : Walk} {i n : ℕ} (z : Copied e t
         few = omega (arith, z .few);
         written = written-more (z .written) fits next-put;
       }
+
+-- ---- `is_as_stored`: what is left from i on decides
+pub record Unchanged (e : Edition) (t : List ℕ) (w : Walk) (i : ℕ) : Type 0 where
+  pub rest : same (stored e t) t ≡ same (kept-from e w (drop i t)) (drop i t)
+
+pub unchanged-none : (e : Edition) (t : List ℕ) (w : Walk) → w ≡ at-start → Unchanged e t w 0
+unchanged-none e t w h = record { rest = rw (h, kept-start e t) }
+
+module _ {e : Edition} {t : List ℕ} {w : Walk} {i : ℕ} (z : Unchanged e t w i) where
+  pub unchanged-all : length t ≤ i → true ≡ same (stored e t) t
+  unfolding same
+  unchanged-all h = sym (z .rest ∙ rw (kept-end e w t i h, drop-of-length-le t h))
+
+  module _ (h : i < length t) (r : Step) (q : kept-from e w (drop i t) ≡ put-by r (kept-from e (r .then) (drop (i + 1) t))) where
+    -- a star that goes leaves less than there is
+    pub unchanged-less : r .dropped ≡ true → false ≡ same (stored e t) t
+    unchanged-less d =
+        let k : kept-from e w (drop i t) ≡ kept-from e (r .then) (drop (i + 1) t) = q ∙ rw d in
+        let n = kept-few e (r .then) (drop (i + 1) t) in
+        same-lengths (kept-from e w (drop i t)) (drop i t) (λ l. omega (arith, l, ap length k, n, length-drop i t, length-drop (i + 1) t)) ∙ sym (z .rest)
+
+    module _ (d : r .dropped ≡ false) where
+      compared : same (stored e t) t ≡ eqb (r .put) (getD t i 0) && same (kept-from e (r .then) (drop (i + 1) t)) (drop (i + 1) t)
+      unfolding same
+      compared = z .rest ∙ rw (q, d, byte-here t i h)
+
+      pub unchanged-other : (r .put ≡ getD t i 0 → ⊥) → false ≡ same (stored e t) t
+      unchanged-other n = sym (compared ∙ rw (ne-eqb (r .put) (getD t i 0) n))
+
+      pub unchanged-more : r .put ≡ getD t i 0 → Unchanged e t (r .then) (i + 1)
+      unchanged-more n = record { rest = compared ∙ rw (eq-eqb (r .put) (getD t i 0) n) }

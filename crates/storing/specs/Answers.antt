@@ -20,3 +20,7 @@ keep-buffer x d = kept-where (λ b. leb (length b) (length d)) (λ k b. front b 
 -- both: r is answered, and d′ is what is left of the buffer d
 abbrev pub Stores : Keep → List ℕ → Stored → List ℕ → Type 0
 Stores x d r d′ = (r ≡ keep-answer x (length d)) × (d′ ≡ keep-buffer x d)
+
+-- the bytes b are copied to the front of the buffer d, of which d′ is left, and n of them are told
+abbrev pub Copies : List ℕ → List ℕ → ℕ → List ℕ → Type 0
+Copies b d n d′ = (n ≡ length b) × (d′ ≡ front b d)

@@ -35,7 +35,8 @@ kept-where fits made says (refused n) = says n
 unfoldable pub keep-when : ℕ → Class → List ℕ → Keep
 keep-when n k b = cond (eqb n 0) (kept k b) (refused n)
 
--- "A glob must be UTF-8; each `[^` is stored as `[!`." "No closing `]`: refused", and so are stars side by side: asked of what would be stored
+-- "A glob must be UTF-8; each `[^` is stored as `[!`", and 02, request 01: "a run outside a bracket is kept as one star". "No closing `]`: refused", asked of
+-- what would be stored
 unfoldable pub keep-glob : Edition → Class → List ℕ → Keep
 keep-glob e k t = keep-when (refusal e (stored e t)) k (stored e t)
 

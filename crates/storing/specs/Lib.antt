@@ -1,4 +1,3 @@
 pub mod Keeping
 pub mod Answers
-pub mod Runs
 pub mod Post

@@ -1,11 +1,11 @@
 // glob_match.rs: the bytes that are stored of a token, at the front of a lent buffer. What is refused writes nothing. `store_token` has the whole way from
 // a token to its stored bytes. It asks the token's limit; what it calls does not ask it again. Definitions: specs/Keeping.antt and specs/Answers.antt, from
-// document 01.
+// document 01 and request 01 of document 02.
 ghost use mathlib.Core.Path.{_≡_};
 ghost use Prim.Native.Nat.{_≤_};
 ghost use lib.ListN.{length};
 ghost use Rattle.lists.specs.Front.{front};
-ghost use Rattle.pattern.specs.Storing.{stored, stored-byte};
+ghost use Rattle.pattern.specs.Storing.{stored-byte};
 ghost use Rattle.storing.specs.Keeping.{unescape, kept, keep, keep-glob, keep-scanned};
 ghost use Rattle.storing.specs.Answers.{Stores};
 use classes::Class;
@@ -89,7 +89,7 @@ pub fn unescape_pattern(pattern: &[u8], out: &mut [u8]) -> Stored
     Stored::As(Class::Escaped, n)
 }
 
-// A byte of a glob as it is stored; `opened` says that a `[` stands just before it.
+// A byte of a glob, where each `[^` becomes `[!`; `opened` says that a `[` stands just before it.
 fn with_negation(opened: bool, c: u8) -> u8
     ensures { λ r. ⌜ r ≡ stored-byte opened c ⌝ }
 {
@@ -101,21 +101,8 @@ fn with_negation(opened: bool, c: u8) -> u8
     c
 }
 
-fn copy_stored(edition: Edition, src: &[u8], out: &mut [u8])
-    requires { ⌜ length (now src) ≤ length (now out) ⌝ }
-    ensures { λ r. ⌜ now (out .exit) ≡ front (stored edition (now (src .entry))) (now (out .entry)) ⌝ }
-{
-    let mut i = 0;
-    let mut opened = false;
-    while i < src.len() {
-        let c = src[i];
-        out[i] = with_negation(opened, c);
-        opened = c == b'[';
-        i += 1;
-    }
-}
-
-// A glob of the given class: its refusal, 5 or 6, or its bytes with each `[^` as `[!`.
+// A glob of the given class: its refusal, 5 or 6, or its bytes with each `[^` as `[!` and each run of stars outside
+// brackets as one.
 fn compile_glob_pattern(edition: Edition, class: Class, token: &[u8], out: &mut [u8]) -> Stored
     ensures { λ r. ⌜ Stores (keep-glob edition class (now (token .entry))) (now (out .entry)) r (now (out .exit)) ⌝ }
 {
@@ -123,11 +110,10 @@ fn compile_glob_pattern(edition: Edition, class: Class, token: &[u8], out: &mut 
     if no != 0 {
         return Stored::Refused(no);
     }
-    let n = token.len();
-    if out.len() < n {
+    if !runs::has_room(edition, token, out.len()) {
         return Stored::Refused(NO_ROOM);
     }
-    copy_stored(edition, token, out);
+    let n = runs::copy_kept(edition, token, out);
     Stored::As(class, n)
 }
 

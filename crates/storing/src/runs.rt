@@ -1,16 +1,48 @@
-// What is kept of a glob token, byte after byte, where each `[^` becomes `[!` and then a run of stars outside brackets becomes one star (specs/Runs.antt). 01
-// refuses such runs, and nothing calls this yet: request 01 of document 02 stores by it.
+// What is kept of a glob token, byte after byte: each `[^` becomes `[!`, and then a run of stars outside brackets one star (pattern/specs/Storing.antt).
 ghost use mathlib.Core.Path.{_≡_};
 ghost use Prim.Native.Nat.{_+_, _<_, _≤_};
+ghost use lib.Dec.{leb};
 ghost use lib.ListN.{length, drop};
-ghost use Rattle.lists.specs.Front.{front};
-ghost use Rattle.storing.specs.Post.{bracket-more, kept-from, kept-step, put-by};
-ghost use Rattle.storing.specs.Runs.{kept-run};
+ghost use Rattle.lists.specs.Same.{same};
+ghost use Rattle.pattern.specs.Storing.{stored};
+ghost use Rattle.storing.specs.Answers.{Copies};
+ghost use Rattle.storing.specs.Post.{at-start, bracket-more, kept-from, kept-step, pair, plain, put-by};
 use numbers::Edition;
 use pattern::bracket::between_length;
 use pattern::bracket::mark_at;
 
-// Where a walk over a token stands: how many bytes are left of the element that it is in, whether a star stands just before, and whether a `[` does.
+// Whether storing can change a byte behind another: the second of `**`, or that of `[^`.
+fn is_pair(before: u8, c: u8) -> bool
+    ensures { λ r. ⌜ r ≡ pair before c ⌝ }
+{
+    if c == b'*' {
+        return before == b'*';
+    }
+    if c == b'^' {
+        return before == b'[';
+    }
+    false
+}
+
+// Whether no two bytes of a token are such a pair. Most tokens have none, and are kept as they stand, wherever their brackets are.
+fn is_plain(token: &[u8]) -> bool
+    ensures { λ r. ⌜ r ≡ plain (now (token .entry)) ⌝ }
+{
+    let mut before = 0;
+    let mut i = 0;
+    while i < token.len() {
+        let c = token[i];
+        if is_pair(before, c) {
+            return false;
+        }
+        before = c;
+        i += 1;
+    }
+    true
+}
+
+// Where a walk over a token stands: how many bytes are left of the bracket that it is in, whether a star outside brackets stands just before, and whether a `[`
+// does.
 pub struct Walk {
     pub left: usize,
     pub starred: bool,
@@ -24,7 +56,17 @@ pub struct Step {
     pub then: Walk,
 }
 
-// How many bytes the bracket takes behind its `[`, with its `]`.
+fn start() -> Walk
+    ensures { λ r. ⌜ r ≡ at-start ⌝ }
+{
+    Walk {
+        left: 0,
+        starred: false,
+        opened: false,
+    }
+}
+
+// How many bytes the bracket takes behind its `[`, with its `]`; one that is not closed counts a byte more than there are.
 fn bracket_length(edition: Edition, token: &[u8], i: usize) -> usize
     requires { ⌜ i < length (now token) ⌝ }
     ensures { λ r. ⌜ r ≡ bracket-more edition (drop (i + 1) (now (token .entry))) ⌝ }
@@ -71,19 +113,16 @@ fn step_at(edition: Edition, token: &[u8], i: usize, w: Walk) -> Step
         };
     }
     if opened {
-        return stays(put, bracket_length(edition, token, i), opened);
+        let left = bracket_length(edition, token, i);
+        return stays(put, left, opened);
     }
     stays(put, 0, opened)
 }
 
-pub fn kept_length(edition: Edition, token: &[u8]) -> usize
-    ensures { λ r. ⌜ r ≡ length (kept-run edition (now (token .entry))) ⌝ }
+fn kept_length(edition: Edition, token: &[u8]) -> usize
+    ensures { λ r. ⌜ r ≡ length (stored edition (now (token .entry))) ⌝ }
 {
-    let mut w = Walk {
-        left: 0,
-        starred: false,
-        opened: false,
-    };
+    let mut w = start();
     let mut i = 0;
     let mut n = 0;
     while i < token.len() {
@@ -98,15 +137,27 @@ pub fn kept_length(edition: Edition, token: &[u8]) -> usize
     n
 }
 
-pub fn copy_kept(edition: Edition, token: &[u8], out: &mut [u8])
-    requires { ⌜ length (kept-run edition (now token)) ≤ length (now out) ⌝ }
-    ensures { λ r. ⌜ now (out .exit) ≡ front (kept-run edition (now (token .entry))) (now (out .entry)) ⌝ }
+// Whether there is room for what is kept of a token. It is no longer than the token, so that it is counted only where the token itself has no room.
+pub fn has_room(edition: Edition, token: &[u8], room: usize) -> bool
+    ensures { λ r. ⌜ r ≡ leb (length (stored edition (now (token .entry)))) room ⌝ }
 {
-    let mut w = Walk {
-        left: 0,
-        starred: false,
-        opened: false,
-    };
+    if token.len() <= room {
+        return true;
+    }
+    let kept = kept_length(edition, token);
+    kept <= room
+}
+
+// Puts what is kept of a token at the front of a buffer that has room for it, and answers how many bytes that are.
+pub fn copy_kept(edition: Edition, token: &[u8], out: &mut [u8]) -> usize
+    requires { ⌜ length (stored edition (now token)) ≤ length (now out) ⌝ }
+    ensures { λ r. ⌜ Copies (stored edition (now (token .entry))) (now (out .entry)) r (now (out .exit)) ⌝ }
+{
+    if is_plain(token) {
+        bytes::copy(token, out);
+        return token.len();
+    }
+    let mut w = start();
     let mut i = 0;
     let mut n = 0;
     while i < token.len() {
@@ -119,4 +170,28 @@ pub fn copy_kept(edition: Edition, token: &[u8], out: &mut [u8])
         out[n] = s.put;
         n += 1;
     }
+    n
+}
+
+// Whether storing leaves the bytes of a glob as they are: no `[^` stands among them, and outside brackets no run of stars.
+pub fn is_as_stored(edition: Edition, glob: &[u8]) -> bool
+    ensures { λ r. ⌜ r ≡ same (stored edition (now (glob .entry))) (now (glob .entry)) ⌝ }
+{
+    if is_plain(glob) {
+        return true;
+    }
+    let mut w = start();
+    let mut i = 0;
+    while i < glob.len() {
+        let here = step_at(edition, glob, i, w);
+        if here.dropped {
+            return false;
+        }
+        if here.put != glob[i] {
+            return false;
+        }
+        w = here.then;
+        i += 1;
+    }
+    true
 }

@@ -14,8 +14,9 @@ use Rattle.classes.proofs.is_lone_star
 use Rattle.classes.proofs.classify
 use Rattle.storing.proofs.unescape_pattern
 use Rattle.storing.proofs.store_token
-use Rattle.storing.proofs.runs.kept_length
+use Rattle.storing.proofs.runs.has_room
 use Rattle.storing.proofs.runs.copy_kept
+use Rattle.storing.proofs.runs.is_as_stored
 use Rattle.glob_match.proofs.exports.glob_match_class
 use Rattle.glob_match.proofs.exports.glob_match_unescape
 use Rattle.glob_match.proofs.exports.glob_match_store
@@ -63,11 +64,14 @@ unescape-pattern-unique κs a x y v w p q = (same (p .0) (q .0), λ i. tt ▹ sa
 pub store-token-unique : Unique store_token.ended store_token.Reads.Post
 store-token-unique κs a x y v w p q = (same (p .0) (q .0), λ i. tt ▹ tt ▹ same (p .1) (q .1) i ▹ tt)
 
-pub kept-length-unique : Unique kept_length.ended kept_length.Reads.Post
-kept-length-unique κs a x y v w p q = (same p q, refl)
+pub has-room-unique : Unique has_room.ended has_room.Reads.Post
+has-room-unique κs a x y v w p q = (same p q, refl)
 
 pub copy-kept-unique : Unique copy_kept.ended copy_kept.Reads.Post
-copy-kept-unique κs a x y v w p q = (refl, λ i. tt ▹ tt ▹ same p q i ▹ tt)
+copy-kept-unique κs a x y v w p q = (same (p .0) (q .0), λ i. tt ▹ tt ▹ same (p .1) (q .1) i ▹ tt)
+
+pub is-as-stored-unique : Unique is_as_stored.ended is_as_stored.Reads.Post
+is-as-stored-unique κs a x y v w p q = (same p q, refl)
 
 -- ---- glob_match
 pub glob-match-class-unique : Unique glob_match_class.ended glob_match_class.Reads.Post

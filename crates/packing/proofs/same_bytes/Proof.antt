@@ -1,7 +1,8 @@
 -- `same_bytes` meets its contract. The loop's invariant: both have one length, and are equal from i on. Assumes nothing.
 use native.Mathlib.Omega.{arith}
 use borrow.Author.Needs.{needs}
-use Rattle.packing.proofs.Loops.{Alike, same-lengths, same-starts, same-stops, same-more, same-ends}
+use Rattle.lists.proofs.SameLaws.{same-lengths}
+use Rattle.packing.proofs.Loops.{Alike, same-starts, same-stops, same-more, same-ends}
 use Rattle.packing.proofs.same_bytes.Statement.{statement}
 use Rattle.packing.proofs.same_bytes.Tie as tie
 

@@ -3,7 +3,8 @@ use Prim.Native.Nat.{_-_}
 use native.Mathlib.Omega.{arith}
 use borrow.Author.Needs.{needs}
 use lib.ListN.{length}
-use Rattle.storing.proofs.Squeezing.{Copied, copied-none, copied-less, copied-room, copied-more, copied-long, copied-all}
+use Rattle.storing.proofs.Squeezing.{Copied, copied-none, copied-less, copied-room, copied-more, copied-long, copied-all, copied-count}
+use Rattle.storing.proofs.Squeezing.{plain-fits, plain-count, plain-copied}
 use Rattle.storing.proofs.runs.copy_kept.Statement.{statement}
 use Rattle.storing.proofs.runs.copy_kept.Tie as tie
 
@@ -13,11 +14,14 @@ Inv-loop edition token out₀ w₀ i₀ n₀ out w i n = Copied edition token ou
 abbrev μ-loop : tie.MeasureT-loop
 μ-loop edition token out₀ w₀ i₀ n₀ out w i n = length token - i
 
+returns : tie.Need-returns Inv-loop μ-loop
+returns c = search (plain-count, plain-copied)
+
 loop-again-2 : tie.Need-loop-again-2 Inv-loop μ-loop
 loop-again-2 c =
     let s = c .before .before in
     let l = s .before .before in
-    copied-more (l .loop .inv) _ (s .step-at .ensures) (c .if1 .left) (l .before .before .before .pre)
+    copied-more (l .loop .inv) _ (s .step-at .ensures) (c .if2 .left) (l .before .before .before .before .before .before .pre)
 
 pub copy-kept-spec : {M : Type 1} → statement M
 copy-kept-spec =
@@ -25,6 +29,11 @@ copy-kept-spec =
     (tie.spec
     Inv-loop
     μ-loop
+    (λ c κs. search needs)
+    (λ c κs. search plain-fits)
+    (λ c. search needs)
+    returns
+    (λ c κs. search needs)
     (λ c. search copied-none)
     (λ c κs. search needs) (λ c. omega arith) (λ c. search needs)
     (λ c. search copied-less)
@@ -32,4 +41,4 @@ copy-kept-spec =
     (λ c. omega arith) (λ c. search needs)
     loop-again-2
     (λ c. search copied-long)
-    (λ c. search copied-all))
+    (λ c. search (copied-all, copied-count)))

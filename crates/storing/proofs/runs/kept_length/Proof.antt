@@ -20,6 +20,7 @@ pub kept-length-spec : {M : Type 1} → statement M
 kept-length-spec =
     tie.close
     (tie.spec Inv-loop μ-loop
+    (λ c κs. search needs)
     (λ c. search kept-none)
     (λ c κs. search needs) (λ c. omega arith) (λ c. search needs)
     loop-again

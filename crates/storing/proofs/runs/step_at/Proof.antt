@@ -4,6 +4,9 @@ use Rattle.storing.proofs.Squeezing.{step-within, step-star, step-brack
 use Rattle.storing.proofs.runs.step_at.Statement.{statement}
 use Rattle.storing.proofs.runs.step_at.Tie as tie
 
+returns : tie.Need-returns
+returns c = search step-within
+
 returns-2 : tie.Need-returns-2
 returns-2 c = search step-star
 
@@ -16,7 +19,7 @@ step-at-spec =
     (tie.spec
     (λ c. search needs) (λ c κs. search needs)
     (λ c. search needs) (λ c κs. search needs)
-    (λ c. search step-within)
+    returns
     returns-2
     (λ c κs. search needs) (λ c κs. search needs)
     returns-3
