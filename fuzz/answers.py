@@ -13,7 +13,7 @@ MEANINGS = {
     3: b'a comment that is not closed, or an extern block without its `}`',
     4: b'extern of another language than C or C++, or within an extern block',
     5: b'a pattern that is not UTF-8',
-    6: b'a bracket that is not closed, or two `*` side by side',
+    6: b'a bracket that is not closed',
     7: b'a parent that no earlier node is',
     8: b'no room is left',
     9: b'a name that is not UTF-8',
@@ -123,12 +123,12 @@ def say_place(program, number, text, errors):
 
 
 def verdicts(text, run):
-    """What may come of a text, 0 where it is accepted. Without a body or a comment only blanks are, and only as a script."""
+    """What may come of a text, 0 where it is accepted. Without a body or a comment only blanks are, and only as a script; 6 is for a bracket alone."""
     if run.verdict is not None:
         return {run.verdict}
     if not set(text) & set(b'{#/'):
         return {2} if run.words or text.strip(b' \t\r\n') else {0}
-    return {0, 2, 3, 4, 5, 6, 8} if run.words else {0, 2, 3, 4, 5, 6, 7, 8}
+    return {0, 2, 3, 4, 5, 8} | (set() if run.words else {7}) | ({6} if b'[' in text else set())
 
 
 def refused_text(program, run, printed, errors):
@@ -159,10 +159,13 @@ def verlist(run, printed, errors):
 
 def matchlist(run, printed, errors):
     token, _, names = run.given.partition(b'\n')
-    number = refused(printed, run.given, {0, 5, 6} if set(token) & set(b'*?[]') else {0})
+    glob = {0} if is_utf8(token) else {0, 5}
+    number = refused(printed, run.given, glob | ({6} if b'[' in token else set()) if set(token) & set(b'*?[]') else {0})
     if number:
         return say(errors, b'matchlist: %s\n' % MEANINGS[number])
-    printed.line(rb'(?:Exact|Escaped|NonStar|Star) [^\n]{0,%d}|All ' % len(token))
+    found = printed.line(rb'(?:Exact|Escaped|NonStar|(Star)) ([^\n]{0,%d})|All ' % len(token))
+    if found[1] and b'[' not in token and found[2] != re.sub(rb'\*+', b'*', token):
+        raise Fault(f'{token[:60]!r} is kept as {found[2][:60]!r}')
     for name in lines_of(names):
         printed.answer(name, b'yes|no' if is_utf8(name) else b'! 9')
     printed.end()

@@ -13,14 +13,15 @@ WORDS = [b'global:', b'local:', b'extern "C++" {', b'extern "C" {', b'extern ', 
          b'haze_*', b'haze_month', b'V1', b'V2', b'#', b'\n', b' ', b'\t', b'\r', b'/*', b'*/', b'%%\n', b'\n%%\n', b'@', b'a', b'b', b'\xc3\xa9', b'\xff',
          b'\0', b'**', b'-', b'^']
 # matchers and sections that every body may have
-MATCHERS = [b'a;', b'b*;', b'*;', b'c?;', b'"d*";', b'e\\*;', b'[g-h];', b'extern "C++" { f; };', b'extern "C" { g; *; };', b'/* c */ x;', b'# c\n y;',
-            b'\xff;', b'a\0;', b'a\n b;']
+MATCHERS = [b'a;', b'b*;', b'*;', b'c?;', b'"d*";', b'e\\*;', b'[g-h];', b'h**;', b'**;', b'extern "C++" { f; };', b'extern "C" { g; *; };', b'/* c */ x;',
+            b'# c\n y;', b'\xff;', b'a\0;', b'a\n b;']
 SECTIONS = [b'local: x;', b'local: *;', b'global: z;']
 RUST_KIND = b'{ a; b1; local: *; };\n'
-TOKENS = [b'a', b'b*', b'*', b'c?', b'"d*"', b'e\\*', b'[g-h]', b'[', b'**', b'', b'a ', b'\xff', b'\xff*', b'\0', b'a' * 4097]
+TOKENS = [b'a', b'b*', b'*', b'c?', b'"d*"', b'e\\*', b'[g-h]', b'[', b'**', b'i**?***', b'[^**]**', b'', b'a ', b'\xff', b'\xff*', b'\0', b'a' * 4097]
 NAMES = [b'a', b'b1', b'a@V0', b'a@V1', b'a@V9', b'a@', b'@', b'@@V0', b'', b'x', b'\xff', b'\xc3\xa9', b'cc', b'd*', b'e*', b'g', b'a\r', b'a\0', b'2 G',
          b'! 9', b'a' * 4096, b'a' * 4097, b'a@' + b'V' * 4096, b'a@' + b'V' * 4097]
-TEXTS = [b'a;', b'a', b'b*; c;', b'extern "C" { d; e; };', b'extern "C++" {};', b'extern "Ada" { d; };', b'[', b'\xff*;', b'#x', b'/*', b'', b' ', b'};']
+TEXTS = [b'a;', b'a', b'b*; c;', b'j**;', b'extern "C" { d; e; };', b'extern "C++" {};', b'extern "Ada" { d; };', b'[', b'\xff*;', b'#x', b'/*', b'', b' ',
+         b'};']
 BARE_COMMANDS = [b'undo', b'settle', b'counts', b'lines', b'dump']
 BLUNDERS = [b'', b'?', b'nonsense', b'undo ', b' undo', b'UNDO', b'undo\r', b'undo\0', b'strike', b'strike ', b'strike -1', b'strike 1 ', b'add 0 0 0',
             b'add 1 0', b'add  0 0 0 x', b'symbol', b'symbol!', b'ask', b'%%', b'! 12', b'refused 2', b'strike 4294967296', b'strike ' + b'9' * 5000,

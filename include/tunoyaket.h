@@ -53,7 +53,7 @@ extern "C" {
 #define TUNO_BAD_EXTERN 4u
 /* A glob that is not UTF-8. */
 #define TUNO_GLOB_NOT_UTF8 5u
-/* A bracket that is not closed, or adjacent `*` outside one. */
+/* A bracket that is not closed. */
 #define TUNO_BAD_PATTERN 6u
 /* Unknown parent: no earlier node has this name. */
 #define TUNO_UNKNOWN_PARENT 7u
@@ -105,7 +105,9 @@ extern "C" {
 #define TUNO_NODE_PARENT 2u
 
 /* A row of `lines`: node, code, where its bytes start in `pool`, their number. Lines are numbered
- * from 0. */
+ * from 0. The bytes are what is kept of the token: without quotes; of an escaped one without its
+ * `\`; of a glob with each `[^` as `[!`, and then a run of `*` outside brackets as one; of a lone `*`
+ * none. */
 #define TUNO_LINE_WIDTH 4u
 #define TUNO_LINE_NODE 0u
 #define TUNO_LINE_CODE 1u

@@ -439,7 +439,7 @@ static void test_refused_openings(void) {
         CHECK(refuses(function, "{ extern \"C\" { extern \"C\" { f; }; }; };", TUNO_BAD_EXTERN, 15));
         CHECK(refuses(function, "{ \xff?; };", TUNO_GLOB_NOT_UTF8, 2));
         CHECK(refuses(function, "{ f; []; };", TUNO_BAD_PATTERN, 5));
-        CHECK(refuses(function, "{ a**; };", TUNO_BAD_PATTERN, 2));
+        CHECK(refuses(function, "{ a[**; };", TUNO_BAD_PATTERN, 2));
 
         /* a text over its limit, also where nothing else is right */
         memset(text, ' ', sizeof text);
@@ -863,6 +863,65 @@ static void test_add_symbol(void) {
     CHECK(untouched_beside());
 }
 
+/* ---- runs of stars: outside brackets a run is kept as one star */
+
+static void test_runs(void) {
+    size_t length;
+
+    CHECK(stored("{ a**; };", TUNO_CLASS_STAR, "a*"));
+    CHECK(locality("abc") == 0 && value == TUNO_LOCALITY_GLOBAL);
+    CHECK(locality("b") == 0 && value == TUNO_LOCALITY_NOTHING);
+    CHECK(stored("{ **; };", TUNO_CLASS_STAR, "*"));
+    CHECK(locality("") == 0 && value == TUNO_LOCALITY_GLOBAL);
+    CHECK(stored("{ ?**?; };", TUNO_CLASS_STAR, "?*?"));
+    CHECK(stored("{ [**]; };", TUNO_CLASS_STAR, "[**]"));
+    CHECK(stored("{ a[^**]**; };", TUNO_CLASS_STAR, "a[!**]*"));
+    CHECK(locality("a*") == 0 && value == TUNO_LOCALITY_NOTHING);
+    CHECK(stored("{ [^]**]**; };", TUNO_CLASS_STAR, "[!]**]*"));
+    CHECK(stored("{ \\**; };", TUNO_CLASS_STAR, "\\*"));
+    CHECK(stored("{ \"**\"; };", TUNO_CLASS_EXACT, "**"));
+    CHECK(opened_fresh(SCRIPT, "{ f; local: **; };") == 0);
+    CHECK(count(TUNO_COUNT_KIND) == TUNO_KIND_REGULAR);
+
+    /* room is asked of what is kept, the limit of the token */
+    lend(rooms_of(3, 0, 4, 2));
+    CHECK(opened(LIST, "{ a**; };") == 0);
+    CHECK(untouched_beside());
+    CHECK(without_room(LIST, "{ a**; };", rooms_of(3, 0, 4, 1), 2));
+    lend(all_rooms);
+    repeat("*", TUNO_TOKEN_LIMIT, "{ ", "; };", &length);
+    CHECK(open_bytes(SCRIPT, text, length) == 0);
+    CHECK(line_is(0, 0, TUNO_CLASS_STAR, 0, 0, 0, 0, "*"));
+    repeat("*", TUNO_TOKEN_LIMIT + 1, "{ ", "; };", &length);
+    CHECK(refuses_bytes(SCRIPT, text, length, TUNO_TOO_LONG, 2));
+
+    /* an added token, and texts of symbols */
+    CHECK(opened_fresh(LIST, "{ f; };") == 0);
+    keep();
+    CHECK(add(0, 0, 0, "g** ") == 0);
+    CHECK(line_is(1, 0, TUNO_CLASS_STAR, 0, 0, 0, 1, "g*"));
+    CHECK(undo() == 0);
+    CHECK(as_before());
+    CHECK(symbol("extern \"C\" { g**; ***; };", 0) == 0);
+    CHECK(line_is(1, 0, TUNO_CLASS_STAR, 0, 0, 0, 1, "g*"));
+    CHECK(line_is(2, 0, TUNO_CLASS_STAR, 0, 0, 0, 3, "*"));
+    CHECK(undo() == 0 && undo() == 0);
+    CHECK(symbol("g**", 1) == 0);
+    CHECK(line_is(1, 0, TUNO_CLASS_STAR, 0, 0, 0, 1, "g*"));
+    CHECK(undo() == 0);
+    CHECK(symbol("[**", 1) == TUNO_BAD_PATTERN);
+    CHECK(as_before());
+
+    /* in a lent book a run is one that storing would change; in a bracket it is not */
+    CHECK(opened_fresh(SCRIPT, "{ a*b; };") == 0);
+    b.pool[1 + 2] = '*';
+    CHECK(no_book());
+    CHECK(opened_fresh(SCRIPT, "{ [*b]; };") == 0);
+    b.pool[1 + 2] = '*';
+    CHECK(line_is(0, 0, TUNO_CLASS_STAR, 0, 0, 0, 0, "[**]"));
+    CHECK(versions(1) == 0);
+}
+
 /* ---- a book in larger rooms: the same contents with zeros behind */
 
 static void test_larger_rooms(void) {
@@ -899,6 +958,7 @@ int main(int argc, char **argv) {
     test_refused_edits();
     test_trial();
     test_add_symbol();
+    test_runs();
     test_larger_rooms();
     for (function = 0; function < FUNCTIONS; function++) CHECK(met[function] == declared(function));
     printf("%u passed, %u failed\n", passed, failed);

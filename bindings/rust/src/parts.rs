@@ -147,7 +147,7 @@ pub struct Line<'b> {
     /// Whether it is struck, so that no lookup sees it.
     pub struck: bool,
     /// What is kept of its token: without quotes, an escaped one without its `\`, a pattern with
-    /// each `[^` as `[!`, and of `*` nothing.
+    /// each `[^` as `[!` and then, outside brackets, a run of `*` as one; of `*` alone nothing.
     pub bytes: &'b [u8],
 }
 

@@ -51,7 +51,7 @@ impl fmt::Display for Place {
 /// assert_eq!(refusal.number(), 6);
 /// assert_eq!(
 ///     refusal.to_string(),
-///     "line 2, column 5: a bracket that is not closed, or two `*` side by side"
+///     "line 2, column 5: a bracket that is not closed"
 /// );
 /// ```
 #[derive(Clone, Copy, Debug, PartialEq, Eq, Hash)]
@@ -68,7 +68,7 @@ pub enum Refusal {
     BadExtern(Option<Place>),
     /// 5: a glob that is not UTF-8.
     GlobNotUtf8(Option<Place>),
-    /// 6: a bracket that is not closed, or adjacent `*` outside one.
+    /// 6: a bracket that is not closed.
     BadPattern(Option<Place>),
     /// 7: a parent that no earlier node is.
     UnknownParent(Option<Place>),
@@ -166,7 +166,7 @@ impl Refusal {
                 "extern of another language than C or C++, or within an extern block"
             }
             Refusal::GlobNotUtf8(_) => "a pattern that is not UTF-8",
-            Refusal::BadPattern(_) => "a bracket that is not closed, or two `*` side by side",
+            Refusal::BadPattern(_) => "a bracket that is not closed",
             Refusal::UnknownParent(_) => "a parent that no earlier node is",
             Refusal::NoRoom(_) => "no room is left",
             Refusal::NameNotUtf8 => "a name that is not UTF-8",

@@ -10,7 +10,7 @@ const UNREADABLE: &str = "nothing that may stand here, or bytes behind the end";
 const UNCLOSED: &str = "a comment that is not closed, or an extern block without its `}`";
 const BAD_EXTERN: &str = "extern of another language than C or C++, or within an extern block";
 const GLOB_NOT_UTF8: &str = "a pattern that is not UTF-8";
-const BAD_PATTERN: &str = "a bracket that is not closed, or two `*` side by side";
+const BAD_PATTERN: &str = "a bracket that is not closed";
 const UNKNOWN_PARENT: &str = "a parent that no earlier node is";
 const NO_ROOM: &str = "no room is left";
 const NAME_NOT_UTF8: &str = "a name that is not UTF-8";
@@ -145,7 +145,7 @@ fn patterns() {
     placed(script(b"{ \xff?; };"), 5, [2, 1, 3], GLOB_NOT_UTF8);
     placed(list(b"{ f;\n\xc3*; };"), 5, [5, 2, 1], GLOB_NOT_UTF8);
     placed(script("{ []; };"), 6, [2, 1, 3], BAD_PATTERN);
-    placed(list("{ a**b; };"), 6, [2, 1, 3], BAD_PATTERN);
+    placed(list("{ a[**; };"), 6, [2, 1, 3], BAD_PATTERN);
     let mut book = list("{};").unwrap();
     plain(add(&mut book, b"\xff?"), 5, GLOB_NOT_UTF8);
     plain(add(&mut book, b"[a"), 6, BAD_PATTERN);

@@ -140,10 +140,11 @@ fn the_auditor_is_answered() -> Result<(), Refusal> {
     Ok(())
 }
 
-/// P1 to P8: a token's class, what is kept of it, and a name with whether it matches.
+/// P1 to P8, and runs of stars: a token's class, what is kept of it, and a name with whether it
+/// matches.
 #[test]
 fn tokens_are_classed_and_matched() -> Result<(), Refusal> {
-    let points: [(&str, Class, &str, &str, bool); 10] = [
+    let points: [(&str, Class, &str, &str, bool); 19] = [
         ("\"*\"", Class::Exact, "*", "x", false),
         ("*", Class::All, "", "x", true),
         ("\\*", Class::Escaped, "*", "*", true),
@@ -154,6 +155,15 @@ fn tokens_are_classed_and_matched() -> Result<(), Refusal> {
         ("[^a]b", Class::NonStar, "[!a]b", "xb", true),
         ("[^a]b", Class::NonStar, "[!a]b", "ab", false),
         ("h?", Class::NonStar, "h?", "h\u{e9}", true),
+        ("a**", Class::Star, "a*", "abc", true),
+        ("a**", Class::Star, "a*", "b", false),
+        ("**", Class::Star, "*", "", true),
+        ("?**?", Class::Star, "?*?", "a", false),
+        ("[**]", Class::Star, "[**]", "*", true),
+        ("a[^**]**", Class::Star, "a[!**]*", "a*", false),
+        ("a[^**]**", Class::Star, "a[!**]*", "abc", true),
+        ("[^]**]**", Class::Star, "[!]**]*", "*b", false),
+        ("\\**", Class::Star, "\\*", "\\x", true),
     ];
     for (token, class, kept, name, matches) in points {
         let book = Book::version_script(format!("{{ {token}; }};").as_bytes())?;

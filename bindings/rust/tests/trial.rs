@@ -66,7 +66,7 @@ impl Random {
     }
 }
 
-const TOKENS: [(&[u8], Class, &[u8]); 9] = [
+const TOKENS: [(&[u8], Class, &[u8]); 11] = [
     (b"k", Class::Exact, b"k"),
     (b"", Class::Exact, b""),
     (b"f? ", Class::NonStar, b"f?"),
@@ -75,6 +75,8 @@ const TOKENS: [(&[u8], Class, &[u8]); 9] = [
     (b"\"h()\"", Class::Exact, b"h()"),
     (b"\\f", Class::Escaped, b"f"),
     (b"[^f]*\n", Class::Star, b"[!f]*"),
+    (b"k**", Class::Star, b"k*"),
+    (b"*** ", Class::Star, b"*"),
     (
         b"a rather long token, so that the pool has to grow",
         Class::Exact,
@@ -213,6 +215,26 @@ fn add_symbol_is_undone_line_by_line() -> Result<(), Refusal> {
     assert_eq!(book.add_symbol(text.as_bytes(), false)?, 1..1_001);
     assert_eq!(book.add_symbol(b"a;b}c", true)?, 1_001..1_002);
     assert_eq!(book.lines().last().unwrap().bytes, b"a;b");
+    Ok(())
+}
+
+#[test]
+fn runs_of_stars_are_added_as_one() -> Result<(), Refusal> {
+    let opened = Book::export_list(b"{ f; };")?;
+    let mut book = opened.clone();
+    let global = Section::Global;
+    book.add(NodeNumber::BASE, global, Language::General, b"g**")?;
+    let text = b"extern \"C++\" { h[^**]**; \\**; };";
+    assert_eq!(book.add_symbol(text, false)?, 2..4);
+    let lines: Vec<_> = book.lines().map(|line| (line.class, line.bytes)).collect();
+    let stars = [&b"g*"[..], b"h[!**]*", b"\\*"].map(|kept| (Class::Star, kept));
+    assert_eq!(lines[1..], stars);
+    assert!(book.contains(b"gx", b"x")? && book.contains(b"x", b"hx")?);
+    assert!(!book.contains(b"x", b"h*")?);
+    for _ in 0..3 {
+        book.undo()?;
+    }
+    assert_eq!(book, opened);
     Ok(())
 }
 
