@@ -1,25 +1,26 @@
 //! One case at a time: what the published Rust answers, what the proved library answers, and
 //! whether the two agree.
 
-use differential::domain::{adjacent_stars, stored_text};
+use differential::domain::{negated, shape, Shape};
 use differential::hex;
+use differential::runs::Runs;
 use differential::tally::Tally;
 use host::published::{self, Pattern};
 use host::{ours, refusal, LIMIT};
 
 /// Why a case lies outside the domain of equality. What must be answered there is the interface's
-/// refusal, not the Rust's answer.
+/// refusal, or of a run what document 02, request 01, keeps; not the Rust's answer.
 #[derive(Clone, Copy)]
 enum Outside {
     Limit,
-    Stars,
+    Run,
     Name,
 }
 
 /// The same in words, by their numbers.
 const REASONS: [&str; 3] = [
     "over the limit",
-    "adjacent stars",
+    "a run of stars",
     "a name that is not UTF-8",
 ];
 
@@ -28,6 +29,7 @@ const GUARD: usize = 16;
 
 pub struct Comparison {
     tally: Tally<3>,
+    runs: Runs,
     noise: Vec<u8>,
     memory: Vec<u8>,
 }
@@ -39,6 +41,7 @@ impl Comparison {
             .collect();
         Self {
             tally: Tally::new(REASONS),
+            runs: Runs::default(),
             memory: noise.clone(),
             noise,
         }
@@ -51,8 +54,9 @@ impl Comparison {
         self.tally.end();
     }
 
-    /// The last line; true when nothing differed.
+    /// The last lines; true when nothing differed.
     pub fn finish(self) -> bool {
+        self.runs.print("patterns");
         self.tally.finish()
     }
 
@@ -79,14 +83,23 @@ impl Comparison {
         self.outputs("unescape", token, over, want, ours::unescape);
 
         let stored = published::store(token);
+        let shape = shape(&negated(token));
+        let kept = shape.kept.as_bytes();
         let (outside, want) = match &stored {
             _ if over.is_some() => (over, Err(refusal::OVER_THE_LIMIT)),
-            _ if host::class::is_glob(class) && adjacent_stars(&stored_text(token)) => {
-                (Some(Outside::Stars), Err(refusal::BAD_GLOB))
-            }
+            _ if host::class::is_glob(class) && shape.runs => (
+                Some(Outside::Run),
+                match shape.open {
+                    true => Err(refusal::BAD_GLOB),
+                    false => Ok((ours::stored(class, kept.len()), kept)),
+                },
+            ),
             Ok(bytes) => (None, Ok((ours::stored(class, bytes.len()), &bytes[..]))),
             Err(number) => (None, Err(*number)),
         };
+        if let Some(Outside::Run) = outside {
+            self.runs.read(token, stored.is_ok());
+        }
         self.outputs("store", token, outside, want, ours::store);
     }
 
@@ -140,13 +153,22 @@ impl Comparison {
     pub fn matches(&mut self, stored: &Stored, name: &[u8]) {
         let (outside, want) = if stored.bytes.len() > LIMIT || name.len() > LIMIT {
             (Some(Outside::Limit), refusal::OVER_THE_LIMIT)
-        } else if stored.adjacent_stars {
-            (Some(Outside::Stars), refusal::BAD_GLOB)
         } else {
-            match (&stored.pattern, std::str::from_utf8(name)) {
-                (Err(number), _) => (None, *number),
+            let (run, pattern) = match &stored.kept {
+                Some(kept) => (Some(Outside::Run), kept),
+                None => (None, &stored.pattern),
+            };
+            match (pattern, std::str::from_utf8(name)) {
+                (Err(number), _) => (run, *number),
                 (Ok(_), Err(_)) => (Some(Outside::Name), refusal::NAME_NOT_UTF8),
-                (Ok(pattern), Ok(name)) => (None, ours::done(pattern.matches(name) as u64)),
+                (Ok(pattern), Ok(text)) => {
+                    let matches = pattern.matches(text);
+                    if let (Some(_), Ok(rust)) = (run, &stored.pattern) {
+                        let sides = [rust.matches(text), matches];
+                        self.runs.matched(&stored.bytes, name, sides);
+                    }
+                    (run, ours::done(matches as u64))
+                }
             }
         };
         let got = ours::matches(&stored.bytes, name);
@@ -165,19 +187,25 @@ impl Comparison {
     }
 }
 
-/// A stored pattern as the published Rust reads it, once for many names.
+/// A stored pattern as the published Rust reads it, once for many names; and, where it has a run of
+/// stars, what it is read as with each run as one star.
 pub struct Stored {
     bytes: Vec<u8>,
-    adjacent_stars: bool,
     pattern: Result<Pattern, u64>,
+    kept: Option<Result<Pattern, u64>>,
 }
 
 impl Stored {
     pub fn new(bytes: &[u8]) -> Self {
+        let shape = std::str::from_utf8(bytes).map_or(Shape::default(), shape);
+        let kept = match shape.open {
+            true => Err(refusal::BAD_GLOB),
+            false => published::pattern(shape.kept.as_bytes()),
+        };
         Self {
             bytes: bytes.to_vec(),
-            adjacent_stars: std::str::from_utf8(bytes).is_ok_and(adjacent_stars),
             pattern: published::pattern(bytes),
+            kept: shape.runs.then_some(kept),
         }
     }
 }

@@ -1,10 +1,12 @@
-//! What the comparisons share: their command line, their inputs, their domain of equality, their
-//! counts, their samples, and what they say of a case that differs.
+//! What the comparisons share: their command line, their inputs, their domain of equality, what the
+//! Rust does with runs of stars outside it, their counts, their samples, and what they say of a case
+//! that differs.
 
 pub mod command;
 pub mod domain;
 pub mod inputs;
 pub mod report;
+pub mod runs;
 pub mod sampling;
 pub mod tally;
 

@@ -5,15 +5,16 @@
 //!
 //! Compared are a token's class, its unescaped bytes, whether it is accepted, the bytes stored for
 //! it, and whether a stored pattern matches a name. Equality is asked of tokens, patterns and names
-//! within the limit, patterns without two stars side by side outside a bracket, and names in UTF-8;
-//! what lies outside is counted by its reason, and must be refused as the interface says.
+//! within the limit, patterns without a run of stars outside a bracket, and names in UTF-8; what lies
+//! outside is counted by its reason. There the library must refuse as the interface says, and of a
+//! run keep what document 02, request 01, says (domain.rs); what the Rust does with runs is printed.
 
 mod compare;
 mod sample;
 
 use compare::{Comparison, Stored};
 use differential::command::Program;
-use differential::domain::stored_text;
+use differential::domain::negated;
 use differential::inputs::{every, long, Random, EDGES, EDGE_BYTES, SPECIAL};
 use host::LIMIT;
 use std::process::ExitCode;
@@ -34,6 +35,7 @@ fn compared(mut random: Random, rounds: u64) -> bool {
     let mut comparison = Comparison::new();
     comparison.phase("tokens", tokens);
     comparison.phase("patterns and names", patterns_and_names);
+    comparison.phase("runs of stars", runs);
     comparison.phase("characters", characters);
     comparison.phase("damaged UTF-8", damaged);
     comparison.phase("random lengths", |comparison| {
@@ -68,6 +70,22 @@ fn patterns_and_names(comparison: &mut Comparison) {
     });
 }
 
+/// Every pattern of at most five pieces, among them folders and stars in brackets, and every name of
+/// at most four.
+fn runs(comparison: &mut Comparison) {
+    let of_patterns: [&[u8]; 7] = [b"*", b"**", b"/", b"a", b"?", b"[^**]", b"\\"];
+    let of_names: [&[u8]; 4] = [b"/", b"a", b"b", b"*"];
+    let mut names = Vec::new();
+    every(&of_names, 4, &mut |name| names.push(name.to_vec()));
+    every(&of_patterns, 5, &mut |pattern| {
+        comparison.token(pattern);
+        let stored = Stored::new(negated(pattern).as_bytes());
+        for name in &names {
+            comparison.matches(&stored, name);
+        }
+    });
+}
+
 /// Every character as a name; then patterns of any two characters at the edges of UTF-8, on names
 /// of a third.
 fn characters(comparison: &mut Comparison) {
@@ -95,7 +113,7 @@ fn characters(comparison: &mut Comparison) {
                 format!("\\{x}{y}"),
             ] {
                 comparison.token(token.as_bytes());
-                let stored = Stored::new(stored_text(token.as_bytes()).as_bytes());
+                let stored = Stored::new(negated(token.as_bytes()).as_bytes());
                 for z in edges() {
                     for name in [format!("{z}"), format!("{z}{y}"), format!("{x}{z}{y}")] {
                         comparison.matches(&stored, name.as_bytes());
@@ -128,7 +146,7 @@ fn lengths(comparison: &mut Comparison, random: &mut Random, rounds: u64) {
             let (pattern, name) = random.pair(length);
             comparison.token(&pattern);
 
-            let stored = Stored::new(stored_text(&pattern).as_bytes());
+            let stored = Stored::new(negated(&pattern).as_bytes());
             let as_it_stands = Stored::new(&pattern);
             comparison.matches(&stored, &name);
             comparison.matches(&as_it_stands, &name);
@@ -150,7 +168,7 @@ fn limit(comparison: &mut Comparison) {
         [b"", "\u{10ffff}".as_bytes(), b"b"],
         [b"", b"a", b"\xc3"],
     ];
-    let patterns: [[&[u8]; 3]; 19] = [
+    let patterns: [[&[u8]; 3]; 22] = [
         [b"", b"a", b""],
         [b"\"", b"*", b"\""],
         [b"", b"\\*", b""],
@@ -170,6 +188,9 @@ fn limit(comparison: &mut Comparison) {
         [b"?", b"a", b"\xc3"],
         [b"?", b"a", b"["],
         [b"?", b"a", b"**"],
+        [b"", b"*", b""],
+        [b"a", b"*", b"b"],
+        [b"[^", b"*", b"]**"],
     ];
     let lengths = LIMIT - 2..=LIMIT + 2;
     for shape in patterns {

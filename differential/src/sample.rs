@@ -9,7 +9,7 @@
 //!
 //! All lie within the domain of equality, and are the same for the same seed.
 
-use differential::domain::{adjacent_stars, stored_text};
+use differential::domain::{has_run, negated};
 use differential::hex;
 use differential::inputs::{Random, SPECIAL};
 use differential::sampling;
@@ -50,7 +50,7 @@ fn unescaped(random: &mut Random) -> Option<String> {
 fn stored(random: &mut Random) -> Option<String> {
     let token = token(random);
     let class = published::class(&token);
-    if class::is_glob(class) && adjacent_stars(&stored_text(&token)) {
+    if class::is_glob(class) && has_run(&negated(&token)) {
         return None;
     }
     Some(match published::store(&token) {
@@ -63,7 +63,7 @@ fn matched(random: &mut Random, wanted: bool) -> Option<String> {
     let length = length(random);
     let (stored, name) = random.pair(length);
     let text = std::str::from_utf8(&name).ok()?;
-    if name.len() > LONGEST || adjacent_stars(std::str::from_utf8(&stored).ok()?) {
+    if name.len() > LONGEST || has_run(std::str::from_utf8(&stored).ok()?) {
         return None;
     }
     let found = published::pattern(&stored).ok()?.matches(text);

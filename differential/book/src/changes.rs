@@ -14,7 +14,7 @@ const fn change(words: &'static str, make: fn(&mut Random, &mut Buffers)) -> Cha
     Change { words, make }
 }
 
-pub const CHANGES: [Change; 29] = [
+pub const CHANGES: [Change; 30] = [
     change("count: kind", |random, book| count(random, book, 0)),
     change("count: nodes", |random, book| count(random, book, 1)),
     change("count: name bytes", |random, book| count(random, book, 2)),
@@ -50,6 +50,7 @@ pub const CHANGES: [Change; 29] = [
         let used = used(book).pool;
         byte(random, &mut book.pool[..used]);
     }),
+    change("pool: a star beside a star", star),
     change("pool: the rest", |random, book| {
         let used = used(book).pool;
         byte(random, &mut book.pool[used..]);
@@ -177,6 +178,19 @@ fn byte(random: &mut Random, bytes: &mut [u8]) {
             1 => *byte ^ (1 << random.below(8)),
             _ => random.pick(b"\0\t\n\r #/*?;(){}[]!^-A\\\"\xc3\xa9\xff"),
         };
+    }
+}
+
+/// A byte beside a star becomes one too, where there is such a byte.
+fn star(random: &mut Random, book: &mut Buffers) {
+    let used = used(book).pool;
+    let pool = &mut book.pool[..used];
+    let beside: Vec<usize> = (1..used)
+        .filter(|&at| (pool[at - 1] == b'*') != (pool[at] == b'*'))
+        .map(|at| at - usize::from(pool[at] == b'*'))
+        .collect();
+    if !beside.is_empty() {
+        pool[random.pick(&beside)] = b'*';
     }
 }
 

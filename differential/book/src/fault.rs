@@ -1,5 +1,6 @@
-//! Document 01's row 14, and nothing of the proved library's own definitions: what keeps lent
-//! buffers from being a book. Slow and plain, one sentence of the paper after the other.
+//! Document 01's row 14, with document 02's request 01, and nothing of the proved library's own
+//! definitions: what keeps lent buffers from being a book. Slow and plain, one sentence of the papers
+//! after the other.
 
 use crate::buffers::{Buffers, Counted};
 use crate::{kind, limit, width};
@@ -187,8 +188,10 @@ fn glob(line: &Line) -> Result<(), &'static str> {
         return Ok(());
     }
     let text = std::str::from_utf8(line.bytes).map_err(|_| "a glob that 5 refuses")?;
-    demand(!text.contains("[^"), "a glob that storing would change")?;
-    demand(domain::fault(text).is_none(), "a glob that 6 refuses")
+    demand(!text.contains("[^"), "a glob with `[^`")?;
+    let shape = domain::shape(text);
+    demand(!shape.runs, "a glob with a run of stars")?;
+    demand(!shape.open, "a glob that 6 refuses")
 }
 
 /// "A Rust kind with an edit or whose lines break its rule". An export list is node 0 alone, and its

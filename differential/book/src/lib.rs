@@ -1,7 +1,7 @@
 //! A book in lent buffers: the proved library's functions over it (`ours`), document 01 read slowly,
 //! its row 14 (`fault`), its ranking (`ranking`), its openings and edits (`trial`, over `reader` and
-//! `storing`), and a book apart from buffers, which can be laid out (`model`); and what random books,
-//! texts and names are made of (`changes`, `texts`).
+//! `storing`), which texts have runs of stars (`runs`), and a book apart from buffers, which can be laid
+//! out (`model`); and what random books, texts and names are made of (`changes`, `texts`).
 
 pub mod buffers;
 pub mod changes;
@@ -11,6 +11,7 @@ pub mod ours;
 pub mod questions;
 pub mod ranking;
 pub mod reader;
+pub mod runs;
 pub mod storing;
 pub mod texts;
 pub mod trial;

@@ -1,5 +1,6 @@
-//! Document 01's 'Classes and patterns', and nothing of the proved library's own definitions: what a
-//! token is stored as. Slow and plain, one sentence of the paper after the other.
+//! Document 01's 'Classes and patterns' with document 02's request 01, and nothing of the proved
+//! library's own definitions: what a token is stored as. Slow and plain, one sentence of the papers
+//! after the other.
 
 use crate::limit;
 use differential::domain;
@@ -33,10 +34,11 @@ pub fn stored(token: &[u8]) -> Result<(u64, Vec<u8>), u64> {
             if std::str::from_utf8(token).is_err() {
                 return Err(refusal::GLOB_NOT_UTF8);
             }
-            let stored = domain::stored_text(token);
-            match domain::fault(&stored) {
-                Some(_) => Err(refusal::BAD_GLOB),
-                None => Ok((glob, stored.into_bytes())),
+            // "A run outside a bracket is kept as one star"; "6 now means an unclosed bracket only".
+            let shape = domain::shape(&domain::negated(token));
+            match shape.open {
+                true => Err(refusal::BAD_GLOB),
+                false => Ok((glob, shape.kept.into_bytes())),
             }
         }
     }
@@ -61,6 +63,12 @@ fn scanned(token: &[u8]) -> u64 {
         }
     }
     class
+}
+
+/// Whether a trimmed token is a glob with a run of stars outside a bracket.
+pub fn has_run(token: &[u8]) -> bool {
+    let quoted = matches!(token, [b'"', .., b'"']);
+    !quoted && class::is_glob(scanned(token)) && domain::has_run(&domain::negated(token))
 }
 
 /// "Escaped is stored unescaped; a final `\` stays."

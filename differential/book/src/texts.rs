@@ -2,7 +2,7 @@
 //! that come close to a book's lines.
 
 use crate::model::{Line, Model};
-use differential::domain::{adjacent_stars, stored_text};
+use differential::domain::{has_run, negated};
 use differential::inputs::{Random, DAMAGE};
 use host::{class, published};
 use reading::scripts::Kind;
@@ -36,14 +36,14 @@ const NODES: [&str; 9] = ["A", "A", "A", "B", "B", "V1", "V1.2", "A;b", "\u{e9}"
 
 /// A script or an export list that is accepted, of one of the kinds that can be books.
 pub fn text(random: &mut Random, kind: Kind) -> Vec<u8> {
+    Text::new(random).of(kind)
+}
+
+/// The same with runs of stars, which the Rust may refuse.
+pub fn with_runs(random: &mut Random, kind: Kind) -> Vec<u8> {
     let mut text = Text::new(random);
-    match kind {
-        Kind::Nodes => text.nodes(),
-        Kind::RustKind => text.rust_kind(),
-        Kind::ExportList => text.list(),
-        _ => text.one_body(),
-    }
-    text.text
+    text.runs = true;
+    text.of(kind)
 }
 
 /// A token over the stems, which can be one that is refused.
@@ -61,6 +61,8 @@ pub fn matcher(random: &mut Random) -> Vec<u8> {
 struct Text<'r> {
     random: &'r mut Random,
     stems: Vec<&'static str>,
+    /// Whether some stars become runs.
+    runs: bool,
     text: Vec<u8>,
 }
 
@@ -71,8 +73,19 @@ impl<'r> Text<'r> {
         Self {
             random,
             stems,
+            runs: false,
             text: Vec::new(),
         }
+    }
+
+    fn of(mut self, kind: Kind) -> Vec<u8> {
+        match kind {
+            Kind::Nodes => self.nodes(),
+            Kind::RustKind => self.rust_kind(),
+            Kind::ExportList => self.list(),
+            _ => self.one_body(),
+        }
+        self.text
     }
 
     fn put(&mut self, words: &str) {
@@ -164,12 +177,28 @@ impl<'r> Text<'r> {
             if !token.trim_ascii().is_empty()
                 && !token.contains([';', '{', '}', '#', '/', ':', '\n'])
                 && published::store(bytes).is_ok()
-                && !(class::is_glob(class) && adjacent_stars(&stored_text(bytes)))
+                && !(class::is_glob(class) && has_run(&negated(bytes)))
             {
                 break token;
             }
         };
-        self.put(&token);
+        match self.runs {
+            true => self.run(&token),
+            false => self.put(&token),
+        }
+    }
+
+    /// A token with more stars, or one that the Rust takes for folders.
+    fn run(&mut self, token: &str) {
+        let more = self.random.pick(&["**", "**", "***"]);
+        let folders = self
+            .random
+            .pick(&["**", "**/f", "f/**", "f/**/g", "haze/**/f*"]);
+        match self.random.below(4) {
+            0 => self.put(folders),
+            1 => self.put(token),
+            _ => self.put(&token.replace('*', more)),
+        }
     }
 
     fn any_token(&mut self) -> String {

@@ -3,6 +3,7 @@
 
 use crate::events;
 use differential::report::{expect, smallest};
+use differential::runs::Runs;
 use differential::tally::Tally;
 use host::refusal;
 use reading::verdict::{Outside, Verdict, REASONS};
@@ -17,6 +18,7 @@ pub struct Comparison {
     tally: Tally<3>,
     texts: u64,
     accepted: u64,
+    runs: Runs,
     memory: Memory,
 }
 
@@ -26,6 +28,7 @@ impl Comparison {
             tally: Tally::new(REASONS),
             texts: 0,
             accepted: 0,
+            runs: Runs::default(),
             memory: Memory(Vec::new()),
         }
     }
@@ -37,12 +40,13 @@ impl Comparison {
         self.tally.end();
     }
 
-    /// The last line; true when nothing differed.
+    /// The last lines; true when nothing differed.
     pub fn finish(self) -> bool {
         println!(
             "{} texts, each as four sources; accepted by both {} times",
             self.texts, self.accepted
         );
+        self.runs.print("texts");
         self.tally.finish()
     }
 
@@ -55,8 +59,10 @@ impl Comparison {
 
     fn source(&mut self, source: Source, text: &[u8]) {
         let verdict = self.memory.verdict(source, text);
-        if let Verdict::Accepted(()) = verdict {
-            self.accepted += 1;
+        match verdict {
+            Verdict::Accepted(()) => self.accepted += 1,
+            Verdict::Outside(Outside::Run { taken }) => self.runs.read(text, taken),
+            _ => {}
         }
         let (outside, agree) = verdict.judged();
         let memory = &mut self.memory;
@@ -111,12 +117,12 @@ impl Memory {
         let kept = if read.bad_glob { None } else { read.kept() };
         match (rust, kept) {
             (Answer::Endless, _) => Err("the Rust never ends, we accept".to_string()),
-            (Answer::Refused, None) => Ok(Verdict::Refused),
+            (Answer::Refused, None) if !read.runs => Ok(Verdict::Refused),
             _ if read.over_the_limit => Ok(Verdict::Outside(Outside::Limit)),
-            (Answer::Refused, Some(_)) if read.adjacent_stars => {
-                Ok(Verdict::Outside(Outside::Stars))
+            (Answer::Refused, _) if read.runs => {
+                Ok(Verdict::Outside(Outside::Run { taken: false }))
             }
-            (Answer::Refused, Some(_)) => Err("the Rust refuses, we accept".to_string()),
+            (Answer::Refused, _) => Err("the Rust refuses, we accept".to_string()),
             (Answer::Accepted(_), None) => {
                 Err("the Rust accepts, we refuse a glob or a parent".to_string())
             }
@@ -124,13 +130,13 @@ impl Memory {
                 expect(rust.nodes == read.nodes, || {
                     format!("the Rust reads {:?}, we read {:?}", rust.nodes, read.nodes)
                 })?;
-                if read.adjacent_stars {
-                    return Ok(Verdict::Outside(Outside::Stars));
-                }
                 expect(rust.kept == kept, || {
                     format!("the Rust keeps {:?}, we keep {kept:?}", rust.kept)
                 })?;
-                Ok(Verdict::Accepted(()))
+                match read.runs {
+                    true => Ok(Verdict::Outside(Outside::Run { taken: true })),
+                    false => Ok(Verdict::Accepted(())),
+                }
             }
         }
     }

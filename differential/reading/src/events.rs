@@ -1,7 +1,7 @@
 //! Our side: the events of a text, each row checked, become nodes, and these become what is kept,
 //! by document 01's rules. The tokens are stored by the proved library.
 
-use differential::domain::{adjacent_stars, stored_text};
+use differential::domain::{negated, shape};
 use host::{class, ours as tokens, refusal};
 use reading_host::kept::{Kept, KeptNode, Line, Matcher, Node};
 use reading_host::ours::{kind, WIDTH};
@@ -12,10 +12,10 @@ pub struct Read {
     pub nodes: Vec<Node>,
     /// Whether the script is one body, without a name.
     pub one_body: bool,
-    /// Whether a token is refused as no glob; for its length; for adjacent stars.
+    /// Whether a token is refused as no glob; for its length; whether a glob has a run of stars.
     pub bad_glob: bool,
     pub over_the_limit: bool,
-    pub adjacent_stars: bool,
+    pub runs: bool,
 }
 
 /// What can follow.
@@ -55,7 +55,7 @@ pub fn read(source: Source, text: &[u8], rows: &[u64]) -> Result<Read, String> {
             one_body: false,
             bad_glob: false,
             over_the_limit: false,
-            adjacent_stars: false,
+            runs: false,
         },
     };
     for (number, row) in rows.chunks_exact(WIDTH).enumerate() {
@@ -154,27 +154,36 @@ impl<'t> Rows<'t> {
         self.text.get(start..start + length as usize)
     }
 
-    /// A token's line. One that is refused is marked, and stands as the Rust would hold it.
+    /// A token's line. One that is refused is marked, and one with a run of stars, of which we keep
+    /// what document 02, request 01, says; both stand as the Rust would hold them.
     fn line(&mut self, start: u64, length: u64) -> Option<Line> {
         let token = self.part(start, length)?;
         let mut bytes = vec![0; token.len()];
         let answer = tokens::store(token, &mut bytes);
-        let as_a_glob = stored_text(token);
-        let stars = adjacent_stars(&as_a_glob);
         let value = answer / 256;
+        let class = host::published::class(token);
+        let as_a_glob = negated(token);
+        let shape = shape(&as_a_glob);
+        let run = class::is_glob(class) && shape.runs;
+        self.read.runs |= run;
         match answer % 256 {
-            0 if !(class::is_glob(value % 8) && stars) => {
+            0 => {
                 bytes.truncate(value as usize / 8);
-                let class = value % 8;
-                return Some(Line { class, bytes });
+                if !run {
+                    let class = value % 8;
+                    return Some(Line { class, bytes });
+                }
+                if value % 8 != class || shape.open || bytes != shape.kept.as_bytes() {
+                    return None;
+                }
             }
             refusal::OVER_THE_LIMIT => self.read.over_the_limit = true,
-            refusal::BAD_GLOB if stars => self.read.adjacent_stars = true,
+            refusal::BAD_GLOB if run && !shape.open => return None,
             refusal::GLOB_NOT_UTF8 | refusal::BAD_GLOB => self.read.bad_glob = true,
             _ => return None,
         }
         Some(Line {
-            class: host::published::class(token),
+            class,
             bytes: as_a_glob.into_bytes(),
         })
     }

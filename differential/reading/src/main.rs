@@ -9,10 +9,11 @@
 //! and then as the Rust holds them. Our side of it is the reader's events, the proved library's
 //! storing of each token, and here, by document 01's rules, a parent's number and the Rust kind.
 //!
-//! Outside the domain of equality, where we must refuse whatever the Rust does, lie texts and
-//! tokens over the limit, globs with two stars side by side outside a bracket, and extern blocks
-//! at which the Rust never ends. What the Rust's answer is worth there is still looked at: a script
-//! that it accepts with two such stars must have been read alike.
+//! Outside the domain of equality lie texts and tokens over the limit and extern blocks at which the
+//! Rust never ends, which we must refuse whatever the Rust does, and globs with a run of stars outside
+//! a bracket, of which we must keep what document 02, request 01, says. What the Rust's answer is
+//! worth there is still looked at: a script with such a run that it accepts must have been read alike,
+//! and kept with the run as it stands. How many of them it refuses is printed.
 
 mod compare;
 mod events;

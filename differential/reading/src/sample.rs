@@ -20,7 +20,7 @@
 //! refuses for a glob or for an unknown parent is left out: the reader, which knows syntax only,
 //! may accept it.
 
-use differential::domain::adjacent_stars;
+use differential::domain::has_run;
 use differential::hex;
 use differential::inputs::Random;
 use differential::sampling;
@@ -59,7 +59,7 @@ fn text(random: &mut Random, source: Source, wanted: bool) -> Option<String> {
         return None;
     }
     let answer = match published::read(source, &text) {
-        Answer::Accepted(rust) if wanted && !with_adjacent_stars(&rust.nodes) => {
+        Answer::Accepted(rust) if wanted && !with_a_run(&rust.nodes) => {
             // Those that have no line are all alike: most are left out.
             if lines(&rust.nodes).next().is_none() && !random.one_in(8) {
                 return None;
@@ -130,7 +130,7 @@ fn lines(nodes: &[Node]) -> impl Iterator<Item = &Line> {
     matchers.flat_map(Matcher::lines)
 }
 
-fn with_adjacent_stars(nodes: &[Node]) -> bool {
+fn with_a_run(nodes: &[Node]) -> bool {
     let mut globs = lines(nodes).filter(|line| class::is_glob(line.class));
-    globs.any(|line| std::str::from_utf8(&line.bytes).is_ok_and(adjacent_stars))
+    globs.any(|line| std::str::from_utf8(&line.bytes).is_ok_and(has_run))
 }

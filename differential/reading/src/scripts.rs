@@ -31,7 +31,7 @@ pub const FRAMES: [[&[u8]; 2]; 9] = [
 ];
 
 /// Texts at which document 01 could be read two ways, or at which a reader is easily wrong.
-pub const DOUBTFUL: [&[u8]; 70] = [
+pub const DOUBTFUL: [&[u8]; 78] = [
     b"/*/{};",
     b"A {}; B {}; A {}; C {} A;",
     b"V { extern \"C++\" { f; }; local: f; };",
@@ -80,6 +80,14 @@ pub const DOUBTFUL: [&[u8]; 70] = [
     b"{ \xff; };",
     b"{ a**b; };",
     b"{ **; };",
+    b"{ ***; };",
+    b"{ a/**/b; };",
+    b"{ **/a; };",
+    b"{ a[^**]**; };",
+    b"{ \\**; };",
+    b"{ [**; };",
+    b"{ **[; };",
+    b"{ global: a; local: **; };",
     b"{ *; };",
     b"{ global: a; local: *; };",
     b"{ global: a; a; \"*\"; local: * ; b; };",

@@ -4,6 +4,8 @@ use crate::history::Step;
 use crate::written::Cause;
 use book::questions::{Outside, Question, What};
 use book::reader::Refused;
+use book::runs::text_has_run;
+use book::storing::{has_run, trimmed};
 use book::trial::BUFFERS;
 use reading_host::Source;
 
@@ -32,6 +34,8 @@ pub struct Counts {
     calls: [[u64; ANSWERS]; CALLS.len()],
     /// How often each buffer had no room, and was at its limit.
     full: [[u64; 2]; BUFFERS.len()],
+    /// Calls with a run of stars in a glob, and how many of them were done.
+    runs: [u64; 2],
     /// Lookups that were held against the ranking, and against the Rust.
     pub with_model: u64,
     pub with_rust: u64,
@@ -56,6 +60,10 @@ impl Counts {
             Step::Lend(..) | Step::Book(_) | Step::Ask(_) => panic!("it is no call"),
         };
         self.answered(call, answer);
+        if with_a_run(step) {
+            self.runs[0] += 1;
+            self.runs[1] += u64::from(answer == 0);
+        }
         if let Some(full) = refused.and_then(|refused| refused.full) {
             self.full[full.buffer][usize::from(full.limit)] += 1;
         }
@@ -105,6 +113,8 @@ impl Counts {
             "\nrefused 8 for want of room, and at the limit: {}",
             full.join(", ")
         );
+        let [runs, done] = self.runs;
+        println!("calls with a run of stars: {runs}, of which {done} were done");
         println!(
             "lookups held against the model: {}; against the Rust, over the lines left standing: {}",
             self.with_model, self.with_rust
@@ -121,5 +131,16 @@ impl Counts {
             self.of_the_other_kind,
             self.rust_locality
         );
+    }
+}
+
+/// Whether a call is given a glob with a run of stars outside a bracket.
+fn with_a_run(step: &Step) -> bool {
+    match step {
+        Step::Open(source, text) => text_has_run(*source, text),
+        Step::Add(_, token) => has_run(trimmed(token)),
+        Step::AddSymbol(0, text) => text_has_run(Source::AddSymbol, text),
+        Step::AddSymbol(_, text) => text_has_run(Source::AddSymbolWithoutSemicolon, text),
+        _ => false,
     }
 }

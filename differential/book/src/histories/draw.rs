@@ -26,7 +26,7 @@ const KINDS: [Kind; 10] = [
 ];
 
 /// Tokens at which a rule is easily read two ways, or that are refused.
-const TOKENS: [&[u8]; 28] = [
+const TOKENS: [&[u8]; 34] = [
     b"",
     b" ",
     b"\x0c",
@@ -44,6 +44,12 @@ const TOKENS: [&[u8]; 28] = [
     b"[^a]b",
     b"\\[^]]",
     b"a**",
+    b"**",
+    b"***",
+    b"a[^**]**",
+    b"\\**",
+    b"[**",
+    b"?**/***a",
     b"\xff?",
     b"\xff",
     b" f",
@@ -91,9 +97,10 @@ pub fn beginning(random: &mut Random) -> Vec<Step> {
 
 fn opening(random: &mut Random) -> Step {
     let kind = random.pick(&KINDS);
-    let text = match random.below(8) {
+    let text = match random.below(9) {
         0..=4 => texts::text(random, kind),
-        5 | 6 => scripts::random(random, kind),
+        5 => texts::with_runs(random, kind),
+        6 | 7 => scripts::random(random, kind),
         _ => {
             let text = scripts::random(random, kind);
             scripts::damaged(random, &text)

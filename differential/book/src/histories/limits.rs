@@ -1,4 +1,5 @@
-//! Histories at the limits, in rooms that are larger, so that the limit says no and not the room.
+//! Histories at the limits, in rooms that are larger, so that the limit says no and not the room; and
+//! runs of stars, in rooms for what is kept of them.
 
 use crate::history::Step;
 use book::buffers::Rooms;
@@ -15,6 +16,7 @@ pub fn histories() -> Vec<Vec<Step>> {
         pool(),
         edits(),
         tokens(),
+        runs(),
         symbols(),
         many_symbols(),
     ]
@@ -154,12 +156,14 @@ fn edits() -> Vec<Step> {
 
 /// Tokens of the longest length, and of up to two bytes less and more.
 fn tokens() -> Vec<Step> {
-    let shapes: [[&[u8]; 3]; 6] = [
+    let shapes: [[&[u8]; 3]; 8] = [
         [b"", b"a", b""],
         [b"\"", b"a", b"\""],
         [b"", b"\\*", b""],
         [b"*", b"a", b"?"],
         [b"?", b"a", b"["],
+        [b"", b"*", b""],
+        [b"a", b"*", b"["],
         [b"a", b" ", b""],
     ];
     // Room for one of them at a time.
@@ -181,6 +185,45 @@ fn tokens() -> Vec<Step> {
         }
     }
     steps.push(add(&b" ".repeat(70_000)));
+    steps
+}
+
+/// Runs of stars, in room for what is kept of them and for a byte less.
+fn runs() -> Vec<Step> {
+    let mut steps = Vec::new();
+    for (token, kept) in [
+        (&b"**"[..], 1),
+        (b"a**", 2),
+        (b"a[^**]**", 7),
+        (b"\\**", 2),
+        (b"?***?**", 4),
+    ] {
+        for pool in [kept, kept - 1] {
+            let rooms = Rooms {
+                pool,
+                journal: 2 * width::EDIT,
+                ..Rooms::ample(20)
+            };
+            let script = [b"A{", token, b";};"].concat();
+            let list = [b"{", token, b";};"].concat();
+            steps.extend([
+                Step::Lend(6, rooms),
+                Step::Open(Source::Script, script),
+                ask(b"a"),
+                Step::Open(Source::ExportList, list),
+                ask(b"a"),
+                Step::Open(Source::ExportList, b"{};".to_vec()),
+                add(token),
+                ask(b"ab"),
+                Step::Undo,
+                Step::AddSymbol(0, [token, b";"].concat()),
+                ask(b"ab"),
+                Step::Undo,
+                Step::AddSymbol(1, token.to_vec()),
+                ask(b"ab"),
+            ]);
+        }
+    }
     steps
 }
 

@@ -7,24 +7,34 @@ use book::model::Model;
 use book::ours::{self, Name};
 use book::questions::{Held, Outside, Question};
 use book::ranking::Ranking;
+use book::runs::text_has_run;
 use differential::hex;
 use differential::report::{cut, expect, shorten, told};
+use differential::runs::Runs;
 use differential::tally::Tally;
 use host::refusal;
 use reading_host::Source;
 
-/// A text that both sides have opened.
+/// The number of a reason beside those of a question: a run of stars in a glob of the text.
+const RUN: usize = Outside::REASONS.len();
+
+/// A text that both sides have opened. One with a run of stars the Rust may refuse.
 pub struct Opened<'t> {
-    held: Held<'t>,
+    held: Option<Held<'t>>,
+    pub runs: bool,
     pub model: Model,
     book: Buffers,
     ranking: Ranking,
 }
 
-/// Opens a text on both sides; nothing where one of them refuses it. That they do so alike, and keep
-/// the same, is compared by `differential/run book`.
+/// Opens a text on both sides; nothing where one of them refuses it, but for the Rust and a run of
+/// stars. That they do so alike, and keep the same, is compared by `differential/run book`.
 pub fn opened(source: Source, text: &[u8]) -> Option<Opened<'_>> {
-    let held = Held::parse(source, text)?;
+    let held = Held::parse(source, text);
+    let runs = text_has_run(source, text);
+    if held.is_none() && !runs {
+        return None;
+    }
     let mut book = Buffers::new(Rooms::ample(text.len()));
     if ours::open(source, text, &mut book) != 0 {
         return None;
@@ -33,6 +43,7 @@ pub fn opened(source: Source, text: &[u8]) -> Option<Opened<'_>> {
     let ranking = Ranking::new(&model);
     Some(Opened {
         held,
+        runs,
         model,
         book,
         ranking,
@@ -49,12 +60,13 @@ impl Opened<'_> {
             demangled: b"f",
         };
         let got = [ours::version_count(book), ours::parent_count(book)];
-        let (want, others) = match self.published_counts() {
-            Some(counts) => (counts.map(Ok), vec![ours::contains(book, name)]),
-            None => (
-                [wrong; 2],
-                vec![ours::version(book, name, None), ours::locality(book, name)],
-            ),
+        let want = match &self.held {
+            Some(held) => held.counts().map_or([wrong; 2], |counts| counts.map(Ok)),
+            None => self.model.asked_counts(),
+        };
+        let others = match want == [wrong; 2] {
+            true => vec![ours::version(book, name, None), ours::locality(book, name)],
+            false => vec![ours::contains(book, name)],
         };
         expect(got == want, || {
             format!("the counts are {got:?}, and not {want:?}")
@@ -66,26 +78,37 @@ impl Opened<'_> {
 
     /// The counts of versions and parents that the Rust gives for a script.
     pub fn published_counts(&self) -> Option<[u32; 2]> {
-        self.held.counts()
+        self.held.as_ref()?.counts()
     }
 
-    /// The Rust's answer.
-    pub fn published(&self, question: &Question) -> Result<u32, u64> {
-        self.held.answer(question)
+    /// The Rust's answer, where it has opened the text.
+    pub fn published(&self, question: &Question) -> Option<Result<u32, u64>> {
+        Some(self.held.as_ref()?.answer(question))
     }
 
-    /// Whether the sides agree, or what is wrong.
+    /// Whether the Rust answers as we must, of a question that its runs of stars alone keep from being
+    /// within the domain.
+    fn alike(&self, question: &Question) -> Option<bool> {
+        if !self.runs || !question.is_within() {
+            return None;
+        }
+        Some(self.published(question)? == self.ranking.ranked(question).answer)
+    }
+
+    /// Whether the sides agree, and the number of the reason for which the question lies outside; or
+    /// what is wrong.
     fn compared(
         &self,
         question: &Question,
         coverage: Option<&mut Coverage>,
-    ) -> Result<Option<Outside>, String> {
-        let outside = question.outside();
+    ) -> Result<Option<usize>, String> {
+        let outside = question.outside().map(|reason| reason as usize);
+        let outside = outside.or(self.runs.then_some(RUN));
         let ranked = self.ranking.ranked(question);
         let want = ranked.answer;
         if outside.is_none() {
             let rust = self.published(question);
-            expect(rust == want, || {
+            expect(rust == Some(want), || {
                 format!("the Rust answers {rust:?}, the ranking gives {want:?}")
             })?;
         }
@@ -99,7 +122,8 @@ impl Opened<'_> {
 }
 
 pub struct Comparison {
-    tally: Tally<2>,
+    tally: Tally<3>,
+    runs: Runs,
     texts: u64,
     /// By their kinds.
     opened: [u64; 3],
@@ -112,7 +136,11 @@ pub struct Comparison {
 impl Comparison {
     pub fn new() -> Self {
         Self {
-            tally: Tally::new(Outside::REASONS),
+            tally: Tally::new({
+                let [limit, name] = Outside::REASONS;
+                [limit, name, "a run of stars"]
+            }),
+            runs: Runs::default(),
             texts: 0,
             opened: [0; 3],
             questions: 0,
@@ -137,6 +165,7 @@ impl Comparison {
             self.texts, self.questions
         );
         self.coverage.print();
+        self.runs.print("texts");
         if let Some((source, text, question)) = self.shortest {
             println!("the smallest: {}", smallest(source, &text, question));
         }
@@ -169,6 +198,9 @@ impl Comparison {
             return false;
         };
         self.opened[opened.model.kind as usize] += 1;
+        if opened.runs {
+            self.runs.read(text, opened.held.is_some());
+        }
         let counts = opened.counts();
         self.tally.judge(None, counts.is_ok(), || {
             format!("{source:?} {}", told(text, &counts.unwrap_err()))
@@ -177,7 +209,9 @@ impl Comparison {
             self.questions += 1;
             let compared = opened.compared(&question, Some(&mut self.coverage));
             let outside = compared.as_ref().ok().copied().flatten();
-            let outside = outside.map(|reason| reason as usize);
+            if let Some(alike) = opened.alike(&question) {
+                self.runs.asked(text, &question.raw, alike);
+            }
             if compared.is_err() {
                 self.differs(source, text, &question);
             }

@@ -13,9 +13,11 @@
 //! end. Of each text the counts of versions and parents are compared too, and, of our side alone, that
 //! a question of the other kind is refused 13.
 //!
-//! Outside the domain of equality, where we must refuse, lie names over the limit and names that are
-//! not UTF-8. Of the texts with comments and odd tokens, those that are not opened by both are left out:
-//! `differential/run book` compares them.
+//! Outside the domain of equality lie names over the limit and names that are not UTF-8, where we must
+//! refuse, and texts with a run of stars outside a bracket, where the ranking over the lines that we
+//! keep tells the answer; how often the Rust, where it takes such a text, answers otherwise is printed.
+//! Of the texts with comments and odd tokens, those that are not opened by both are left out, as are
+//! those with runs that we refuse: `differential/run book` compares them.
 
 mod compare;
 mod coverage;
@@ -80,6 +82,15 @@ fn compared(mut random: Random, rounds: u64) -> bool {
             }
         },
     );
+    comparison.phase("scripts and lists with runs of stars", |comparison| {
+        for _ in 0..rounds / 4 {
+            for kind in KINDS {
+                let text = texts::with_runs(&mut random, kind);
+                let source = kind.source();
+                comparison.text(source, &text, |book| many(&mut random, source, book));
+            }
+        }
+    });
     comparison.phase("around the limits of names", limits);
     comparison.finish()
 }

@@ -49,7 +49,7 @@ pub fn write(file: &str, mut random: Random) -> std::io::Result<()> {
 /// A text and its questions, no two alike.
 fn lines(random: &mut Random, source: Source, text: &[u8]) -> Option<String> {
     let opened = opened(source, text)?;
-    if text.len() > LONGEST || opened.model.lines.is_empty() {
+    if text.len() > LONGEST || opened.model.lines.is_empty() || opened.runs {
         return None;
     }
     let counts = opened.published_counts();
@@ -94,7 +94,7 @@ fn line(opened: &Opened, question: &Question) -> Option<String> {
         .wanted
         .as_ref()
         .map(|wanted| format!(" {}", hex(wanted)));
-    let answer = match opened.published(question) {
+    let answer = match opened.published(question)? {
         Ok(value) => value.to_string(),
         Err(_) => "!".to_string(),
     };

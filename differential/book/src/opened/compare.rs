@@ -5,11 +5,13 @@ use book::buffers::{Buffers, Rooms};
 use book::fault::fault;
 use book::model::{Line, Model};
 use book::reader::Refused;
+use book::runs::text_has_run;
 use book::trial::Trial;
 use book::{kind, limit, ours};
-use differential::domain::{adjacent_stars, stored_text};
+use differential::domain::shape;
 use differential::inputs::Random;
 use differential::report::{expect, smallest};
+use differential::runs::Runs;
 use differential::tally::Tally;
 use host::{class, refusal};
 use reading::verdict::{Outside, Verdict, REASONS};
@@ -76,6 +78,7 @@ pub struct Comparison {
     small: [u64; 2],
     /// How many openings had rooms up to the limits.
     full: u64,
+    runs: Runs,
     openings: Openings,
 }
 
@@ -87,6 +90,7 @@ impl Comparison {
             accepted: [0; 3],
             small: [0; 2],
             full: 0,
+            runs: Runs::default(),
             openings: Openings {
                 large: Buffers::new(Rooms::ample(0)),
                 small: Buffers::new(Rooms::ample(0)),
@@ -114,6 +118,7 @@ impl Comparison {
             "rooms up to the limits {} times; small rooms: refused 8 {refused} times, as in large ones {opened} times",
             self.full
         );
+        self.runs.print("texts");
         self.tally.finish()
     }
 
@@ -127,8 +132,10 @@ impl Comparison {
     fn source(&mut self, source: Source, text: &[u8], case: Case) {
         self.full += u64::from(case.full);
         let verdict = self.openings.verdict(source, text, case);
-        if let Verdict::Accepted(kind) = verdict {
-            self.accepted[kind as usize] += 1;
+        match verdict {
+            Verdict::Accepted(kind) => self.accepted[kind as usize] += 1,
+            Verdict::Outside(Outside::Run { taken }) => self.runs.read(text, taken),
+            _ => {}
         }
         let (outside, agree) = verdict.judged();
         let openings = &mut self.openings;
@@ -204,28 +211,29 @@ impl Openings {
             format!("refused {number} at {place}")
         })?;
 
+        let runs = text_has_run(source, text);
         match (published::read(source, text), number) {
+            (Answer::Refused, _) if runs => Ok(Verdict::Outside(Outside::Run { taken: false })),
             (Answer::Refused, 0) => Err("the Rust refuses, we accept".to_string()),
             (Answer::Endless, 0) => Err("the Rust never ends, we accept".to_string()),
-            (Answer::Accepted(rust), 0) => {
+            (Answer::Accepted(mut rust), 0) => {
                 let book = Model::of(&self.large);
+                if runs {
+                    squeeze(&mut rust);
+                }
                 same(source, &rust, &book)?;
-                Ok(Verdict::Accepted(book.kind))
+                match runs {
+                    true => Ok(Verdict::Outside(Outside::Run { taken: true })),
+                    false => Ok(Verdict::Accepted(book.kind)),
+                }
             }
             (Answer::Refused, _) => Ok(Verdict::Refused),
-            // 4 for an extern block within another. What stands before it may be over the limit, or
-            // have adjacent stars.
+            // 4 for an extern block within another. What stands before it may be over the limit.
             (Answer::Endless, refusal::UNCLOSED | refusal::BAD_EXTERN) => {
                 Ok(Verdict::Outside(Outside::Endless))
             }
-            (Answer::Endless, refusal::BAD_GLOB) if stars_at(text, place) => {
-                Ok(Verdict::Outside(Outside::Stars))
-            }
             (_, refusal::OVER_THE_LIMIT) if over_the_limit_at(text, place) => {
                 Ok(Verdict::Outside(Outside::Limit))
-            }
-            (Answer::Accepted(_), refusal::BAD_GLOB) if stars_at(text, place) => {
-                Ok(Verdict::Outside(Outside::Stars))
             }
             (Answer::Accepted(rust), refusal::NO_ROOM) if over_the_rows(&rust) => {
                 Ok(Verdict::Outside(Outside::Limit))
@@ -318,6 +326,38 @@ fn same(source: Source, rust: &Accepted, book: &Model) -> Result<(), String> {
     )
 }
 
+/// Makes each run of stars in the Rust's globs one star, which is what we keep.
+fn squeeze(rust: &mut Accepted) {
+    let squeeze = |glob: &mut Vec<u8>| {
+        let text = std::str::from_utf8(glob).expect("a glob is UTF-8");
+        *glob = shape(text).kept.into_bytes();
+    };
+    for matcher in rust
+        .nodes
+        .iter_mut()
+        .flat_map(|node| node.matchers.iter_mut().flatten())
+    {
+        let lines = match matcher {
+            Matcher::Bare(line) => std::slice::from_mut(line),
+            Matcher::Extern { lines, .. } => &mut lines[..],
+        };
+        let globs = lines.iter_mut().filter(|line| class::is_glob(line.class));
+        globs.for_each(|line| squeeze(&mut line.bytes));
+    }
+    if let Kept::Nodes(nodes) = &mut rust.kept {
+        for lines in nodes
+            .iter_mut()
+            .flat_map(|node| node.lines.iter_mut().flatten())
+        {
+            lines
+                .non_star
+                .iter_mut()
+                .chain(&mut lines.star)
+                .for_each(squeeze);
+        }
+    }
+}
+
 /// A node's name, and its lines by section in order of reading, each with its language.
 type Ordered<'a> = Vec<(&'a [u8], [Vec<(usize, u64, &'a [u8])>; 2])>;
 
@@ -390,12 +430,6 @@ fn tokens_at(text: &[u8], place: usize) -> impl Iterator<Item = &[u8]> {
 
 fn over_the_limit_at(text: &[u8], place: usize) -> bool {
     tokens_at(text, place).any(|token| token.len() > limit::TOKEN)
-}
-
-fn stars_at(text: &[u8], place: usize) -> bool {
-    tokens_at(text, place).any(|token| {
-        class::is_glob(host::published::class(token)) && adjacent_stars(&stored_text(token))
-    })
 }
 
 fn over_the_rows(rust: &Accepted) -> bool {

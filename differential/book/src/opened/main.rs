@@ -13,9 +13,10 @@
 //! private parts (probes/). The order of reading is told by the Rust's own `parse_version_section`
 //! and `parse_matcher` in a second run over the text, because its sets have forgotten it.
 //!
-//! Outside the domain of equality, where we must refuse whatever the Rust does, lie texts, tokens
-//! and rows over the limit, globs with two stars side by side outside a bracket, and extern blocks
-//! at which the Rust never ends.
+//! Outside the domain of equality lie texts, tokens and rows over the limit and extern blocks at which
+//! the Rust never ends, which we must refuse whatever the Rust does, and globs with a run of stars
+//! outside a bracket, of which we must keep what document 02, request 01, says. Where the Rust takes
+//! such a text, all else must be what it keeps; how many it refuses is printed.
 //!
 //! Besides, of our side alone: what was opened is a book, by the library's own check and by the
 //! plain reading of row 14 in this crate; a refused opening leaves all lent memory zero; nothing
@@ -144,6 +145,7 @@ fn rows(comparison: &mut Comparison) {
         for [front, line, back] in [
             ["{", "a;", "};"],
             ["{", "*;", "};"],
+            ["{", "**;", "};"],
             ["A{local:", "[^a]*;\n", "};"],
             ["{extern \"C++\"{", "\\*;", "};};"],
             ["{local:*;", "\"\";", "};"],
