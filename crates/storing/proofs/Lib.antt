@@ -1,3 +1,4 @@
 pub mod Keeping
 mod Answers
+mod Plain
 mod Squeezing

@@ -4,7 +4,7 @@ use native.Mathlib.Omega.{arith}
 use borrow.Author.Needs.{needs}
 use lib.ListN.{length}
 use Rattle.storing.proofs.Squeezing.{Copied, copied-none, copied-less, copied-room, copied-more, copied-long, copied-all, copied-count}
-use Rattle.storing.proofs.Squeezing.{plain-fits, plain-count, plain-copied}
+use Rattle.storing.proofs.Plain.{plain-fits, plain-count, plain-copied}
 use Rattle.storing.proofs.runs.copy_kept.Statement.{statement}
 use Rattle.storing.proofs.runs.copy_kept.Tie as tie
 

@@ -2,7 +2,8 @@
 use Prim.Native.Nat.{_-_}
 use borrow.Author.Needs.{needs}
 use lib.ListN.{length}
-use Rattle.storing.proofs.Squeezing.{Unchanged, unchanged-none, unchanged-less, unchanged-other, unchanged-more, unchanged-all, plain-unchanged}
+use Rattle.storing.proofs.Plain.{plain-unchanged}
+use Rattle.storing.proofs.Squeezing.{Unchanged, unchanged-none, unchanged-less, unchanged-other, unchanged-more, unchanged-all}
 use Rattle.storing.proofs.runs.is_as_stored.Statement.{statement}
 use Rattle.storing.proofs.runs.is_as_stored.Tie as tie
 

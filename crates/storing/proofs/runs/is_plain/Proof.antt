@@ -3,7 +3,7 @@ use Prim.Native.Nat.{_-_}
 use native.Mathlib.Omega.{arith}
 use borrow.Author.Needs.{needs}
 use lib.ListN.{length}
-use Rattle.storing.proofs.Squeezing.{Plain, plain-none, plain-stops, plain-more, plain-all}
+use Rattle.storing.proofs.Plain.{Plain, plain-none, plain-stops, plain-more, plain-all}
 use Rattle.storing.proofs.runs.is_plain.Statement.{statement}
 use Rattle.storing.proofs.runs.is_plain.Tie as tie
 
