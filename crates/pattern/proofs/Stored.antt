@@ -80,7 +80,7 @@ module _ (e : Edition) (t : List ℕ) where
   unfolding stored
   stored-twice = ap (squeezed e) negated-stored ∙ stored-squeezed
 
--- ---- so a glob is as it is stored exactly where it has no `[^`, and outside brackets no run of stars
+-- ---- so a glob of UTF-8 is as it is stored exactly where it has no `[^`, and outside brackets no run of stars
 module _ (e : Edition) (s : List ℕ) where
   -- bytes that have no run, and whose characters are one way only, stay
   stays : utf8 s ≡ true → negated e s ≡ s → has-run false (elements e s) ≡ false → stored e s ≡ s

@@ -1,6 +1,6 @@
 -- Runs of stars (02, request 01): "a run outside a bracket is kept as one star".
--- Proved of these definitions (proofs/Runs.antt), for every text and name: what is kept has the elements of what was given, without the stars behind a
--- star, and matches the same names; it has no run, and squeezed again it stays; its characters are those of the text, squeezed.
+-- Proved of these definitions (proofs/Runs.antt, Stored.antt), for every text and name: what is kept has the elements of what was given, without the stars
+-- behind a star, and matches the same names; it has no run, and squeezed again it stays; its characters are those of the text, squeezed.
 -- Assumes nothing.
 use Prim.Native.Nat.{ℕ, zero, suc}
 use mathlib.Core.List.{List, [], _∷_}
