@@ -1,7 +1,10 @@
 """What each program has to print and to say for an input. The output is walked beside the input's lines: a name may hold any byte and is given back as it is,
-so only the input says where an answer ends. How many answers there are, what each gives back, every number that the input alone decides, and all of standard
-error are asked for exactly. Whether a version, a locality or a match is the right one is not asked: that is proved."""
+so only the input says where an answer ends. How many answers there are, what each gives back, every number that the input alone decides, how many lines a book
+has and where each came from, and all of standard error are asked for exactly. Whether a version, a locality or a match is the right one is not asked: that is
+proved."""
 import re
+
+import places
 
 LIMIT = 65536        # bytes of an input
 NAME_LIMIT = 4096    # bytes of a name or of a wanted version
@@ -178,22 +181,29 @@ def number_of(digits):
     return int(digits) if len(digits) <= 10 and int(digits) < 2**32 else None
 
 
+def offsets(text, export):
+    """Of each line of an accepted text its offset."""
+    try:
+        return [place + 1 for place in places.places(text, export)]
+    except places.Unread as wrong:
+        raise Fault(f'the text is accepted, and {wrong}') from None
+
+
 class Desk:
-    """A walk over the commands of trial_desk: what the answers have told of the book, and what was said on standard error."""
+    """A walk over the commands of trial_desk: what the text and the answers have told of the book, and what was said on standard error."""
 
-    ROW = re.compile(rb'%s \d{1,10} [0-4] [01] [01] ([01]) %s ' % (NUMBER, NUMBER))
+    ROW = re.compile(rb'%s \d{1,10} [0-4] [01] [01] ([01]) %s %s ' % (NUMBER, NUMBER, NUMBER))
 
-    def __init__(self, export, printed):
+    def __init__(self, text, export, printed):
         self.export, self.printed, self.said = export, printed, []
-        self.count = None      # how many lines the book has, None until an answer tells it
-        self.nodes = None      # how many nodes, and bytes of their names, in the same way; no command changes them
+        self.offsets = offsets(text, export)    # one for each line that the book has
+        self.nodes = None      # how many nodes, and bytes of their names, None until an answer tells it; no command changes them
         self.struck = set()
         self.edits = []        # those that can be undone: the number of a line that was struck, None for one that was added
 
     def hold(self, count):
-        if self.count not in (None, count):
-            raise Fault(f'the book has {count} lines, and had {self.count} by the answers before')
-        self.count = count
+        if count != len(self.offsets):
+            raise Fault(f'the book has {count} lines, and not {len(self.offsets)}')
 
     def hold_nodes(self, *nodes):
         if self.nodes not in (None, nodes):
@@ -215,14 +225,14 @@ class Desk:
         if self.refused(b'5|6|8|11|13'):
             return
         self.hold(int(self.printed.line(b'added ' + NUMBER)[1]))
-        self.count += 1
+        self.offsets.append(0)
         self.edits.append(None)
 
     def strike(self, line):
         if self.refused(b'8|11|13'):
             return
         self.printed.line(b'struck %d' % line)
-        if line in self.struck or self.count is not None and line >= self.count:
+        if line in self.struck or line >= len(self.offsets):
             raise Fault(f'line {line} is struck, which does not stand')
         self.struck.add(line)
         self.edits.append(line)
@@ -234,14 +244,15 @@ class Desk:
         line = self.edits.pop()
         if line is not None:
             self.struck.remove(line)
-        elif self.count is not None:
-            self.count -= 1
+        else:
+            self.offsets.pop()
 
     def settle(self):
         left = int(self.printed.line(b'settled ' + NUMBER)[1])
         self.hold(left + len(self.struck))
         if self.struck:
-            self.count, self.struck, self.edits = left, set(), []
+            self.offsets = [offset for i, offset in enumerate(self.offsets) if i not in self.struck]
+            self.struck, self.edits = set(), []
 
     def symbol(self):
         if not self.export:
@@ -250,8 +261,7 @@ class Desk:
             return
         added = int(self.printed.line(b'added ' + NUMBER)[1])
         self.edits += [None] * added
-        if self.count is not None:
-            self.count += added
+        self.offsets += [0] * added
 
     def ask(self, line):
         if not self.export:
@@ -274,21 +284,27 @@ class Desk:
             return False
         if (found[2] == b'1') != (i in self.struck):
             raise Fault(f'line {i} is shown as {"struck" if found[2] == b"1" else "standing"}')
+        if int(found[4]) != self.offsets[i]:
+            raise Fault(f'line {i} has the offset {int(found[4])}, and not {self.offsets[i]}')
         self.printed.at = end + 1
         return True
 
     def lines(self):
         rows = 0
-        while rows != self.count and self.row(rows):
+        while rows < len(self.offsets) and self.row(rows):
             rows += 1
         self.hold(rows)
 
     def dump(self):
-        used = [self.printed.line(word + rb'((?: \d{1,10})*)')[1].count(b' ') for word in (b'nodes', b'names', b'lines', b'pool', b'journal')]
-        if used[0] % 3 or used[2] % 4 or used[4] != 2 * len(self.edits):
+        numbers = [self.printed.line(word + rb'((?: \d{1,10})*)')[1].split() for word in (b'nodes', b'names', b'lines', b'pool', b'journal')]
+        used = [len(buffer) for buffer in numbers]
+        if used[0] % 3 or used[2] % 5 or used[4] != 2 * len(self.edits):
             raise Fault(f'the dump has {used} numbers, with {len(self.edits)} edits')
         self.hold_nodes(used[0] // 3, used[1])
-        self.hold(used[2] // 4)
+        self.hold(used[2] // 5)
+        shown = [int(offset) for offset in numbers[2][4::5]]
+        if shown != self.offsets:
+            raise Fault(f'the dump has the offsets {shown[:20]}, and not {self.offsets[:20]}')
 
     def unknown(self):
         self.printed.line(rb'\?')
@@ -318,8 +334,9 @@ def trial_desk(run, printed, errors):
         return say(errors, KNOWN_ARGUMENT)
     if refused_text(b'trial_desk', run, printed, errors):
         return
-    desk = Desk(bool(run.words), printed)
-    for line in parts(run.given)[1]:
+    text, lines = parts(run.given)
+    desk = Desk(text, bool(run.words), printed)
+    for line in lines:
         desk.command(line)
     printed.end()
     say(errors, b''.join(desk.said))

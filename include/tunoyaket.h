@@ -104,15 +104,20 @@ extern "C" {
 #define TUNO_NODE_LENGTH 1u
 #define TUNO_NODE_PARENT 2u
 
-/* A row of `lines`: node, code, where its bytes start in `pool`, their number. Lines are numbered
- * from 0. The bytes are what is kept of the token: without quotes; of an escaped one without its
- * `\`; of a glob with each `[^` as `[!`, and then a run of `*` outside brackets as one; of a lone `*`
- * none. */
-#define TUNO_LINE_WIDTH 4u
+/* A row of `lines`: node, code, where its bytes start in `pool`, their number, offset. Lines are
+ * numbered from 0. The bytes are what is kept of the token: without quotes; of an escaped one
+ * without its `\`; of a glob with each `[^` as `[!`, and then a run of `*` outside brackets as one;
+ * of a lone `*` none. */
+#define TUNO_LINE_WIDTH 5u
 #define TUNO_LINE_NODE 0u
 #define TUNO_LINE_CODE 1u
 #define TUNO_LINE_START 2u
 #define TUNO_LINE_LENGTH 3u
+/* Where the line came from: the place of its token in the opened text, in bytes from 0, plus one; of
+ * a token in quotes that of the opening quote. 0 for a line that tuno_add or tuno_add_symbol added.
+ * A line keeps it through strike, undo and settle, though a settle may renumber the line. No
+ * question looks at it. A lent book with one over TUNO_SCRIPT_LIMIT is refused with 14. */
+#define TUNO_LINE_OFFSET 4u
 
 /* A line's code is class * 4 + section * 2 + language, and 32 more where the line is struck. */
 #define TUNO_CODE_CLASS(code) ((code) % 32u / 4u)
@@ -170,7 +175,7 @@ extern "C" {
  * it takes longer in larger rooms.
  *
  * A book may be moved to other rooms. It fills the first 3 * counts[1] numbers of `nodes`,
- * counts[2] bytes of `names`, 4 * counts[3] numbers of `lines`, counts[4] bytes of `pool` and
+ * counts[2] bytes of `names`, 5 * counts[3] numbers of `lines`, counts[4] bytes of `pool` and
  * 2 * counts[5] numbers of `journal`. Copy at least these, zeros among them too, and fill what is
  * longer with zeros. */
 
@@ -287,9 +292,9 @@ uint32_t tuno_contains(
 /* ---- Edits. Where nothing is refused the counts and the buffers without `const` are those of the
  * changed book. */
 
-/* Appends a line, whose number is the count of lines before the call. The token is trimmed at its
- * end and classed as in a script; it may be any bytes or none. Refusals: 14, 13 (Rust kind), 11, 1,
- * 5, 6, 8. */
+/* Appends a line, whose number is the count of lines before the call, with the offset 0. The token
+ * is trimmed at its end and classed as in a script; it may be any bytes or none. Refusals: 14, 13
+ * (Rust kind), 11, 1, 5, 6, 8. */
 uint32_t tuno_add(
     uint32_t *counts, size_t counts_length,
     const uint32_t *nodes, size_t nodes_length,
@@ -323,7 +328,7 @@ uint32_t tuno_undo(
     uint32_t *journal, size_t journal_length);
 
 /* Drops the struck lines, packs and renumbers the rest in order, and empties the journal; with none
- * struck nothing changes. Refusals: 14. */
+ * struck nothing changes. The lines that stand keep their offsets. Refusals: 14. */
 uint32_t tuno_settle(
     uint32_t *counts, size_t counts_length,
     const uint32_t *nodes, size_t nodes_length,
@@ -333,9 +338,10 @@ uint32_t tuno_settle(
     uint32_t *journal, size_t journal_length);
 
 /* Reads one matcher at the start of the text, ignores what is left, and adds its lines to an export
- * list, all or none, each as one edit. Nothing is skipped before the matcher: a blank there belongs
- * to the token. Behind the `};` of an extern block blanks and comments still belong to the matcher:
- * `extern "C" { g; }; #x` is refused with 3, since its comment has no line feed.
+ * list, all or none, each as one edit and with the offset 0. Nothing is skipped before the matcher:
+ * a blank there belongs to the token. Behind the `};` of an extern block blanks and comments still
+ * belong to the matcher: `extern "C" { g; }; #x` is refused with 3, since its comment has no line
+ * feed.
  * Where `without_semicolon` is not 0, a token outside extern goes to the first `}`, a `;` included.
  * Where there is none it is all the text, and blanks and comments are skipped from the text's first
  * byte: `#x` and a text that starts with an open comment are refused with 3, `x #` is a token. In

@@ -54,7 +54,7 @@ struct book {
     struct rooms rooms;
     uint32_t counts[TUNO_COUNTS + 3];
     uint32_t nodes[TUNO_NODES_ROOM + 5];
-    uint32_t lines[TUNO_LINES_ROOM + 6];
+    uint32_t lines[TUNO_LINES_ROOM + 7];
     uint32_t journal[TUNO_JOURNAL_ROOM + 4];
     uint8_t names[TUNO_NAMES_ROOM + 2];
     uint8_t pool[TUNO_POOL_ROOM + 3];
@@ -69,7 +69,7 @@ static uint8_t text[TUNO_SCRIPT_LIMIT + 1];
 
 static const struct rooms all_rooms = {
     TUNO_COUNTS, TUNO_NODES_ROOM, TUNO_NAMES_ROOM, TUNO_LINES_ROOM, TUNO_POOL_ROOM, TUNO_JOURNAL_ROOM};
-static const struct rooms some_rooms = {TUNO_COUNTS, 31, 64, 42, 70, 17};
+static const struct rooms some_rooms = {TUNO_COUNTS, 31, 64, 52, 70, 17};
 
 static void lend(struct rooms rooms) {
     memset(&b, BYTE_NOISE, sizeof b);
@@ -244,6 +244,18 @@ static int line_is(
         row[TUNO_LINE_LENGTH] == strlen(stored) && memcmp(b.pool + 1 + start, stored, strlen(stored)) == 0;
 }
 
+static uint32_t *offset(uint32_t line) { return b.lines + 1 + TUNO_LINE_WIDTH * line + TUNO_LINE_OFFSET; }
+
+/* Whether the lines have these offsets, one each. */
+static int offsets_are(const char *expected) {
+    uint32_t line;
+    char *end;
+    for (line = 0; line < count(TUNO_COUNT_LINES); line++, expected = end) {
+        if (strtoul(expected, &end, 10) != *offset(line) || end == expected) return 0;
+    }
+    return *expected == 0;
+}
+
 static int edit_is(uint32_t edit, uint32_t what, uint32_t line) {
     const uint32_t *row = b.journal + 1 + TUNO_EDIT_WIDTH * edit;
     return row[TUNO_EDIT_WHAT] == what && row[TUNO_EDIT_LINE] == line;
@@ -305,6 +317,7 @@ static void test_story(const char *path) {
     CHECK(line_is(0, 1, TUNO_CLASS_STAR, TUNO_SECTION_GLOBAL, TUNO_LANGUAGE_GENERAL, 0, 0, "haze_*"));
     CHECK(line_is(1, 1, TUNO_CLASS_ALL, TUNO_SECTION_LOCAL, TUNO_LANGUAGE_GENERAL, 0, 6, ""));
     CHECK(line_is(2, 2, TUNO_CLASS_EXACT, TUNO_SECTION_GLOBAL, TUNO_LANGUAGE_GENERAL, 0, 6, "haze_month"));
+    CHECK(offsets_are("18 33 56"));
 
     /* "With line 0 struck, haze_day is 2 L; after undo 2 G." */
     keep();
@@ -472,9 +485,10 @@ static void test_refused_openings(void) {
 
         /* rooms; a row that is not whole is none */
         CHECK(without_room(function, "#", rooms_of(2, 0, 0, 0), 0));
-        CHECK(without_room(function, "{ f; };", rooms_of(3, 0, 3, 1), 2));
-        CHECK(without_room(function, "{ f; ab; };", rooms_of(3, 0, 8, 2), 5));
-        lend(rooms_of(3, 0, 8, 3));
+        CHECK(without_room(function, "{ f; };", rooms_of(3, 0, 4, 1), 2));
+        CHECK(without_room(function, "{ f; ab; };", rooms_of(3, 0, 9, 3), 5));
+        CHECK(without_room(function, "{ f; ab; };", rooms_of(3, 0, 10, 2), 5));
+        lend(rooms_of(3, 0, 10, 3));
         CHECK(opened(function, "{ f; ab; };") == 0);
         CHECK(untouched_beside());
         lend(rooms_of(3, 0, 0, 0));
@@ -517,7 +531,7 @@ static struct rooms rooms_for(size_t length) {
 
 static int enough(int function, const uint8_t *script, size_t length) {
     uint64_t answer = answer_in(function, script, length, rooms_for(length));
-    return answer == answer_in(function, script, length, rooms_of(300, 100, 400, 100));
+    return answer == answer_in(function, script, length, rooms_of(300, 100, 500, 100));
 }
 
 static void test_rooms(void) {
@@ -728,7 +742,7 @@ static void test_refused_edits(void) {
     CHECK(refused_edit(symbol("extern \"C\" { a; [; };", 0), TUNO_BAD_PATTERN));
 
     /* rooms: a row of lines, a byte of the pool, a row of the journal */
-    lend(rooms_of(3, 0, 11, 8));
+    lend(rooms_of(3, 0, 14, 8));
     b.rooms.journal = 4;
     CHECK(opened(LIST, "{ f; };") == 0);
     keep();
@@ -815,7 +829,7 @@ static void test_trial(void) {
     CHECK(count(TUNO_COUNT_LINES) == 2 && count(TUNO_COUNT_POOL_BYTES) == 17 && count(TUNO_COUNT_EDITS) == 0);
     CHECK(line_is(0, 2, TUNO_CLASS_EXACT, TUNO_SECTION_GLOBAL, TUNO_LANGUAGE_GENERAL, 0, 0, "haze_month"));
     CHECK(line_is(1, 1, TUNO_CLASS_STAR, TUNO_SECTION_GLOBAL, TUNO_LANGUAGE_GENERAL, 0, 10, "haze_d*"));
-    CHECK(zero(b.lines + 1 + 8, 4 * (b.rooms.lines - 8)) && zero(b.pool + 1 + 17, b.rooms.pool - 17) && zero(b.journal + 1, 4 * b.rooms.journal));
+    CHECK(zero(b.lines + 1 + 10, 4 * (b.rooms.lines - 10)) && zero(b.pool + 1 + 17, b.rooms.pool - 17) && zero(b.journal + 1, 4 * b.rooms.journal));
     CHECK(version("haze_day") == 0 && value == 2);
     CHECK(version("main") == 0 && value == TUNO_VERSION_NONE);
     keep();
@@ -826,7 +840,7 @@ static void test_trial(void) {
     CHECK(as_before());
 
     /* a settle frees room: a book that is full takes a line again */
-    lend(rooms_of(3, 0, 8, 2));
+    lend(rooms_of(3, 0, 10, 2));
     CHECK(opened(LIST, "{ f; g; };") == 0);
     CHECK(add(0, 0, 0, "h") == TUNO_NO_ROOM);
     CHECK(strike(0) == 0 && settle() == 0 && add(0, 0, 0, "h") == 0);
@@ -884,10 +898,10 @@ static void test_runs(void) {
     CHECK(count(TUNO_COUNT_KIND) == TUNO_KIND_REGULAR);
 
     /* room is asked of what is kept, the limit of the token */
-    lend(rooms_of(3, 0, 4, 2));
+    lend(rooms_of(3, 0, 5, 2));
     CHECK(opened(LIST, "{ a**; };") == 0);
     CHECK(untouched_beside());
-    CHECK(without_room(LIST, "{ a**; };", rooms_of(3, 0, 4, 1), 2));
+    CHECK(without_room(LIST, "{ a**; };", rooms_of(3, 0, 5, 1), 2));
     lend(all_rooms);
     repeat("*", TUNO_TOKEN_LIMIT, "{ ", "; };", &length);
     CHECK(open_bytes(SCRIPT, text, length) == 0);
@@ -922,10 +936,145 @@ static void test_runs(void) {
     CHECK(versions(1) == 0);
 }
 
+/* ---- offsets: where a line came from */
+
+/* What the offsets of `{..;};` are, told without the library, where there are only tokens, quotes and blanks within: a token stands behind blanks and goes to
+ * its `;`. Without a byte there it is refused, and there are no lines. */
+static size_t read_offsets(const uint8_t *script, uint32_t *offsets) {
+    size_t lines = 0, place;
+    for (place = 1;; place++) {
+        while (script[place] == ' ') place++;
+        if (script[place] == '}') return lines;
+        if (script[place] == ';') return 0;
+        offsets[lines++] = (uint32_t)place + 1;
+        while (script[place] != ';') place++;
+    }
+}
+
+static int offsets_as_read(int function, const uint8_t *script, size_t length) {
+    uint32_t offsets[4];
+    size_t lines = read_offsets(script, offsets), i;
+    if ((TUNO_REFUSAL(open_bytes(function, script, length)) == 0) != (lines != 0) || count(TUNO_COUNT_LINES) != lines) return 0;
+    for (i = 0; i < lines; i++) {
+        if (*offset((uint32_t)i) != offsets[i]) return 0;
+    }
+    return 1;
+}
+
+static void test_opened_offsets(void) {
+    static const char signs[] = "a ;\"";
+    uint8_t script[11];
+    size_t length, place, i;
+    unsigned as_read = 0, tried = 0;
+
+    CHECK(opened_fresh(SCRIPT, "V { a; \\f; };") == 0 && offsets_are("5 8"));
+    CHECK(opened_fresh(SCRIPT, "V { a; b; };W { c; }V;") == 0 && offsets_are("5 8 17"));
+    CHECK(opened_fresh(SCRIPT, "{ f; local: *; };") == 0 && offsets_are("3 13"));
+    CHECK(count(TUNO_COUNT_KIND) == TUNO_KIND_RUST);
+    CHECK(opened_fresh(LIST, "{ f; extern \"C\" { g; \"h\"; }; };") == 0 && offsets_are("3 19 22"));
+    /* the quote's place; behind comments, and to the `}` of an extern block */
+    CHECK(opened_fresh(SCRIPT, "{ \"a b\" ; *; };") == 0 && offsets_are("3 11"));
+    CHECK(opened_fresh(SCRIPT, "# c\n{\r\n\tlocal: /* d */ a; extern \"C++\" { \"b()\"; c }; };") == 0 && offsets_are("24 42 49"));
+    /* a form feed is a token, and nothing is kept of it */
+    CHECK(opened_fresh(SCRIPT, "V { a; \f; };") == 0 && offsets_are("5 8"));
+    CHECK(line_is(1, 1, TUNO_CLASS_EXACT, 0, 0, 0, 1, ""));
+
+    /* every text with up to six of these signs before the last token's `z` */
+    lend(some_rooms);
+    for (length = 0; length <= 6; length++) {
+        size_t texts = (size_t)1 << (2 * length);
+        script[0] = '{';
+        memcpy(script + 1 + length, "z;};", 4);
+        for (i = 0; i < texts; i++) {
+            for (place = 0; place < length; place++) script[1 + place] = (uint8_t)signs[(i >> (2 * place)) & 3];
+            tried += 2;
+            as_read += (unsigned)offsets_as_read(SCRIPT, script, length + 5) + (unsigned)offsets_as_read(LIST, script, length + 5);
+        }
+    }
+    CHECK(as_read == tried);
+
+    /* the greatest: in the longest text, with `;};` alone behind the token's byte */
+    for (i = 0; i < 2; i++) {
+        lend(all_rooms);
+        repeat(" ", TUNO_SCRIPT_LIMIT - 5, "{", "a;};", &length);
+        CHECK(length == TUNO_SCRIPT_LIMIT);
+        CHECK(open_bytes(i == 0 ? SCRIPT : LIST, text, length) == 0 && offsets_are("1048573"));
+        CHECK(untouched_beside());
+    }
+}
+
+static void test_edited_offsets(void) {
+    CHECK(opened_fresh(SCRIPT, haze) == 0);
+    CHECK(add(2, TUNO_SECTION_LOCAL, 0, "\"f\"") == 0 && offsets_are("18 33 56 0"));
+    CHECK(strike(1) == 0 && strike(3) == 0 && offsets_are("18 33 56 0"));
+    CHECK(undo() == 0 && offsets_are("18 33 56 0"));
+    /* a settle renumbers the lines that stand, each with its offset */
+    CHECK(settle() == 0 && offsets_are("18 56 0"));
+    CHECK(line_is(1, 2, TUNO_CLASS_EXACT, 0, 0, 0, 6, "haze_month"));
+    keep();
+    CHECK(strike(1) == 0 && add(1, 0, 0, "g") == 0 && offsets_are("18 56 0 0"));
+    CHECK(undo() == 0 && undo() == 0 && as_before());
+    CHECK(strike(0) == 0 && settle() == 0 && offsets_are("56 0"));
+    CHECK(strike(0) == 0 && settle() == 0 && offsets_are("0"));
+
+    CHECK(opened_fresh(LIST, "{ f; \"g\"; };") == 0 && offsets_are("3 6"));
+    CHECK(symbol("extern \"C++\" { a; \"b()\"; };", 0) == 0 && offsets_are("3 6 0 0"));
+    CHECK(symbol("c; d;", 0) == 0 && symbol("e", 1) == 0 && offsets_are("3 6 0 0 0 0"));
+    CHECK(undo() == 0 && offsets_are("3 6 0 0 0"));
+    CHECK(strike(0) == 0 && strike(2) == 0 && settle() == 0 && offsets_are("6 0 0"));
+}
+
+/* Lent rows with other offsets: the last that is accepted is the longest text's length. */
+static void test_lent_offsets(void) {
+    uint32_t line;
+    int function;
+    for (function = SCRIPT; function <= LIST; function++) {
+        for (line = 0; line < 2; line++) {
+            CHECK(opened_fresh(function, "{ f; g; };") == 0);
+            *offset(line) = TUNO_SCRIPT_LIMIT;
+            CHECK((function == SCRIPT ? locality("f") : contains("f")) == 0 && value == 1);
+            CHECK(strike(line) == 0 && undo() == 0 && settle() == 0 && *offset(line) == TUNO_SCRIPT_LIMIT);
+            *offset(line) = TUNO_SCRIPT_LIMIT + 1;
+            CHECK(no_book());
+            *offset(line) = 0xffffffffu;
+            CHECK(no_book());
+            *offset(line) = 0;
+            CHECK((function == SCRIPT ? locality("f") : contains("f")) == 0 && value == 1);
+        }
+    }
+
+    /* an added line's need not be 0, and its undo clears the row */
+    CHECK(opened_fresh(SCRIPT, haze) == 0);
+    keep();
+    CHECK(add(1, 0, 0, "f") == 0);
+    *offset(3) = 7;
+    CHECK(strike(3) == 0 && undo() == 0 && offsets_are("18 33 56 7"));
+    CHECK(undo() == 0 && as_before());
+    CHECK(add(1, 0, 0, "f") == 0);
+    *offset(3) = 7;
+    CHECK(strike(0) == 0 && settle() == 0 && offsets_are("33 56 7"));
+    *offset(2) = TUNO_SCRIPT_LIMIT + 1;
+    CHECK(no_book());
+
+    /* no question looks at it */
+    CHECK(opened_fresh(SCRIPT, haze) == 0);
+    *offset(0) = 56;
+    *offset(1) = 0;
+    *offset(2) = 56;
+    keep();
+    CHECK(versions(1) == 0 && value == 3);
+    CHECK(parents(1) == 0 && value == 1);
+    CHECK(version("haze_month") == 0 && value == 3);
+    CHECK(version("haze_day") == 0 && value == 2);
+    CHECK(locality("haze_day") == 0 && value == TUNO_LOCALITY_GLOBAL);
+    CHECK(locality("main") == 0 && value == TUNO_LOCALITY_LOCAL);
+    CHECK(as_before());
+}
+
 /* ---- a book in larger rooms: the same contents with zeros behind */
 
 static void test_larger_rooms(void) {
-    lend(rooms_of(9, 12, 12, 16));
+    lend(rooms_of(9, 12, 15, 16));
     b.rooms.journal = 0;
     CHECK(opened(SCRIPT, haze) == 0);
     CHECK(strike(0) == TUNO_NO_ROOM);
@@ -959,6 +1108,9 @@ int main(int argc, char **argv) {
     test_trial();
     test_add_symbol();
     test_runs();
+    test_opened_offsets();
+    test_edited_offsets();
+    test_lent_offsets();
     test_larger_rooms();
     for (function = 0; function < FUNCTIONS; function++) CHECK(met[function] == declared(function));
     printf("%u passed, %u failed\n", passed, failed);

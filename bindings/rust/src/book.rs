@@ -2,7 +2,8 @@
 
 use crate::calls::Buffers;
 use crate::parts::{Kind, Language, Line, Node, NodeNumber, Section, VersionIndex};
-use crate::refusal::{Place, Refusal};
+use crate::place::Place;
+use crate::refusal::Refusal;
 use crate::rooms::{Needs, Rooms, LINE_WIDTH, NODE_WIDTH};
 use std::fmt;
 use std::ops::Range;
@@ -18,6 +19,7 @@ use std::ops::Range;
 /// [`Book::kind`] and [`Book::edit_count`] read the buffers and call nothing.
 ///
 /// Two books are equal where their kinds, nodes and lines are, and the edits that can be undone.
+/// Offsets are a part of lines: of two scripts that differ in a blank the books may differ too.
 #[derive(Clone)]
 pub struct Book {
     buffers: Buffers,
@@ -206,7 +208,7 @@ impl Book {
     }
 
     /// Adds a line and tells its number. The token is trimmed at its end and classed as in a
-    /// script; it may be any bytes or none.
+    /// script; it may be any bytes or none. The line has no [`offset`](Line::offset).
     ///
     /// # Errors
     ///
@@ -288,7 +290,8 @@ impl Book {
     }
 
     /// Drops the struck lines, renumbers the rest in order, and forgets the edits; with none struck
-    /// nothing changes, and undo still works.
+    /// nothing changes, and undo still works. Each line that is left keeps its
+    /// [`offset`](Line::offset).
     ///
     /// # Errors
     ///
@@ -312,7 +315,8 @@ impl Book {
     /// Reads one matcher at the start of a text, a token or an extern block, and adds its lines to
     /// an export list, all or none. Tells their numbers. What is left of the text is ignored, but
     /// for the blanks and comments behind an extern block's `};`, which belong to it: a comment
-    /// there that is not closed is refused. A blank at the text's start belongs to the token.
+    /// there that is not closed is refused. A blank at the text's start belongs to the token. The
+    /// lines have no [`offset`](Line::offset).
     ///
     /// `without_semicolon` says that a token outside extern goes to the first `}`, a `;` included,
     /// and one in an extern block to its `;` where no `};` is left. Where there is no `}` the token
@@ -385,6 +389,7 @@ impl Book {
     /// assert_eq!((line.number, line.node.0), (1, 1));
     /// assert_eq!((line.class, line.section), (Class::Star, Section::Local));
     /// assert_eq!((line.bytes, line.struck), (&b"[!a]*"[..], false));
+    /// assert_eq!(line.offset, Some(15));
     /// # Ok::<(), tunoyaket::Refusal>(())
     /// ```
     pub fn lines(&self) -> impl DoubleEndedIterator<Item = Line<'_>> + ExactSizeIterator {
@@ -499,7 +504,7 @@ mod tests {
         assert_eq!(book.buffers.rooms(), book.buffers.used());
         assert_eq!(book.add_symbol(&text, false), Ok(2..3));
         let rooms = book.buffers.rooms();
-        assert_eq!((rooms.lines, rooms.pool, rooms.journal), (16, 4, 4));
+        assert_eq!((rooms.lines, rooms.pool, rooms.journal), (20, 4, 4));
     }
 
     #[test]

@@ -366,6 +366,7 @@ mod tests {
         let mut buffers = Buffers::with(Rooms::most(64));
         assert_eq!(buffers.open_version_script(b"V1 { haze_*; };"), 0);
         assert_eq!(buffers.version_count(), Ok(2));
+        assert_eq!(buffers.lines[..6], [1, 12, 0, 6, 6, 0]);
         let changed = |change: fn(&mut Buffers)| {
             let mut changed = buffers.clone();
             change(&mut changed);
@@ -374,7 +375,10 @@ mod tests {
         refuses_all(&changed(|book| book.counts[0] = 3)); // a kind that there is not
         refuses_all(&changed(|book| book.counts[3] += 1)); // a line more than was read
         refuses_all(&changed(|book| book.lines[2] = 1)); // a gap before the line's bytes
+        refuses_all(&changed(|book| book.lines[4] = 1_048_577)); // an offset behind every text
         refuses_all(&changed(|book| book.pool[6] = b'x')); // a rest that is not zero
         refuses_all(&changed(|book| book.names[0] = b'{')); // a name that no script gives
+        let last = changed(|book| book.lines[4] = 1_048_576);
+        assert_eq!(last.version_count(), Ok(2));
     }
 }

@@ -5,15 +5,15 @@
 //! says, on every input; this crate lends it memory. Every call ends with an answer or a numbered
 //! [`Refusal`], whatever the bytes.
 //!
-//! What version has `haze_month`, and what would the library export without the wildcard line?
+//! What version has `haze_month`, what would the library export without the wildcard line, and where
+//! in the script does that line stand?
 //!
 //! ```
 //! use tunoyaket::{Book, Section};
 //!
-//! let mut book = Book::version_script(
-//!     b"HAZE_1 { global: haze_*; local: *; };
-//!       HAZE_2 { global: haze_month; } HAZE_1;",
-//! )?;
+//! let script = b"HAZE_1 { global: haze_*; local: *; };
+//!                HAZE_2 { global: haze_month; } HAZE_1;";
+//! let mut book = Book::version_script(script)?;
 //! assert_eq!((book.version_count()?, book.parent_count()?), (3, 1));
 //!
 //! let version = book.version(b"haze_month", b"haze_month", None)?;
@@ -24,6 +24,9 @@
 //! assert_eq!(book.locality(b"haze_day", b"haze_day")?, Some(Section::Local));
 //! book.undo()?;
 //! assert_eq!(book.locality(b"haze_day", b"haze_day")?, Some(Section::Global));
+//!
+//! let wildcard = book.lines().next().unwrap();
+//! assert_eq!(wildcard.place_in(script).unwrap().to_string(), "line 1, column 18");
 //! # Ok::<(), tunoyaket::Refusal>(())
 //! ```
 //!
@@ -41,9 +44,11 @@
 mod book;
 mod calls;
 mod parts;
+mod place;
 mod refusal;
 mod rooms;
 
 pub use book::Book;
 pub use parts::{Class, Kind, Language, Line, Node, NodeNumber, Section, VersionIndex};
-pub use refusal::{Place, Refusal};
+pub use place::Place;
+pub use refusal::Refusal;

@@ -1,5 +1,7 @@
 //! What a book is made of.
 
+use crate::place::Place;
+
 /// What was opened.
 #[derive(Clone, Copy, Debug, PartialEq, Eq, Hash)]
 pub enum Kind {
@@ -134,7 +136,8 @@ impl<'b> Node<'b> {
 #[derive(Clone, Copy, Debug, PartialEq, Eq, Hash)]
 pub struct Line<'b> {
     /// Its number, from 0 on in the order of reading and adding. A settle that drops lines
-    /// renumbers those behind them.
+    /// renumbers those behind them. It is not the number of a line of the text:
+    /// [`place_in`](Line::place_in) tells that.
     pub number: u32,
     /// The node in which it stands.
     pub node: NodeNumber,
@@ -149,6 +152,10 @@ pub struct Line<'b> {
     /// What is kept of its token: without quotes, an escaped one without its `\`, a pattern with
     /// each `[^` as `[!` and then, outside brackets, a run of `*` as one; of `*` alone nothing.
     pub bytes: &'b [u8],
+    /// Where its token starts in the text that was opened, in bytes from 0 on: `text[offset]` is
+    /// the token's first byte, the opening quote where it has one. `None` for a line that was
+    /// added. A line keeps it, whatever is struck, undone or settled, and no lookup goes by it.
+    pub offset: Option<usize>,
 }
 
 impl<'b> Line<'b> {
@@ -176,7 +183,42 @@ impl<'b> Line<'b> {
             },
             struck: code / 32 != 0,
             bytes: &pool[row[2] as usize..][..row[3] as usize],
+            // the row has one more, and 0 for none
+            offset: (row[4] as usize).checked_sub(1),
         }
+    }
+
+    /// Where its token starts, by line and column. The text is the one that was opened, which the
+    /// book does not keep.
+    ///
+    /// `None` for a line that was added, and where the text has no byte at the line's
+    /// [`offset`](Line::offset), so that it is another text.
+    ///
+    /// ```
+    /// use tunoyaket::{Book, Language, NodeNumber, Section};
+    ///
+    /// let text = b"V1 {\n    haze_*;\n    local: *;\n};\nV2 { \"haze_month\"; } V1;\n";
+    /// let mut book = Book::version_script(text)?;
+    /// let month = book.lines().last().unwrap();
+    /// assert_eq!((month.number, month.offset), (2, Some(39)));
+    /// let place = month.place_in(text).unwrap();
+    /// assert_eq!((place.offset, place.line, place.column), (39, 5, 6));
+    /// assert_eq!(place.to_string(), "line 5, column 6");
+    ///
+    /// // with line 0 dropped it has another number, and the same place
+    /// book.strike(0)?;
+    /// book.settle()?;
+    /// let month = book.lines().last().unwrap();
+    /// assert_eq!((month.number, month.place_in(text)), (1, Some(place)));
+    ///
+    /// book.add(NodeNumber(2), Section::Global, Language::General, b"haze_day")?;
+    /// let added = book.lines().last().unwrap();
+    /// assert_eq!((added.offset, added.place_in(text)), (None, None));
+    /// # Ok::<(), tunoyaket::Refusal>(())
+    /// ```
+    pub fn place_in(&self, text: &[u8]) -> Option<Place> {
+        let offset = self.offset.filter(|&offset| offset < text.len())?;
+        Some(Place::of(text, offset))
     }
 }
 

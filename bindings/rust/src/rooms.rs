@@ -4,7 +4,7 @@
 use crate::calls::Buffers;
 
 pub(crate) const NODE_WIDTH: usize = 3;
-pub(crate) const LINE_WIDTH: usize = 4;
+pub(crate) const LINE_WIDTH: usize = 5;
 pub(crate) const EDIT_WIDTH: usize = 2;
 
 const SCRIPT_LIMIT: usize = 1_048_576;
@@ -199,7 +199,7 @@ mod tests {
         let mut buffers = Buffers::with(Rooms {
             nodes: 3,
             names: 0,
-            lines: 8,
+            lines: 10,
             pool: 5,
             journal: 0,
         });
@@ -215,7 +215,7 @@ mod tests {
                 buffers.pool.len(),
                 buffers.journal.len()
             ),
-            (8, 5, 2)
+            (10, 5, 2)
         );
         assert!(buffers.grow(Needs {
             lines: 2,
@@ -228,7 +228,7 @@ mod tests {
                 buffers.pool.len(),
                 buffers.journal.len()
             ),
-            (16, 10, 2)
+            (20, 10, 2)
         );
         assert!(!buffers.grow(Needs {
             lines: 2,

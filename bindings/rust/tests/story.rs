@@ -76,15 +76,17 @@ fn the_example_has_its_nodes_and_lines() {
                 line.class,
                 line.section,
                 line.bytes,
+                line.offset,
             )
         })
         .collect();
+    let (global, local) = (Section::Global, Section::Local);
     assert_eq!(
         lines,
         [
-            (0, 1, Class::Star, Section::Global, &b"haze_*"[..]),
-            (1, 1, Class::All, Section::Local, b""),
-            (2, 2, Class::Exact, Section::Global, b"haze_month"),
+            (0, 1, Class::Star, global, &b"haze_*"[..], Some(17)),
+            (1, 1, Class::All, local, b"", Some(32)),
+            (2, 2, Class::Exact, global, b"haze_month", Some(55)),
         ]
     );
     assert!(book

@@ -5,7 +5,7 @@ use tunoyaket::{Book, Class, Language, NodeNumber, Refusal, Section};
 const SCRIPT: &[u8] = b"A { f*; g; local: *; };\nB { f?; extern \"C++\" { \"h()\"; }; } A;\n";
 
 /// A line without its number.
-type Kept = (u32, Class, Section, Language, bool, Vec<u8>);
+type Kept = (u32, Class, Section, Language, bool, Vec<u8>, Option<usize>);
 
 fn kept(book: &Book) -> Vec<Kept> {
     book.lines()
@@ -20,6 +20,7 @@ fn kept(book: &Book) -> Vec<Kept> {
                 line.language,
                 line.struck,
                 bytes,
+                line.offset,
             )
         })
         .collect()
@@ -108,7 +109,15 @@ fn replay(opened: Book, nodes: usize, seed: u64) {
                 let number = book.add(NodeNumber(node as u32), section, language, token);
                 assert_eq!(number, Ok(lines.len() as u32));
                 earlier.push(lines.clone());
-                lines.push((node as u32, class, section, language, false, bytes.to_vec()));
+                lines.push((
+                    node as u32,
+                    class,
+                    section,
+                    language,
+                    false,
+                    bytes.to_vec(),
+                    None,
+                ));
             }
             4..=6 => {
                 let line = random.below(lines.len() + 2);

@@ -28,12 +28,13 @@ three (a ∷ []) h = absurd (omega arith)
 three (a ∷ b ∷ []) h = absurd (omega arith)
 three (a ∷ b ∷ c ∷ t) h = refl
 
-four : (l : List ℕ) → 4 ≤ length l → getD l 0 0 ∷ getD l 1 0 ∷ getD l 2 0 ∷ getD l 3 0 ∷ drop 4 l ≡ l
-four [] h = absurd (omega arith)
-four (a ∷ []) h = absurd (omega arith)
-four (a ∷ b ∷ []) h = absurd (omega arith)
-four (a ∷ b ∷ c ∷ []) h = absurd (omega arith)
-four (a ∷ b ∷ c ∷ d ∷ t) h = refl
+five : (l : List ℕ) → 5 ≤ length l → getD l 0 0 ∷ getD l 1 0 ∷ getD l 2 0 ∷ getD l 3 0 ∷ getD l 4 0 ∷ drop 5 l ≡ l
+five [] h = absurd (omega arith)
+five (a ∷ []) h = absurd (omega arith)
+five (a ∷ b ∷ []) h = absurd (omega arith)
+five (a ∷ b ∷ c ∷ []) h = absurd (omega arith)
+five (a ∷ b ∷ c ∷ d ∷ []) h = absurd (omega arith)
+five (a ∷ b ∷ c ∷ d ∷ e ∷ t) h = refl
 
 none-of : (bs : List ℕ) → length bs ≡ 0 → [] ≡ bs
 none-of [] e = refl
@@ -101,7 +102,7 @@ unfolding line-form
 line-back-row o l bs wide g sized =
     let e : getD l 2 0 ≡ o = eqb-true _ _ g in
     let k : code-of (line-of (getD l 0 0) (getD l 1 0) bs) ≡ getD l 1 0 = code-back (getD l 0 0) (getD l 1 0) bs in
-    simp (k, ← e, sized) (four l wide)
+    simp (k, ← e, sized) (five l wide)
 
 pub line-laws : (frame : Frame) → Laws line-form (line-ok frame)
 unfolding line-form

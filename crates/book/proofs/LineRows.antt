@@ -3,7 +3,7 @@ use Prim.Native.Nat.{ℕ, _+_, _-_, _*_, _/_, _%_, _≤_, _<_}
 use mathlib.Core.Path.{_≡_, sym, ap, ap₂, _∙_}
 use mathlib.Core.List.{List, [], _∷_}
 use mathlib.Core.Bool.{true}
-use native.Mathlib.Numerals.{add-one, add-two, add-three}
+use native.Mathlib.Numerals.{add-one, add-two, add-three, add-four}
 use native.Mathlib.Omega.{arith}
 use lib.Dec.{leb, ltb}
 use borrow.Author.Tests.{leb-true}
@@ -16,14 +16,14 @@ use Rattle.packing.specs.Tables.{packed, packs, things}
 use Rattle.packing.proofs.TableLaws.{every-at}
 use Rattle.packing.proofs.Packings.{Packs, packs-is, row-cell, bytes-at, bytes-room}
 use Rattle.book.specs.declared.Frame.{Frame}
-use Rattle.book.specs.Books.{Line, no-line}
+use Rattle.book.specs.Books.{Line, no-line, with-offset}
 use Rattle.book.specs.Layout.{Line-lies, bytes-of-line, code-of, line-form, line-of, line-width, row-of-line}
 use Rattle.book.specs.Sanity.{in-range, line-ok}
 use Rattle.book.proofs.Forms.{Ranged, ranged, line-laws}
 
 -- ---- a line whose fields are in range
 -- is the line of its code
-pub line-is : {nodes : ℕ} {x : Line} → Ranged nodes x → x ≡ line-of (x .node) (code-of x) (x .bytes)
+pub line-is : {nodes : ℕ} {x : Line} → Ranged nodes x → x ≡ with-offset (x .offset) (line-of (x .node) (code-of x) (x .bytes))
 line-is {nodes} {x} r =
     let a : code-of x % 32 / 4 ≡ x .class = omega arith in
     let b : code-of x % 4 / 2 ≡ x .section = omega arith in
@@ -64,6 +64,7 @@ pub record Row (frame : Frame) (n : ℕ) (l m : List ℕ) (i : ℕ) : Type 0 whe
   pub node : getD l (line-width * i) 0 ≡ getD (things line-form n l m) i no-line .node
   pub code : getD l (line-width * i + 1) 0 ≡ code-of (getD (things line-form n l m) i no-line)
   pub bytes : bytes-of-line l m i ≡ getD (things line-form n l m) i no-line .bytes
+  pub offset : getD l (line-width * i + 4) 0 ≡ getD (things line-form n l m) i no-line .offset
   pub right : line-ok frame (getD (things line-form n l m) i no-line) ≡ true
 
 module _ (frame : Frame) (n p : ℕ) (l m : List ℕ) (g : packs line-form (line-ok frame) n p l m ≡ true) where
@@ -92,6 +93,7 @@ module _ (frame : Frame) (n p : ℕ) (l m : List ℕ) (g : packs line-form (line
         node = ap (λ (k : ℕ). getD l k 0) (sym z) ∙ a;
         code = row-cell (line-laws frame) t i no-line w 1 (omega arith);
         bytes = ap₂ (λ (u v : ℕ). take u (drop v m)) c b ∙ bytes-at t i no-line w;
+        offset = row-cell (line-laws frame) t i no-line w 4 (omega arith);
         right = every-at (line-ok frame) xs i no-line (t .all) w;
       }
 
@@ -110,8 +112,9 @@ module _ {frame : Frame} {n : ℕ} {l m : List ℕ} {i : ℕ} (r : Row frame n l
   row-short = rw (r .bytes) (short-bytes (frame .nodes) _ (line-in-range frame _ (r .right)))
 
   -- the line is that of the row's numbers, with these bytes
-  pub row-line : line-of (getD l (line-width * i) 0) (getD l (line-width * i + 1) 0) (bytes-of-line l m i) ≡ getD (things line-form n l m) i no-line
-  row-line = rw (r .node, r .code, r .bytes) (sym (line-is row-ranged))
+  pub row-line : with-offset (getD l (line-width * i + 4) 0) (line-of (getD l (line-width * i) 0) (getD l (line-width * i + 1) 0) (bytes-of-line l m i))
+      ≡ getD (things line-form n l m) i no-line
+  row-line = rw (r .node, r .code, r .bytes, r .offset) (sym (line-is row-ranged))
 
 -- ---- a walk through the rows
 -- it stands at line i of n, whose rows and bytes are packed
@@ -139,9 +142,11 @@ module _ {frame : Frame} {n p : ℕ} {l m : List ℕ} where
     walk-ranged = lines-in-range frame _ (lines-packed frame n p l m (z .packing) .all)
 
 -- ---- a row put store by store
-pub row-stored : (l : List ℕ) (at node code start size : ℕ) → at + 4 ≤ length l
-    → set (set (set (set l at node) (at + 1) code) (at + 2) start) (at + 3) size ≡ paste l at (row-of-line node code start size) 4
-row-stored l at node code start size h = rw (add-one, add-two, add-three) (sets-eq (row-of-line node code start size) l at h)
+pub row-stored : (l : List ℕ) (at node code start size offset : ℕ) → at + line-width ≤ length l
+    → set (set (set (set (set l at node) (at + 1) code) (at + 2) start) (at + 3) size) (at + 4) offset
+    ≡ paste l at (row-of-line node code start size offset) line-width
+row-stored l at node code start size offset h =
+    rw (add-one, add-two, add-three, add-four) (sets-eq (row-of-line node code start size offset) l at h)
 
 -- ---- the bytes between a start and an end
 pub part-sized : (start size : ℕ) (m : List ℕ) → take (start + size - start) (drop start m) ≡ take size (drop start m)

@@ -28,7 +28,7 @@ pub record Node : Type 0 where
   pub name : List ℕ
   pub parent : ℕ
 
--- a line: its node, class, section and language, 1 where it is struck, and its bytes as they are stored
+-- a line: its node, class, section and language, 1 where it is struck, its bytes as they are stored, and its offset: where it came from, or 0
 pub record Line : Type 0 where
   pub node : ℕ
   pub class : ℕ
@@ -36,10 +36,35 @@ pub record Line : Type 0 where
   pub language : ℕ
   pub struck : ℕ
   pub bytes : List ℕ
+  pub offset : ℕ
 
--- as it comes, it stands
+-- a line that stands, with the offset of an added one: "0 for an added line"
 abbrev pub new-line : ℕ → ℕ → ℕ → ℕ → List ℕ → Line
-new-line node section language class bs = record { node = node; class = class; section = section; language = language; struck = 0; bytes = bs }
+new-line node section language class bs = record {
+  node = node;
+  class = class;
+  section = section;
+  language = language;
+  struck = 0;
+  bytes = bs;
+  offset = 0;
+}
+
+-- a line of an opening: "the byte offset of its token in the opened text plus one", of a token that starts at the place p. An opening quote is part of it
+abbrev pub offset-at : ℕ → ℕ
+offset-at p = p + 1
+
+-- the line with another offset
+abbrev pub with-offset : ℕ → Line → Line
+with-offset k x = record {
+  node = x .node;
+  class = x .class;
+  section = x .section;
+  language = x .language;
+  struck = x .struck;
+  bytes = x .bytes;
+  offset = k;
+}
 
 -- an edit: "1 add or 2 strike; line"
 pub record Edit : Type 0 where

@@ -16,7 +16,15 @@ line-at ls i = getD ls i no-line
 
 -- the line with another mark
 abbrev pub marked : ℕ → Line → Line
-marked k x = record { node = x .node; class = x .class; section = x .section; language = x .language; struck = k; bytes = x .bytes }
+marked k x = record {
+  node = x .node;
+  class = x .class;
+  section = x .section;
+  language = x .language;
+  struck = k;
+  bytes = x .bytes;
+  offset = x .offset;
+}
 
 -- the lines with that mark on line i
 abbrev pub marked-at : ℕ → List Line → ℕ → List Line

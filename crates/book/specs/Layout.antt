@@ -1,4 +1,4 @@
--- How a book stands in lent buffers, as 01 has it under 'The book'. Assumes nothing.
+-- How a book stands in lent buffers, as 01 has it under 'The book', and 02 in request 02. Assumes nothing.
 use Prim.Native.Nat.{ℕ, _+_, _*_, _/_, _%_, _≤_}
 use mathlib.Core.List.{List, [], _∷_}
 use mathlib.Core.Bool.{Bool, true}
@@ -8,7 +8,7 @@ use Rattle.packing.specs.Padding.{pad}
 use Rattle.packing.specs.Tables.{Form, rows, packed}
 use Rattle.book.specs.declared.Counts.{Counts}
 use Rattle.book.specs.declared.Frame.{Frame}
-use Rattle.book.specs.Books.{Node, Line, Edit, Book, frame-with}
+use Rattle.book.specs.Books.{Node, Line, Edit, Book, frame-with, with-offset}
 
 -- "nodes (u32, three per node: name start, length, parent number or 0), names (bytes)"
 abbrev pub node-width : ℕ
@@ -33,9 +33,10 @@ node-form = record {
   back = λ (l bs : List ℕ). record { name = bs; parent = getD l 2 0 };
 }
 
--- "lines (u32, four per line: node; class x 4 + section x 2 + language; start; length), pool (bytes)"; "32 is added to a struck line's code"
+-- "lines (u32, … per line: node; class x 4 + section x 2 + language; start; length), pool (bytes)"; "32 is added to a struck line's code"; request 02: "Each
+-- line row gets a fifth number"
 abbrev pub line-width : ℕ
-line-width = 4
+line-width = 5
 
 abbrev pub struck-mark : ℕ
 struck-mark = 32
@@ -60,7 +61,7 @@ language-in code = code % 2
 abbrev pub has-mark : ℕ → Bool
 has-mark code = leb struck-mark code
 
--- the line with that code
+-- the line with that code, and with the offset 0
 abbrev pub line-of : ℕ → ℕ → List ℕ → Line
 line-of node code bs = record {
   node = node;
@@ -69,11 +70,12 @@ line-of node code bs = record {
   language = language-in code;
   struck = code / struck-mark;
   bytes = bs;
+  offset = 0;
 }
 
 -- a line's row
-abbrev pub row-of-line : ℕ → ℕ → ℕ → ℕ → List ℕ
-row-of-line node code start size = node ∷ code ∷ start ∷ size ∷ []
+abbrev pub row-of-line : ℕ → ℕ → ℕ → ℕ → ℕ → List ℕ
+row-of-line node code start size offset = node ∷ code ∷ start ∷ size ∷ offset ∷ []
 
 -- the row of line i lies within the lines, and its bytes within the pool
 pub record Line-lies (l m : List ℕ) (i : ℕ) : Type 0 where
@@ -87,11 +89,11 @@ bytes-of-line l m i = take (getD l (line-width * i + 3) 0) (drop (getD l (line-w
 unfoldable pub line-form : Form Line
 line-form = record {
   width = line-width;
-  row = λ (o : ℕ) (x : Line). row-of-line (x .node) (code-of x) o (length (x .bytes));
+  row = λ (o : ℕ) (x : Line). row-of-line (x .node) (code-of x) o (length (x .bytes)) (x .offset);
   bytes = λ (x : Line). x .bytes;
   starts = λ (o : ℕ) (l : List ℕ). eqb (getD l 2 0) o;
   size = λ (l : List ℕ). getD l 3 0;
-  back = λ (l bs : List ℕ). line-of (getD l 0 0) (getD l 1 0) bs;
+  back = λ (l bs : List ℕ). with-offset (getD l 4 0) (line-of (getD l 0 0) (getD l 1 0) bs);
 }
 
 -- "journal (u32, two per edit: 1 add or 2 strike; line)": an edit has no bytes

@@ -1,4 +1,4 @@
--- What a book must be besides its packing: 01's row 14. Assumes nothing.
+-- What a book must be besides its packing: 01's row 14, and what 02 adds to it in request 02. Assumes nothing.
 use Prim.Native.Nat.{ℕ, _+_}
 use mathlib.Core.List.{List, [], _∷_, _++_}
 use mathlib.Core.Bool.{Bool, true, false, cond, _&&_, _||_, not}
@@ -46,8 +46,12 @@ kind-allows kind x =
     (cond (eqb kind export) (eqb (x .section) global)
     true)
 
+-- request 02: "14 also covers an offset over 1,048,576", which no token of a script has
+unfoldable pub offset-good : Line → Bool
+offset-good x = leb (x .offset) script-limit
+
 unfoldable pub line-ok : Frame → Line → Bool
-line-ok f x = in-range (f .nodes) x && (kind-allows (f .kind) x && content-good (edition-of f) x)
+line-ok f x = in-range (f .nodes) x && (offset-good x && (kind-allows (f .kind) x && content-good (edition-of f) x))
 
 unfoldable pub edit-ok : Edit → Bool
 edit-ok e = eqb (e .what) add || eqb (e .what) strike

@@ -1,6 +1,6 @@
 // The book: its counts and its frame, its kinds, the widths of its rows, a line's code and row, and a search of its nodes. Definitions: specs/Books.antt (the
 // book apart from buffers), specs/Layout.antt (how it stands in lent buffers), specs/Edits.antt, specs/Sanity.antt and specs/View.antt (what is one, and what
-// is refused 14), from document 01, 'The book' and 'Numbers that say no'.
+// is refused 14), from document 01, 'The book' and 'Numbers that say no', and document 02, request 02.
 ghost use mathlib.Core.Path.{_≡_};
 ghost use Rattle.book.specs.Layout.{counts-with, frame-of, no-counts};
 
@@ -35,7 +35,7 @@ pub const EXPORT: u32 = 2;
 // How many numbers a row has.
 pub const NODE_WIDTH: usize = 3;
 
-pub const LINE_WIDTH: usize = 4;
+pub const LINE_WIDTH: usize = 5;
 
 pub const EDIT_WIDTH: usize = 2;
 

@@ -8,15 +8,24 @@ use crate::LINE_WIDTH;
 use crate::NODE_WIDTH;
 
 // The row of line i.
-pub fn put_line(lines: &mut [u32], i: usize, node: u32, code: u32, start: u32, size: u32)
+pub fn put_line(
+    lines: &mut [u32],
+    i: usize,
+    node: u32,
+    code: u32,
+    start: u32,
+    size: u32,
+    offset: u32,
+)
     requires { ⌜ line-width * i + line-width ≤ length (now lines) ⌝ }
-    ensures { λ _. ⌜ now (lines .exit) ≡ paste (now (lines .entry)) (line-width * i) (row-of-line node code start size) line-width ⌝ }
+    ensures { λ _. ⌜ now (lines .exit) ≡ paste (now (lines .entry)) (line-width * i) (row-of-line node code start size offset) line-width ⌝ }
 {
     let at = LINE_WIDTH * i;
     lines[at] = node;
     lines[at + 1] = code;
     lines[at + 2] = start;
     lines[at + 3] = size;
+    lines[at + 4] = offset;
 }
 
 // The bytes of line i.

@@ -9,7 +9,7 @@ use borrow.Author.Tests.{eq-eqb, eqb-true, le-leb, lt-ltb}
 use lib.Dec.{eqb}
 use lib.ListN.{length}
 use Rattle.numbers.specs.Classes.{all-class, nonstar-class, star-class}
-use Rattle.numbers.specs.Limits.{over, token-limit}
+use Rattle.numbers.specs.Limits.{over, script-limit, token-limit}
 use Rattle.numbers.specs.Marks.{cxx, local}
 use Rattle.numbers.specs.Refusals.{too-long}
 use Rattle.lists.proofs.SameLaws.{same-refl}
@@ -23,8 +23,8 @@ use Rattle.classes.specs.Classes.{class-number, class-of}
 use Rattle.classes.proofs.ClassNumbers.{class-few}
 use Rattle.storing.specs.Keeping.{Keep, kept, refused, inside-kept, keep, keep-as, keep-glob, keep-when}
 use Rattle.storing.proofs.Keeping.{bytes, keep-few}
-use Rattle.book.specs.Books.{edition-of, frame-with, new-line, regular}
-use Rattle.book.specs.Sanity.{content-good, glob-stands, in-range, kind-allows, line-ok}
+use Rattle.book.specs.Books.{edition-of, frame-with, new-line, regular, with-offset}
+use Rattle.book.specs.Sanity.{content-good, glob-stands, in-range, kind-allows, line-ok, offset-good}
 
 -- ---- what is kept, by its class
 abbrev Fine : Edition → Class → List ℕ → Type 0
@@ -89,16 +89,17 @@ module _ (nodes : ℕ) (t : List ℕ) (k : Class) (bs : List ℕ) (h : keep (edi
   globs-stand Star f = f
   globs-stand All f = refl
 
-  pub kept-line : (node section language : ℕ) → node < nodes → section ≤ local → language ≤ cxx
-      → line-ok (frame-with regular nodes) (new-line node section language (class-number k) bs) ≡ true
-  unfolding line-ok in-range kind-allows content-good
-  kept-line node section language a b c =
+  pub kept-line : (node section language offset : ℕ) → node < nodes → section ≤ local → language ≤ cxx → offset ≤ script-limit
+      → line-ok (frame-with regular nodes) (with-offset offset (new-line node section language (class-number k) bs)) ≡ true
+  unfolding line-ok in-range offset-good kind-allows content-good
+  kept-line node section language offset a b c d =
       rw (
         lt-ltb node nodes a,
         le-leb (class-number k) all-class (class-few k),
         le-leb section local b,
         le-leb language cxx c,
         le-leb (length bs) token-limit kept-few,
+        le-leb offset script-limit d,
         all-empty k kept-fine,
       )
       (globs-stand k kept-fine)

@@ -1,13 +1,13 @@
 -- What a line makes of a book in buffers: it is refused as its token is, or for want of room, or it stands there. The premises are what take_line of
 -- src/lib.rt learned. Assumes nothing.
-use Prim.Native.Nat.{ℕ, _+_, _-_, _*_, _≤_}
+use Prim.Native.Nat.{ℕ, _+_, _-_, _*_, _≤_, _<_}
 use mathlib.Core.Path.{_≡_, sym, ap, _∙_}
 use mathlib.Core.List.{List, [], _∷_, _++_}
 use mathlib.Core.Bool.{Bool, true, false}
 use native.Mathlib.Omega.{arith}
 use lib.ListN.{length}
 use lib.Seq.{paste}
-use Rattle.numbers.specs.Limits.{pool-limit}
+use Rattle.numbers.specs.Limits.{pool-limit, script-limit}
 use Rattle.numbers.specs.Marks.{cxx, local}
 use Rattle.numbers.specs.Refusals.{no-room}
 use Rattle.packing.proofs.Packings.{Packs, put-thing}
@@ -18,7 +18,7 @@ use Rattle.storing.specs.declared.Stored.the-variants.{As}
 use Rattle.storing.specs.declared.Stored.the-variants as stored
 use Rattle.classes.specs.Classes.{class-number}
 use Rattle.storing.specs.Keeping.{Keep, kept, refused, keep}
-use Rattle.book.specs.Books.{Line, edition-of, new-line}
+use Rattle.book.specs.Books.{Line, edition-of, new-line, offset-at, with-offset}
 use Rattle.book.specs.Layout.{code-of, five, frame-of, line-form, line-width, row-of-line, standing-code}
 use Rattle.book.specs.Sanity.{line-ok}
 use Rattle.book.proofs.Forms.{line-laws}
@@ -91,18 +91,18 @@ module _ (g : Progress) (p section language : ℕ) (t l q : List ℕ) where
 
     -- it is there
     stands : (k : Class) (i c code : ℕ) (bs l′ : List ℕ) → keep (edition-of (frame-of (counts-so-far g))) t ≡ kept k bs → i ≡ length bs → Line-room (g .lines) (g .pool) l q (length bs)
-        → q′ ≡ paste q (g .pool) bs (length bs) → section ≤ local → language ≤ cxx → c ≡ class-number k
+        → q′ ≡ paste q (g .pool) bs (length bs) → section ≤ local → language ≤ cxx → p < script-limit → c ≡ class-number k
         → code ≡ standing-code c section language
-        → l′ ≡ paste l (line-width * g .lines) (row-of-line (g .nodes - 1) code (g .pool) i) line-width
+        → l′ ≡ paste l (line-width * g .lines) (row-of-line (g .nodes - 1) code (g .pool) i (offset-at p)) line-width
         → Took-line g p section language t l q (On (line-more g i (mixed-behind (g .mixed) section c) (starred-behind (g .starred) (g .inside) section c))) l′ q′
     unfolding take-kept line-form
-    stands k i c code bs l′ keeps size room put f b y o d n m e =
+    stands k i c code bs l′ keeps size room put f b v y o d n m e =
         let s = is-state g n m l q e in
-        let x : Line = new-line (g .nodes - 1) section language (class-number k) bs in
+        let x : Line = with-offset (offset-at p) (new-line (g .nodes - 1) section language (class-number k) bs) in
         let h : code-of x ≡ code = omega arith in
-        let v : Packs line-form (line-ok (frame-of (counts-so-far g))) (g .lines + 1) (g .pool + length bs) l′ q′ (lines-of g n m l q ++ (x ∷ []))
+        let u : Packs line-form (line-ok (frame-of (counts-so-far g))) (g .lines + 1) (g .pool + length bs) l′ q′ (lines-of g n m l q ++ (x ∷ []))
         = put-thing (line-laws (frame-of (counts-so-far g))) (s .lines) x
-        (kept-line (g .nodes) t k bs keeps (g .nodes - 1) section language (omega (arith, s .few .some)) f b)
+        (kept-line (g .nodes) t k bs keeps (g .nodes - 1) section language (offset-at p) (omega (arith, s .few .some)) f b (omega arith))
         (omega (arith, room .row)) (omega (arith, room .pool, room-length q)) (rw (h, ← size) d) put in
         let r : State (line-more g i (mixed-behind (g .mixed) section c) (starred-behind (g .starred) (g .inside) section c)) n m l′ q′ (nodes-of g n m l q) (lines-of g n m l q ++ (x ∷ [])) = record {
           few = record {
@@ -113,18 +113,18 @@ module _ (g : Progress) (p section language : ℕ) (t l q : List ℕ) where
             pool = omega (arith, size, room .pool, room-limit q);
           };
           nodes = s .nodes;
-          lines = rw size v;
+          lines = rw size u;
         } in
-        let u = state-is (line-more g i (mixed-behind (g .mixed) section c) (starred-behind (g .starred) (g .inside) section c)) n m l′ q′ (nodes-of g n m l q) (lines-of g n m l q ++ (x ∷ [])) r in (
-          rw (keeps, building-is g n m l q, is-room (five n m l q []) (lines-of g n m l q) (g .lines) (g .pool) (s .lines .count) (s .lines .total) bs room, u .0, y, ← s .nodes .count),
-          u .1,
+        let w = state-is (line-more g i (mixed-behind (g .mixed) section c) (starred-behind (g .starred) (g .inside) section c)) n m l′ q′ (nodes-of g n m l q) (lines-of g n m l q ++ (x ∷ [])) r in (
+          rw (keeps, building-is g n m l q, is-room (five n m l q []) (lines-of g n m l q) (g .lines) (g .pool) (s .lines .count) (s .lines .total) bs room, w .0, y, ← s .nodes .count),
+          w .1,
         )
 
-    pub line-added : (k : Class) (i c code : ℕ) (x y : Bool) (l′ : List ℕ) → r ≡ As k i → fits-row l (g .lines) ≡ true → section ≤ local → language ≤ cxx
+    pub line-added : (k : Class) (i c code : ℕ) (x y : Bool) (l′ : List ℕ) → r ≡ As k i → fits-row l (g .lines) ≡ true → section ≤ local → language ≤ cxx → p < script-limit
         → c ≡ class-number k → code ≡ standing-code c section language → x ≡ mixed-behind (g .mixed) section c → y ≡ starred-behind (g .starred) (g .inside) section c
-        → l′ ≡ paste l (line-width * g .lines) (row-of-line (g .nodes - 1) code (g .pool) i) line-width
+        → l′ ≡ paste l (line-width * g .lines) (row-of-line (g .nodes - 1) code (g .pool) i (offset-at p)) line-width
         → Took-line g p section language t l q (On (line-more g i x y)) l′ q′
-    line-added k i c code x y l′ z f h b e j v w d =
+    line-added k i c code x y l′ z f h b s e j v w d =
         let o = keeps k i z in
         let room : Line-room (g .lines) (g .pool) l q (length (o .bytes)) = record { number = row-number l (g .lines) f; row = row-within l (g .lines) f; pool = o .room } in
-        rw (v, w) (stands k i c code (o .bytes) l′ (o .keeps) (o .size) room (o .put) h b e j d)
+        rw (v, w) (stands k i c code (o .bytes) l′ (o .keeps) (o .size) room (o .put) h b s e j d)

@@ -47,12 +47,12 @@ module _ (s : List ℕ) (g : Progress) (n m l q : List ℕ) (b : built g (five n
       let t = is-state g n m l q b in
       (rw z at u, is-packs node-laws (t .nodes) .0, t .few .some, t .few .nodes)
 
-  pub line-asks : (section language p k : ℕ) → Lies s e → e ≡ Line section language p k
-      → (p + k ≤ length s) × (g .pool ≤ pool-room q) × (0 < g .nodes) × (g .nodes ≤ node-limit) × (section ≤ local) × (language ≤ cxx)
-  line-asks section language p k u z =
+  pub line-asks : (section language p k : ℕ) → length s ≤ script-limit → Lies s e → e ≡ Line section language p k
+      → (p + k ≤ length s) × (g .pool ≤ pool-room q) × (0 < g .nodes) × (g .nodes ≤ node-limit) × (section ≤ local) × (language ≤ cxx) × (p < script-limit)
+  line-asks section language p k i u z =
       let t = is-state g n m l q b in
-      let h : (section ≤ local) × (language ≤ cxx) × (p + k ≤ length s) = rw z at u in
-      (h .2, room-both q (g .pool) (t .lines .byteroom) (t .few .pool), t .few .some, t .few .nodes, h .0, h .1)
+      let h : (section ≤ local) × (language ≤ cxx) × (p + k ≤ length s) × (p ≤ length s - 1) = rw z at u in
+      (h .2, room-both q (g .pool) (t .lines .byteroom) (t .few .pool), t .few .some, t .few .nodes, h .0, h .1, omega (arith, h .3))
 
   -- what they answer
   pub took-node : (p k : ℕ) (r : Taking) (n′ m′ : List ℕ) → e ≡ Node p k → Took-node g p (part s p k) n m r n′ m′

@@ -14,7 +14,7 @@ use Rattle.storing.specs.Keeping.{Keep, keep, kept-where}
 use Rattle.reading_cursors.specs.declared.Event.{Event}
 use Rattle.reading_cursors.specs.declared.Event.the-variants.{Node, Body, Section, Extern, Closed, Line, Parent}
 use Rattle.book.specs.declared.Frame.{Frame}
-use Rattle.book.specs.Books.{edition-of, first-named, frame-with, new-line, no-node, regular}
+use Rattle.book.specs.Books.{edition-of, first-named, frame-with, new-line, no-node, offset-at, regular, with-offset}
 use Rattle.book.specs.Books as book
 use Rattle.book.specs.Layout.{Buffers}
 use Rattle.book_rooms.specs.Rooms.{line-room, node-room}
@@ -60,18 +60,18 @@ in-block g section = record { nodes = g .nodes; lines = g .lines; inside = true;
 abbrev pub out-of-block : Building → Building
 out-of-block g = record { nodes = g .nodes; lines = g .lines; inside = false; mixed = g .mixed; starred = g .starred }
 
--- ---- a line, of the node that began last, with its class and bytes: the Rust kind has "only Exact lines … as globals" and "a bare `*;` among its locals
--- (outside extern)"
+-- ---- a line, of the node that began last, with its class and bytes, of a token that starts at the place p: request 02 has "the byte offset of its token in
+-- the opened text plus one". The Rust kind has "only Exact lines … as globals" and "a bare `*;` among its locals (outside extern)"
 abbrev pub mixed-behind : Bool → ℕ → ℕ → Bool
 mixed-behind mixed section class = mixed || (eqb section global && not (eqb class exact-class))
 
 abbrev pub starred-behind : Bool → Bool → ℕ → ℕ → Bool
 starred-behind starred inside section class = starred || (eqb section local && (eqb class all-class && not inside))
 
-abbrev pub with-line : Building → ℕ → ℕ → ℕ → List ℕ → Building
-with-line g section language class bs = record {
+abbrev pub with-line : Building → ℕ → ℕ → ℕ → ℕ → List ℕ → Building
+with-line g p section language class bs = record {
   nodes = g .nodes;
-  lines = g .lines ++ new-line (length (g .nodes) - 1) section language class bs ∷ [];
+  lines = g .lines ++ with-offset (offset-at p) (new-line (length (g .nodes) - 1) section language class bs) ∷ [];
   inside = g .inside;
   mixed = mixed-behind (g .mixed) section class;
   starred = starred-behind (g .starred) (g .inside) section class;
@@ -80,7 +80,7 @@ with-line g section language class bs = record {
 -- "its 1, 5, 6, 8, in this order"
 unfoldable pub take-kept : Buffers → Building → ℕ → ℕ → ℕ → Keep → Taken
 take-kept b g p section language x =
-    kept-where (line-room b (g .lines)) (λ k bs. on (with-line g section language (class-number k) bs)) (λ n. no n p) x
+    kept-where (line-room b (g .lines)) (λ k bs. on (with-line g p section language (class-number k) bs)) (λ n. no n p) x
 
 -- ---- a named node ends: "Empty parent text means none; otherwise it equals an earlier node's name, the first such."
 abbrev pub with-parent : Building → ℕ → ℕ → Building

@@ -50,7 +50,7 @@ fn line_stands(
     pool: &mut [u8],
 ) -> Taking
     requires { ⌜ (p + n ≤ length (now s)) × (g .pool ≤ pool-room (now pool)) × (0 < g .nodes) × (g .nodes ≤ node-limit)
-        × (section ≤ local) × (language ≤ cxx) ⌝ }
+        × (section ≤ local) × (language ≤ cxx) × (p < script-limit) ⌝ }
     ensures { λ r. ⌜ Took-line g p section language (part (now (s .entry)) p n) (now (lines .entry)) (now (pool .entry))
         r (now (lines .exit)) (now (pool .exit)) ⌝ }
 {

@@ -1,6 +1,6 @@
 // What each event of a reading makes of a book in lent buffers. Definitions: specs/Building.antt and specs/State.antt, from document 01, 'Reading', 'The book'
-// and 'Numbers that say no'. `take_node` and `take_parent` are for a caller who knows how far the book is. A line is taken in `lines`, and whichever event it
-// is in `events`.
+// and 'Numbers that say no', and document 02, request 02. `take_node` and `take_parent` are for a caller who knows how far the book is. A line is taken in
+// `lines`, and whichever event it is in `events`.
 ghost use mathlib.Core.Path.{_≡_};
 ghost use mathlib.Core.Bool.{true};
 ghost use Prim.Native.Nat.{_*_, _≤_, _<_};

@@ -1,8 +1,8 @@
 // A line of the node that began last, in lent buffers. Definitions: specs/Building.antt and specs/State.antt, from document 01, 'Reading',
-// 'The book' and 'Numbers that say no'. `take_line` is for a caller who knows how far the book is.
+// 'The book' and 'Numbers that say no', and document 02, request 02 (its offset). `take_line` is for a caller who knows how far the book is.
 ghost use mathlib.Core.Path.{_≡_};
 ghost use Prim.Native.Nat.{_≤_, _<_};
-ghost use Rattle.numbers.specs.Limits.{node-limit};
+ghost use Rattle.numbers.specs.Limits.{node-limit, script-limit};
 ghost use Rattle.numbers.specs.Marks.{cxx, local};
 ghost use Rattle.book_rooms.specs.Rooms.{pool-room};
 ghost use Rattle.book_building.specs.Building.{mixed-behind, starred-behind};
@@ -63,7 +63,7 @@ pub fn take_line(
     lines: &mut [u32],
     pool: &mut [u8],
 ) -> Taking
-    requires { ⌜ (g .pool ≤ pool-room (now pool)) × (0 < g .nodes) × (g .nodes ≤ node-limit) × (section ≤ local) × (language ≤ cxx) ⌝ }
+    requires { ⌜ (g .pool ≤ pool-room (now pool)) × (0 < g .nodes) × (g .nodes ≤ node-limit) × (section ≤ local) × (language ≤ cxx) × (p < script-limit) ⌝ }
     ensures { λ r. ⌜ Took-line g p section language (now (token .entry)) (now (lines .entry)) (now (pool .entry)) r (now (lines .exit)) (now (pool .exit)) ⌝ }
 {
     let n = g.lines;
@@ -81,7 +81,7 @@ pub fn take_line(
             let k = class_number(class);
             let node = (g.nodes - 1) as u32;
             let code = code_of(k, section, language);
-            put_line(lines, n, node, code, at as u32, size as u32);
+            put_line(lines, n, node, code, at as u32, size as u32, (p + 1) as u32);
             let mixed = mixed_behind(g, section, k);
             let starred = starred_behind(g, section, k);
             Taking::On(Progress {

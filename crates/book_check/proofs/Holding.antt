@@ -14,7 +14,7 @@ use Rattle.book.specs.declared.Counts.{Counts}
 use Rattle.book.specs.declared.Frame.{Frame}
 use Rattle.book.specs.Books.{regular, rust, export}
 use Rattle.book.specs.Edits.{journal-fits}
-use Rattle.book.specs.Layout.{node-form, line-form, edit-form, five, frame-of}
+use Rattle.book.specs.Layout.{node-form, line-form, line-width, edit-form, five, frame-of}
 use Rattle.book.specs.Sanity.{edit-ok, line-ok, nodes-good, kind-good, some-star, sane}
 use Rattle.book.specs.View.{any-node, within-limits, laid, book-of, holds}
 use Rattle.book.proofs.Forms.{node-laws}
@@ -73,7 +73,7 @@ module _ (c : Counts) (n m l p j : List ℕ) (g : laid c (five n m l p j) ≡ tr
   edits-count : length (book-of c (five n m l p j) .edits) ≡ c .edits
   edits-count = sym (laid-packs c (five n m l p j) g .edits .count)
 
-  pub lines-room : 4 * c .lines ≤ length l
+  pub lines-room : line-width * c .lines ≤ length l
   unfolding line-form
   lines-room = laid-packs c (five n m l p j) g .lines .rowroom
 
@@ -118,7 +118,7 @@ module _ (c : Counts) (n m l p j : List ℕ) (x : Bool) (e : x ≡ laid c (five 
     pub asks-nodes : packs node-form any-node (c .nodes) (c .names) n m ≡ true
     asks-nodes = is-packs node-laws (laid-packs c (five n m l p j) asks-laid .nodes) .0
 
-    pub asks-journal : (4 * c .lines ≤ length l) × (2 * c .edits ≤ length j) × (c .lines ≤ line-limit)
+    pub asks-journal : (line-width * c .lines ≤ length l) × (2 * c .edits ≤ length j) × (c .lines ≤ line-limit)
     asks-journal = (lines-room c n m l p j asks-laid, journal-room c n m l p j asks-laid, laid-packs c (five n m l p j) asks-laid .limits .lines)
 
     module _ (y : Bool) (f : y ≡ nodes-good (things node-form (c .nodes) n m)) where

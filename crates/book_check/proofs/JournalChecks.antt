@@ -16,7 +16,7 @@ use Rattle.lists.specs.Each.{every}
 use Rattle.packing.specs.Tables.{Form, fine, packs, things}
 use Rattle.packing.proofs.Turns.{left, left-all, thing-bad, row-more, end-good, packs-no, packs-rows}
 use Rattle.book.specs.Books.{Line, Edit, no-line}
-use Rattle.book.specs.Layout.{edit-form, has-mark, line-form}
+use Rattle.book.specs.Layout.{edit-form, has-mark, line-form, line-width}
 use Rattle.book.specs.Edits.{add-back, all-back, all-stand, journal-fits, line-at, marked, standing-again, stands, strike-back, take-back, then-back}
 use Rattle.book.specs.Sanity.{edit-ok}
 use Rattle.book.proofs.Forms.{edit-laws, stands-unmarked}
@@ -165,7 +165,7 @@ lines-back l ps gs m = standing-again gs (things line-form m l ps)
 
 -- whether line i of them stands, as the code reads it
 abbrev pub stands-back : List ℕ → List ℕ → ℕ → Bool
-stands-back l gs i = eqb (cond (eqb (getD gs i 0) 0) (getD l (4 * i + 1) 0 / 32) 0) 0
+stands-back l gs i = eqb (cond (eqb (getD gs i 0) 0) (getD l (line-width * i + 1) 0 / 32) 0) 0
 
 back-count : (l ps gs : List ℕ) (m : ℕ) → length (lines-back l ps gs m) ≡ m
 back-count l ps gs m = length-again gs (things line-form m l ps) ∙ length-things line-form m l ps
@@ -328,5 +328,5 @@ module _ (l gs : List ℕ) (i : ℕ) where
   stands-marked f = rw (ne-eqb (getD gs i 0) 0 f)
 
   -- it is not, and the code tells
-  pub stands-code : getD gs i 0 ≡ 0 → (m : Bool) → m ≡ has-mark (getD l (4 * i + 1) 0) → not m ≡ stands-back l gs i
-  stands-code e m h = rw (eq-eqb (getD gs i 0) 0 e, h) (sym (stands-unmarked 0 (getD l (4 * i + 1) 0) []))
+  pub stands-code : getD gs i 0 ≡ 0 → (m : Bool) → m ≡ has-mark (getD l (line-width * i + 1) 0) → not m ≡ stands-back l gs i
+  stands-code e m h = rw (eq-eqb (getD gs i 0) 0 e, h) (sym (stands-unmarked 0 (getD l (line-width * i + 1) 0) []))

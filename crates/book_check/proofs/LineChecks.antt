@@ -9,16 +9,16 @@ use borrow.Author.Tests.{eq-eqb, ne-eqb, le-leb, lt-leb, lt-ltb, le-ltb, not-tru
 use lib.Dec.{eqb}
 use lib.ListN.{length}
 use Rattle.numbers.specs.Classes.{all-class, exact-class, nonstar-class, star-class}
-use Rattle.numbers.specs.Limits.{token-limit}
+use Rattle.numbers.specs.Limits.{script-limit, token-limit}
 use Rattle.numbers.specs.Marks.{general, global, local}
 use Rattle.lists.specs.Same.{same}
 use Rattle.numbers.specs.declared.Edition.{Edition}
 use Rattle.pattern.specs.Patterns.{refusal}
 use Rattle.pattern.specs.Storing.{stored}
 use Rattle.book.specs.declared.Frame.{Frame}
-use Rattle.book.specs.Books.{edition-of, export, rust}
+use Rattle.book.specs.Books.{edition-of, export, rust, with-offset}
 use Rattle.book.specs.Layout.{class-in, language-in, line-of, section-in, struck-mark}
-use Rattle.book.specs.Sanity.{bare-star, content-good, glob-stands, in-range, kind-allows, line-ok}
+use Rattle.book.specs.Sanity.{bare-star, content-good, glob-stands, in-range, kind-allows, line-ok, offset-good}
 
 -- ---- a glob that storing leaves as it is
 module _ (e : Edition) (s : List ℕ) (n : ℕ) (k : n ≡ refusal e s) where
@@ -122,20 +122,25 @@ module _ (e : Edition) (code class : ℕ) (c : class ≡ class-in code) (bs : Li
   content-plain f g = simp (← c, ne-eqb class nonstar-class f, ne-eqb class star-class g)
 
 -- ---- all of it
-module _ (frame : Frame) (node code : ℕ) (bs : List ℕ) (a : Bool) (h : a ≡ in-range (frame .nodes) (line-of node code bs)) where
-  pub line-out : not a ≡ true → false ≡ line-ok frame (line-of node code bs)
-  unfolding line-ok
+module _ (frame : Frame) (node code offset : ℕ) (bs : List ℕ) (a : Bool) (h : a ≡ in-range (frame .nodes) (line-of node code bs)) where
+  pub line-out : not a ≡ true → false ≡ line-ok frame (with-offset offset (line-of node code bs))
+  unfolding line-ok in-range
   line-out f = rw (← h, not-true a f)
 
-  module _ (b : Bool) (k : b ≡ kind-allows (frame .kind) (line-of 0 code [])) (f : not a ≡ false) where
-    pub line-barred : not b ≡ true → false ≡ line-ok frame (line-of node code bs)
-    unfolding line-ok kind-allows
-    line-barred g = rw (← h, not-false a f, ← k, not-true b g)
+  module _ (f : not a ≡ false) where
+    pub line-misplaced : script-limit < offset → false ≡ line-ok frame (with-offset offset (line-of node code bs))
+    unfolding line-ok in-range offset-good
+    line-misplaced g = rw (← h, not-false a f, lt-leb offset script-limit g)
 
-    pub line-rest : (e : Edition) (r : Bool) → not b ≡ false → e ≡ edition-of frame → r ≡ content-good e (line-of 0 code bs)
-        → r ≡ line-ok frame (line-of node code bs)
-    unfolding line-ok kind-allows content-good
-    line-rest e r g d q = rw (← h, not-false a f, ← k, not-false b g) (rw d at q)
+    module _ (p : offset ≤ script-limit) (b : Bool) (k : b ≡ kind-allows (frame .kind) (line-of 0 code [])) where
+      pub line-barred : not b ≡ true → false ≡ line-ok frame (with-offset offset (line-of node code bs))
+      unfolding line-ok in-range offset-good kind-allows
+      line-barred g = rw (← h, not-false a f, le-leb offset script-limit p, ← k, not-true b g)
+
+      pub line-rest : (e : Edition) (r : Bool) → not b ≡ false → e ≡ edition-of frame → r ≡ content-good e (line-of 0 code bs)
+          → r ≡ line-ok frame (with-offset offset (line-of node code bs))
+      unfolding line-ok in-range offset-good kind-allows content-good
+      line-rest e r g d q = rw (← h, not-false a f, le-leb offset script-limit p, ← k, not-false b g) (rw d at q)
 
 -- ---- the general `*` among the locals
 module _ (code class : ℕ) (c : class ≡ class-in code) where

@@ -15,23 +15,23 @@ use Rattle.lists.specs.Each.{any}
 use Rattle.packing.specs.Tables.{Form, fine, packs, things}
 use Rattle.packing.proofs.Turns.{left, starts-at, size-at, thing-at, left-all, row-bad, size-bad, thing-bad, row-more, end-bad, end-good, packs-no, packs-zero, packs-rows}
 use Rattle.book.specs.declared.Frame.{Frame}
-use Rattle.book.specs.Books.{Line, no-line}
-use Rattle.book.specs.Layout.{line-form, line-of}
+use Rattle.book.specs.Books.{Line, no-line, with-offset}
+use Rattle.book.specs.Layout.{line-form, line-of, line-width}
 use Rattle.book.specs.Sanity.{bare-star, line-ok, some-star}
 use Rattle.book.proofs.Forms.{line-laws}
 
 -- ---- the check of n rows: row i starts at `at`, its bytes at o, and what is left from there on decides
 pub record Lined (frame : Frame) (l ps : List ℕ) (n p i at o : ℕ) : Type 0 where
   pub within : i ≤ n
-  pub place : at ≡ 4 * i
+  pub place : at ≡ line-width * i
   pub upto : o ≤ p
   pub goes : fine line-form (line-ok frame) p n 0 l ps ≡ left line-form (line-ok frame) p n i o l ps
 
 -- a number of a row
-row-number : (l : List ℕ) (i at j : ℕ) → at ≡ 4 * i → getD (drop (4 * i) l) j 0 ≡ getD l (at + j) 0
-row-number l i at j e = getD-drop (4 * i) l j 0 ∙ ap (λ (k : ℕ). getD l (k + j) 0) (sym e)
+row-number : (l : List ℕ) (i at j : ℕ) → at ≡ line-width * i → getD (drop (line-width * i) l) j 0 ≡ getD l (at + j) 0
+row-number l i at j e = getD-drop (line-width * i) l j 0 ∙ ap (λ (k : ℕ). getD l (k + j) 0) (sym e)
 
-row-first : (l : List ℕ) (i at : ℕ) → at ≡ 4 * i → getD (drop (4 * i) l) 0 0 ≡ getD l at 0
+row-first : (l : List ℕ) (i at : ℕ) → at ≡ line-width * i → getD (drop (line-width * i) l) 0 0 ≡ getD l at 0
 row-first l i at e = let z : at + 0 ≡ at = omega arith in row-number l i at 0 e ∙ ap (λ (k : ℕ). getD l k 0) z
 
 module _ {frame : Frame} {l ps : List ℕ} {n p : ℕ} where
@@ -39,7 +39,7 @@ module _ {frame : Frame} {l ps : List ℕ} {n p : ℕ} where
   lines-start = record { within = omega arith; place = omega arith; upto = omega arith; goes = left-all line-form (line-ok frame) p n l ps }
 
   module _ {i at o : ℕ} (z : Lined frame l ps n p i at o) where
-    module _ (room : 4 * n ≤ length l) (more : i < n) where
+    module _ (room : line-width * n ≤ length l) (more : i < n) where
       sized : size-at line-form i l ≡ getD l (at + 3) 0
       unfolding line-form
       sized = row-number l i at 3 (z .place)
@@ -60,7 +60,7 @@ module _ {frame : Frame} {l ps : List ℕ} {n p : ℕ} where
       size-wrong h = sym (z .goes ∙ size-bad line-form (line-ok frame) p n l ps i o more room (omega (arith, sized)))
 
       module _ {r : Bool}
-          (t : r ≡ line-ok frame (line-of (getD l at 0) (getD l (at + 1) 0) (take (o + getD l (at + 3) 0 - o) (drop o ps)))) where
+          (t : r ≡ line-ok frame (with-offset (getD l (at + 4) 0) (line-of (getD l at 0) (getD l (at + 1) 0) (take (o + getD l (at + 3) 0 - o) (drop o ps))))) where
         -- the line that the row and its bytes are
         lined : r ≡ line-ok frame (thing-at line-form i o l ps)
         unfolding line-form
@@ -69,6 +69,7 @@ module _ {frame : Frame} {l ps : List ℕ} {n p : ℕ} where
               row-first l i at (z .place),
               row-number l i at 1 (z .place),
               row-number l i at 3 (z .place),
+              row-number l i at 4 (z .place),
               add-sub-cancel-left o (getD l (at + 3) 0),
             )
 
@@ -76,7 +77,8 @@ module _ {frame : Frame} {l ps : List ℕ} {n p : ℕ} where
         unfolding line-form
         line-wrong f = sym (z .goes ∙ thing-bad line-form (line-ok frame) p n l ps i o more room (sym lined ∙ not-true r f))
 
-        pub line-right : getD l (at + 2) 0 ≡ o → getD l (at + 3) 0 ≤ p - o → not r ≡ false → Lined frame l ps n p (i + 1) (at + 4) (o + getD l (at + 3) 0)
+        pub line-right : getD l (at + 2) 0 ≡ o → getD l (at + 3) 0 ≤ p - o → not r ≡ false
+            → Lined frame l ps n p (i + 1) (at + line-width) (o + getD l (at + 3) 0)
         unfolding line-form
         line-right s h f = record {
           within = omega arith;
@@ -94,7 +96,7 @@ module _ {frame : Frame} {l ps : List ℕ} {n p : ℕ} where
       pub lines-end : {r : Bool} → o ≡ p → r ≡ all-zero (drop at l) → r ≡ fine line-form (line-ok frame) p n 0 l ps
       unfolding line-form
       lines-end f e =
-          let k : at ≡ 4 * n = omega (arith, z .within, z .place) in
+          let k : at ≡ line-width * n = omega (arith, z .within, z .place) in
           e ∙ ap (λ (m : ℕ). all-zero (drop m l)) k ∙ sym (z .goes ∙ end-good line-form (line-ok frame) p n l ps i o (omega (arith, z .within)) f)
 
 -- ---- the test of the packing, from its parts
@@ -102,7 +104,7 @@ module _ (frame : Frame) (l ps : List ℕ) (n p : ℕ) where
   pub pool-short : length ps < p → false ≡ packs line-form (line-ok frame) n p l ps
   pool-short h = packs-no (line-laws frame) (λ t. omega (arith, t .byteroom))
 
-  pub lines-short : length l / 4 < n → false ≡ packs line-form (line-ok frame) n p l ps
+  pub lines-short : length l / line-width < n → false ≡ packs line-form (line-ok frame) n p l ps
   unfolding line-form
   lines-short h = packs-no (line-laws frame) (λ t. omega (arith, t .rowroom))
 
@@ -126,18 +128,18 @@ pub record Coded (x : Line) (code : ℕ) : Type 0 where
   pub language : x .language ≡ code % 2
   pub struck : x .struck ≡ code / 32
 
-pub line-coded : (n : ℕ) (l ps : List ℕ) (i : ℕ) → i < n → Coded (getD (things line-form n l ps) i no-line) (getD l (4 * i + 1) 0)
+pub line-coded : (n : ℕ) (l ps : List ℕ) (i : ℕ) → i < n → Coded (getD (things line-form n l ps) i no-line) (getD l (line-width * i + 1) 0)
 unfolding things line-form
 line-coded zero l ps i h = absurd (omega arith)
 line-coded (suc n) l ps zero h = record { class = refl; section = refl; language = refl; struck = refl }
 line-coded (suc n) l ps (suc i) h =
-    let e : 4 + (4 * i + 1) ≡ 4 * suc i + 1 = omega arith in
-    rw (← e, ← getD-drop 4 l (4 * i + 1) 0) (line-coded n (drop 4 l) (drop (getD l 3 0) ps) i (omega arith))
+    let e : line-width + (line-width * i + 1) ≡ line-width * suc i + 1 = omega arith in
+    rw (← e, ← getD-drop line-width l (line-width * i + 1) 0) (line-coded n (drop line-width l) (drop (getD l 3 0) ps) i (omega arith))
 
 -- ---- the search for a general `*` among the locals: the lines from i on decide
 pub record Starring (l ps : List ℕ) (n i at : ℕ) : Type 0 where
   pub within : i ≤ n
-  pub place : at ≡ 4 * i
+  pub place : at ≡ line-width * i
   pub goes : some-star (things line-form n l ps) ≡ some-star (drop i (things line-form n l ps))
 
 module _ {l ps : List ℕ} {n : ℕ} where
@@ -158,7 +160,7 @@ module _ {l ps : List ℕ} {n : ℕ} where
           let h : i < length (things line-form n l ps) = omega (arith, length-things line-form n l ps) in
           sym (z .goes ∙ rw (drop-cons (things line-form n l ps) i no-line h, here, t))
 
-      pub star-next : r ≡ false → Starring l ps n (i + 1) (at + 4)
+      pub star-next : r ≡ false → Starring l ps n (i + 1) (at + line-width)
       unfolding any some-star
       star-next t =
           let h : i < length (things line-form n l ps) = omega (arith, length-things line-form n l ps) in

@@ -5,6 +5,7 @@ ghost use mathlib.Core.List.{[]};
 ghost use Prim.Native.Nat.{_*_, _≤_};
 ghost use lib.ListN.{length};
 ghost use Rattle.packing.specs.Tables.{fine, packs, things};
+ghost use Rattle.book.specs.Books.{with-offset};
 ghost use Rattle.book.specs.Layout.{line-form, line-of, line-width};
 ghost use Rattle.book.specs.Sanity.{bare-star, content-good, glob-stands, in-range, kind-allows, line-ok, some-star};
 use book::EXPORT;
@@ -22,6 +23,7 @@ use numbers::GENERAL;
 use numbers::GLOBAL;
 use numbers::LOCAL;
 use numbers::NONSTAR_CLASS;
+use numbers::SCRIPT_LIMIT;
 use numbers::STAR_CLASS;
 use numbers::TOKEN_LIMIT;
 use packing::zero_bytes;
@@ -95,10 +97,13 @@ fn content_good(edition: Edition, code: u32, bytes: &[u8]) -> bool
     true
 }
 
-fn line_good(frame: Frame, node: u32, code: u32, bytes: &[u8]) -> bool
-    ensures { λ r. ⌜ r ≡ line-ok frame (line-of node code (now (bytes .entry))) ⌝ }
+fn line_good(frame: Frame, node: u32, code: u32, offset: u32, bytes: &[u8]) -> bool
+    ensures { λ r. ⌜ r ≡ line-ok frame (with-offset offset (line-of node code (now (bytes .entry)))) ⌝ }
 {
     if !is_in_range(frame.nodes, node, code, bytes) {
+        return false;
+    }
+    if SCRIPT_LIMIT < (offset as usize) {
         return false;
     }
     if !kind_allows(frame.kind, code) {
@@ -124,7 +129,13 @@ fn line_rows(frame: Frame, lines: &[u32], pool: &[u8], n: usize, p: usize) -> bo
             return false;
         }
         let end = o + size;
-        if !line_good(frame, lines[at], lines[at + 1], &pool[o..end]) {
+        if !line_good(
+            frame,
+            lines[at],
+            lines[at + 1],
+            lines[at + 4],
+            &pool[o..end],
+        ) {
             return false;
         }
         o = end;

@@ -18,7 +18,7 @@ use Rattle.packing.proofs.TableLaws.{every-append}
 use Rattle.book.specs.Books.{Node, Line, Book, frame-with, regular, rust}
 use Rattle.book.specs.Layout.{Buffers, edit-form}
 use Rattle.book.specs.Edits.{all-back, journal-fits, stands}
-use Rattle.book.specs.Sanity.{bare-star, in-range, kind-allows, kind-good, line-ok, sane, some-star}
+use Rattle.book.specs.Sanity.{bare-star, in-range, kind-allows, kind-good, line-ok, offset-good, sane, some-star}
 use Rattle.book.specs.View.{Fits}
 use Rattle.book_opened.proofs.Fitting.{Roomy}
 use Rattle.book_opened.proofs.Nodes.{Before, Nodes-good, nodes-told}
@@ -96,9 +96,10 @@ allowed kind n [] e f = refl
 allowed kind n (y ∷ ys) e f =
     let a = both (line-ok (frame-with regular n) y) _ e in
     let b = both (in-range n y) _ (a .0) in
-    let c = both (kind-allows regular y) _ (b .1) in
+    let o = both (offset-good y) _ (b .1) in
+    let c = both (kind-allows regular y) _ (o .1) in
     let d = both (kind-allows kind y) _ f in
-    rw (b .0, d .0, c .1) (allowed kind n ys (a .1) (d .1))
+    rw (b .0, o .0, d .0, c .1) (allowed kind n ys (a .1) (d .1))
 
 pub regular-allows : (ys : List Line) → every (kind-allows regular) ys ≡ true
 unfolding every kind-allows

@@ -5,3 +5,4 @@ pub mod Lengths
 pub mod Soundness
 pub mod Opened
 pub mod Given
+pub mod Lines

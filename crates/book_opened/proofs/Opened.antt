@@ -152,12 +152,12 @@ viewable how b s w h k l e = go (ltb script-limit (length s)) (leb node-width (l
         (start-stands reld p s) (omega arith) f
 
 -- where a reading starts, no extern block is open and no node
-record Starts (place : ℕ) : Type 0 where
-  few : place < at-symbol
+pub record Starts (place : ℕ) : Type 0 where
+  pub few : place < at-symbol
   free : block-place place ≡ false
   none : stage place ≡ outside
 
-starts-free : (how : How) → opens-at how ≡ true → Starts (how .place)
+pub starts-free : (how : How) → opens-at how ≡ true → Starts (how .place)
 starts-free how e = go (how .place) (eqb (how .place) at-script) refl e
   where
     go : (place : ℕ) (v : Bool) → eqb place at-script ≡ v → (v || eqb place at-list) ≡ true → Starts place

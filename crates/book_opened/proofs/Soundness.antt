@@ -26,7 +26,7 @@ use Rattle.reading.proofs.Parts.{Marked, Parts, node, start-marked}
 use Rattle.reading.proofs.Origins.{Near, Origin, block-place}
 use Rattle.reading.proofs.Origins as origin
 use Rattle.reading.proofs.Spans.{Closes, Spans, outside, stage}
-use Rattle.book.specs.Books.{Node, Line, edition-of, export, first-named, frame-with, new-line, regular}
+use Rattle.book.specs.Books.{Node, Line, edition-of, export, first-named, frame-with, new-line, offset-at, regular, with-offset}
 use Rattle.book.specs.Edits.{stands}
 use Rattle.book.specs.Layout.{Buffers, node-width}
 use Rattle.book.specs.Sanity.{kind-allows, line-ok, name-at, no-semicolon}
@@ -77,7 +77,7 @@ pub data Holds (P : Building → Type 0) : Taken → Type 0 where
   takes : {g : Building} → P g → Holds P (on g)
   refuses : {n p : ℕ} → Holds P (no n p)
 
-holds-cond : {P : Building → Type 0} (t : Bool) {x y : Taken} → (t ≡ true → Holds P x) → Holds P y → Holds P (cond t x y)
+pub holds-cond : {P : Building → Type 0} (t : Bool) {x y : Taken} → (t ≡ true → Holds P x) → Holds P y → Holds P (cond t x y)
 holds-cond true f g = f refl
 holds-cond false f g = g
 
@@ -255,18 +255,19 @@ module _ (place : ℕ) (b : Buffers) (c d : Cursor) (g : Building) (t : Sound pl
   unfolding kind-allows
   export-line y e = eq-eqb (y .section) global e
 
-  sound-kept : (p : ℕ) (token : List ℕ) → block-place (d .place) ≡ block-place (c .place) → d .section ≡ c .section → d .language ≡ c .language → Spelt d (g .nodes)
+  sound-kept : (p : ℕ) (token : List ℕ) → p < script-limit → block-place (d .place) ≡ block-place (c .place) → d .section ≡ c .section → d .language ≡ c .language → Spelt d (g .nodes)
       → (K : Keep) → keep (edition-of (frame-so-far g)) token ≡ K → Holds (Sound place b d) (take-kept b g p (c .section) (c .language) K)
   unfolding take-kept every
-  sound-kept p token k z w v (kept j bs) q = holds-cond (line-room b (g .lines) bs) (λ r.
-      let y : Line = new-line (length (g .nodes) - 1) (c .section) (c .language) (class-number j) bs in
+  sound-kept p token few k z w v (kept j bs) q = holds-cond (line-room b (g .lines) bs) (λ r.
+      let y : Line = with-offset (offset-at p) (new-line (length (g .nodes) - 1) (c .section) (c .language) (class-number j) bs) in
       let i = t .agrees .block in
       takes (record {
         few = near .few;
         side = behind;
         marked = m;
         good = good-line b (g .nodes) (g .lines) y (t .good)
-            (kept-line (length (g .nodes)) token j bs q (length (g .nodes) - 1) (c .section) (c .language) (omega (arith, t .good .nodes .some)) (t .marked .section) (t .marked .language))
+            (kept-line (length (g .nodes)) token j bs q (length (g .nodes) - 1) (c .section) (c .language) (offset-at p) (omega (arith, t .good .nodes .some)) (t .marked .section)
+            (t .marked .language) (omega arith))
             refl r;
         spelt = v;
         agrees = record {
@@ -283,7 +284,7 @@ module _ (place : ℕ) (b : Buffers) (c d : Cursor) (g : Building) (t : Sound pl
               globals = every-append (kind-allows export) (g .lines) (y ∷ []) (o .globals) (rw (export-line y (o .global-yet)));
             };
       })) refuses
-  sound-kept p token k z w v (refused x) q = refuses
+  sound-kept p token few k z w v (refused x) q = refuses
 
 -- ---- each event
 no-semicolons : (s : List ℕ) (p n : ℕ) → ((i : ℕ) → i < n → eqb (getD s (p + i) 0) semicolon ≡ false) → every no-semicolon (part s p n) ≡ true
@@ -315,7 +316,7 @@ module _ (place : ℕ) (b : Buffers) (s : List ℕ) (c : Cursor) (g : Building) 
       go e d i m (origin.extern h k) r w o x = takes (sound-extern place b c d g t m r k refl (spelt-stays c d (g .nodes) w o (t .spelt)))
       go e d i m (origin.closed h k) r w o x = takes (sound-closed place b c d g t m r k refl refl (spelt-stays c d (g .nodes) w o (t .spelt)))
       go e d i m (origin.line {p} {n} k) r w o x =
-          sound-kept place b c d g t m r p (part s p n) k refl refl (spelt-stays c d (g .nodes) w o (t .spelt))
+          sound-kept place b c d g t m r p (part s p n) (omega (arith, w .some)) k refl refl (spelt-stays c d (g .nodes) (w .stays) o (t .spelt))
           (keep (edition-of (frame-so-far g)) (part s p n)) refl
       go e d i m (origin.parent {p} {n} l h f) r w o x =
           sound-parent place b c d g t m r p n w x (part s p n) l h refl refl (no-semicolons s p n f) (part-length s p n)

@@ -25,7 +25,7 @@ parts-lie s Body body = tt
 parts-lie s (Section k) section-word = tt
 parts-lie s (Extern k l) extern = tt
 parts-lie s Closed closed = tt
-parts-lie s (Line k l p n) (line m h) = (m .section, m .language, h)
+parts-lie s (Line k l p n) (line m h i) = (m .section, m .language, h, i)
 parts-lie s (Parent p n) (parent h) = h
 
 -- ---- buffers with the same rooms, the journal's apart

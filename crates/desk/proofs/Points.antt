@@ -47,8 +47,8 @@ on-script =
     ∷ ("ask a", "a 2 L\n")
     ∷ ("strike 0", "! 11\n")
     ∷ ("counts", "kind 0 nodes 2 names 1 lines 2 pool 1 edits 1\n")
-    ∷ ("lines", "0 1 0 0 0 1 1 a\n1 1 4 1 0 0 0 \n")
-    ∷ ("dump", "nodes 0 0 0 0 1 0\nnames 86\nlines 1 32 0 1 1 18 1 0\npool 97\njournal 2 0\n")
+    ∷ ("lines", "0 1 0 0 0 1 1 13 a\n1 1 4 1 0 0 0 23 \n")
+    ∷ ("dump", "nodes 0 0 0 0 1 0\nnames 86\nlines 1 32 0 1 13 1 18 1 0 23\npool 97\njournal 2 0\n")
     ∷ ("undo", "undone\n")
     ∷ ("undo", "! 12\n")
     ∷ ("add 1 0 0 b", "added 2\n")
@@ -56,7 +56,7 @@ on-script =
     ∷ ("add 1 0 0 c", "! 8\n")
     ∷ ("strike 0", "struck 0\n")
     ∷ ("settle", "settled 2\n")
-    ∷ ("lines", "0 1 4 1 0 0 0 \n1 1 0 0 0 0 1 b\n")
+    ∷ ("lines", "0 1 4 1 0 0 0 23 \n1 1 0 0 0 0 1 0 b\n")
     ∷ ("symbol f;", "! 13\n")
     ∷ ("nonsense", "?\n")
     ∷ []
@@ -69,6 +69,7 @@ on-export-list =
     ∷ ("ask g@V", "g in\n")
     ∷ ("symbol! h", "added 1\n")
     ∷ ("counts", "kind 2 nodes 1 names 0 lines 3 pool 3 edits 2\n")
+    ∷ ("lines", "0 0 0 0 0 0 1 3 f\n1 0 0 0 0 0 1 0 g\n2 0 0 0 0 0 1 0 h\n")
     ∷ []
 
 abbrev on-no-book : List (String × String)

@@ -10,4 +10,5 @@ pub mod SymbolRooms
 pub mod Counted
 pub mod Demand
 pub mod Resumed
+pub mod Offsets
 pub mod KnownHistories

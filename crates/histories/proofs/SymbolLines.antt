@@ -52,7 +52,7 @@ module _ (a b : Buffers) (r : Rooms a b) (w : Book) (k : eqb (w .kind) rust ≡ 
   event-leads d es g (Section section) h = done es g
   event-leads d es g (Extern section language) h = done es g
   event-leads d es g Closed h = done es g
-  event-leads d es g (Line section language p n) (line m h) =
+  event-leads d es g (Line section language p n) (line m h q) =
       let i = some-node (w .nodes) (both (nodes-good (w .nodes)) _ (g .viewable .sane) .0) in
       append-leads a b r w k d es g 0 global language i (omega arith) (m .language) (λ _. refl) (part s p n) (keep (edition-of (book-frame w)) (part s p n)) refl
   event-leads d es g (Parent p n) h = done es g

@@ -26,7 +26,15 @@ module _ (ls : List Line) where
       rw (eq-eqb _ _ n, getD-append-seam, z, take-append-seam)
 
   unmarked : (x : Line) → x .struck ≡ 0 → marked 0 x ≡ x
-  unmarked x z = λ i. record { node = x .node; class = x .class; section = x .section; language = x .language; struck = sym z i; bytes = x .bytes }
+  unmarked x z = λ i. record {
+    node = x .node;
+    class = x .class;
+    section = x .section;
+    language = x .language;
+    struck = sym z i;
+    bytes = x .bytes;
+    offset = x .offset;
+  }
 
   pub struck-back : (i : ℕ) → i < length ls → stands (line-at ls i) ≡ true
       → take-back (record { what = strike; line = i }) (set ls i (marked 1 (line-at ls i))) ≡ some ls

@@ -31,7 +31,7 @@ pub record Copied (n : ℕ) (l m : List ℕ) : Type 0 where
   pub same : take n m ≡ take n l
   pub rest : all-zero (drop n m) ≡ true
 
--- the buffers b′ have what a book with the counts c fills of b, row by row and byte by byte: three numbers a node, the names' bytes, four numbers a line, the
+-- the buffers b′ have what a book with the counts c fills of b, row by row and byte by byte: three numbers a node, the names' bytes, five numbers a line, the
 -- lines' bytes, two numbers an edit
 pub record Moved-to (c : Counts) (b b′ : Buffers) : Type 0 where
   pub nodes : Copied (node-width * c .nodes) (b .nodes) (b′ .nodes)

@@ -27,7 +27,7 @@ use Rattle.book.specs.Books.{first-named}
 use Rattle.book.specs.Edits.{add-back, all-back, journal-fits, strike-back, take-back}
 use Rattle.book.specs.Layout.{counts-of, edit-form, laid-out, line-form, node-form}
 use Rattle.book.specs.Sanity.{bare-star, content-good, edit-ok, glob-stands, in-range, kind-allows, kind-good, line-ok, name-good, named-good, nodes-good}
-use Rattle.book.specs.Sanity.{parent-good, sane, some-star}
+use Rattle.book.specs.Sanity.{offset-good, parent-good, sane, some-star}
 use Rattle.book.specs.View.{book-of, laid, view, within-limits}
 use Rattle.book.specs.View as view
 use Rattle.book_rooms.specs.Rooms.{edit-room, line-room, node-room}
@@ -69,7 +69,8 @@ reading-texts = 0
 unfoldable pub opening-books : ℕ
 unfolding all-zero pad fine packed packs rows things
     first-named add-back all-back journal-fits strike-back take-back counts-of edit-form laid-out line-form node-form
-    bare-star content-good edit-ok glob-stands in-range kind-allows kind-good line-ok name-good named-good nodes-good parent-good sane some-star
+    bare-star content-good edit-ok glob-stands in-range kind-allows kind-good line-ok name-good named-good nodes-good offset-good parent-good sane
+    some-star
     book-of laid view within-limits view.holds
     edit-room line-room node-room take-event take-kept take-node take-parent
     build build-reading cleared kind-of left nothing-yet opening told

@@ -1,3 +1,5 @@
 pub mod Computing
 pub mod Theorem
 pub mod RunTheorem
+mod LateToken
+pub mod OffsetTheorem

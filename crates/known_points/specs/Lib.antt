@@ -1,3 +1,4 @@
 pub mod Tables
 pub mod KnownPoints
 pub mod RunPoints
+pub mod OffsetPoints

@@ -17,7 +17,7 @@ use Rattle.numbers.specs.declared.Edition.the-variants.{Reld}
 use Rattle.classes.specs.declared.Class.the-variants.{Exact, Escaped, Star, All}
 use Rattle.storing.specs.Keeping.{kept, refused, keep}
 use Rattle.book.specs.Books.{Book, Line, new-line, regular, rust}
-use Rattle.book.specs.Layout.{Buffers, five}
+use Rattle.book.specs.Layout.{Buffers, five, row-of-line}
 use Rattle.book.specs.View.{view}
 use Rattle.book.specs.Sanity.{glob-stands}
 use Rattle.book_opening.specs.Opening.{left, told}
@@ -123,7 +123,7 @@ held-any none = false
 abbrev lent : ℕ → String → Option Book
 lent code t =
     view (record { kind = regular; nodes = 1; names = 0; lines = 1; pool = length (codes t); edits = 0 })
-    (five (0 ∷ 0 ∷ 0 ∷ []) [] (0 ∷ code ∷ 0 ∷ length (codes t) ∷ []) (codes t) [])
+    (five (0 ∷ 0 ∷ 0 ∷ []) [] (row-of-line 0 code 0 (length (codes t)) 0) (codes t) [])
 
 -- 14, "a stored glob that … storing would change": no book, of a Star (12) and of a NonStar (8); an Exact (0) and an Escaped (4) are no globs
 pub record Lent : Type 0 where

@@ -8,7 +8,7 @@ use lib.ListN.{length, take, length-append}
 use Rattle.lists.specs.Texts.{codes}
 use Rattle.lists.proofs.Tests.{both}
 use Rattle.book.specs.declared.Counts.{Counts}
-use Rattle.book.specs.Layout.{Buffers, edit-form, line-form, node-form}
+use Rattle.book.specs.Layout.{Buffers, edit-form, line-form, line-width, node-form}
 use Rattle.book.specs.Sanity.{sane}
 use Rattle.book.specs.View.{book-of, holds, laid}
 use Rattle.book.proofs.Views.{laid-packs}
@@ -22,7 +22,7 @@ use Rattle.printing_book.proofs.Numbers.{Bytes, few-buffer, few-byte-bu
 pub record Used (c : Counts) (b : Buffers) : Type 0 where
   pub nodes : 3 * c .nodes ≤ length (b .nodes)
   pub names : c .names ≤ length (b .names)
-  pub lines : 4 * c .lines ≤ length (b .lines)
+  pub lines : line-width * c .lines ≤ length (b .lines)
   pub pool : c .pool ≤ length (b .pool)
   pub journal : 2 * c .edits ≤ length (b .journal)
 
@@ -65,7 +65,7 @@ module _ (d : List ℕ) (at : ℕ) (word : List ℕ) (n : ℕ) (l : List ℕ) (s
 -- what is known of the book, and of the room in d
 pub record Ready (c : Counts) (b : Buffers) (d : List ℕ) : Type 0 where
   pub held : Used c b
-  pub ample : 128 + (33 * c .nodes + (4 * c .names + (78 * c .lines + (4 * c .pool + 22 * c .edits)))) ≤ length d
+  pub ample : 128 + (33 * c .nodes + (4 * c .names + (89 * c .lines + (4 * c .pool + 22 * c .edits)))) ≤ length d
   pub names : Bytes (b .names)
   pub pool : Bytes (b .pool)
 
@@ -79,7 +79,7 @@ module _ {c : Counts} {b : Buffers} {d : List ℕ} (k : Ready c b d) where
   nodes-pair = pair nodes-word (3 * c .nodes) (b .nodes) names-word (c .names) (b .names)
 
   abbrev lines-pair : List ℕ
-  lines-pair = pair lines-word (4 * c .lines) (b .lines) pool-word (c .pool) (b .pool)
+  lines-pair = pair lines-word (line-width * c .lines) (b .lines) pool-word (c .pool) (b .pool)
 
   pub nodes-room : 0 + (5 + 11 * (3 * c .nodes) + 1) + (5 + 4 * c .names + 9) ≤ length d
   nodes-room = omega (arith, k .ample)
@@ -90,13 +90,13 @@ module _ {c : Counts} {b : Buffers} {d : List ℕ} (k : Ready c b d) where
         let q = pair-placed d 0 nodes-word (3 * c .nodes) (b .nodes) names-word (c .names) (b .names) nodes-room (k .names) p₁ in
         placed d 0 _ nodes-pair (omega (arith, q .few)) (omega (arith, k .ample)) p₁
 
-    pub lines-room : e₁ + (5 + 11 * (4 * c .lines) + 1) + (4 + 4 * c .pool + 9) ≤ length d₁
+    pub lines-room : e₁ + (5 + 11 * (line-width * c .lines) + 1) + (4 + 4 * c .pool + 9) ≤ length d₁
     lines-room = let q₁ = nodes-placed in omega (arith, k .ample)
 
     module _ {d₂ : List ℕ} {e₂ : ℕ} (p₂ : Puts d₁ e₁ lines-pair d₂ e₂) where
-      lines-placed : Placed d₁ e₁ (11 + (44 * c .lines + 4 * c .pool)) lines-pair d₂ e₂
+      lines-placed : Placed d₁ e₁ (11 + (55 * c .lines + 4 * c .pool)) lines-pair d₂ e₂
       lines-placed =
-          let q = pair-placed d₁ e₁ lines-word (4 * c .lines) (b .lines) pool-word (c .pool) (b .pool) lines-room (k .pool) p₂ in
+          let q = pair-placed d₁ e₁ lines-word (line-width * c .lines) (b .lines) pool-word (c .pool) (b .pool) lines-room (k .pool) p₂ in
           placed d₁ e₁ _ lines-pair (omega (arith, q .few)) (omega (arith, lines-room)) p₂
 
       pub journal-room : e₂ + 7 + 11 * (2 * c .edits) + 1 ≤ length d₂
@@ -109,7 +109,7 @@ module _ {c : Counts} {b : Buffers} {d : List ℕ} (k : Ready c b d) where
         journal-placed : Placed d₂ e₂ (8 + 22 * c .edits) journal-line d₃ r
         journal-placed = placed d₂ e₂ _ _ (omega (arith, few-buffer journal-word (2 * c .edits) (b .journal))) (omega (arith, journal-room)) p₃
 
-        dump-placed : Placed d 0 (12 + (33 * c .nodes + 4 * c .names) + (11 + (44 * c .lines + 4 * c .pool) + (8 + 22 * c .edits)))
+        dump-placed : Placed d 0 (12 + (33 * c .nodes + 4 * c .names) + (11 + (55 * c .lines + 4 * c .pool) + (8 + 22 * c .edits)))
             (nodes-pair ++ (lines-pair ++ journal-line)) d₃ r
         dump-placed = behind nodes-placed (behind lines-placed journal-placed)
 
@@ -121,7 +121,7 @@ module _ {c : Counts} {b : Buffers} {d : List ℕ} (k : Ready c b d) where
             let z : nodes-pair ++ (lines-pair ++ journal-line) ≡ dump-shown c b =
             append-assoc x y (lines-pair ++ journal-line)
             ∙ ap (λ (t : List ℕ). x ++ (y ++ t))
-            (append-assoc (buffer-shown lines-word (take (4 * c .lines) (b .lines))) (buffer-shown pool-word (take (c .pool) (b .pool))) journal-line) in
+            (append-assoc (buffer-shown lines-word (take (line-width * c .lines) (b .lines))) (buffer-shown pool-word (take (c .pool) (b .pool))) journal-line) in
             begins d (dump-shown c b) (subst (λ (t : List ℕ). Puts d 0 t d₃ r) z (dump-placed .put))
 
         pub dump-long : length d₃ ≡ length d

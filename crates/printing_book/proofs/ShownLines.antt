@@ -10,7 +10,7 @@ use lib.Seq.{length-take-le, take-all, take-suc}
 use Rattle.packing.specs.Tables.{packed, things}
 use Rattle.packing.proofs.Packings.{bytes-within}
 use Rattle.book.specs.declared.Counts.{Counts}
-use Rattle.book.specs.Books.{Line, no-line}
+use Rattle.book.specs.Books.{Line, no-line, with-offset}
 use Rattle.book.specs.Layout.{Line-lies, bytes-of-line, five, frame-of, line-form, line-of, line-width}
 use Rattle.book.specs.View.{book-of, holds}
 use Rattle.book.proofs.Asking.{held-book}
@@ -27,7 +27,7 @@ lines-append k (x ∷ xs) ys =
     simp (lines-append (k + 1) xs ys, append-assoc)
     (ap (λ (n : ℕ). line-shown k x ++ (lines-shown (k + 1) xs ++ lines-shown n ys)) (omega arith))
 
-few-lines : (k : ℕ) (xs : List Line) → length (lines-shown k xs) ≤ 78 * length xs + length (packed line-form xs)
+few-lines : (k : ℕ) (xs : List Line) → length (lines-shown k xs) ≤ 89 * length xs + length (packed line-form xs)
 unfolding lines-shown packed line-form
 few-lines k [] = omega arith
 few-lines k (x ∷ xs) =
@@ -79,7 +79,7 @@ module _ {c : Counts} {l m d out : List ℕ} {end i : ℕ} (z : Listed c l m d o
   pub line-lies : Line-lies l m i
   line-lies = row .lies
 
-  line-room : end + 78 + length (line .bytes) ≤ length out
+  line-room : end + 89 + length (line .bytes) ≤ length out
   unfolding shown-room line-form
   line-room =
       let k = z .room in
@@ -91,11 +91,12 @@ module _ {c : Counts} {l m d out : List ℕ} {end i : ℕ} (z : Listed c l m d o
 
   -- its bytes, as they are lent
   module _ {bs : List ℕ} (b : bs ≡ bytes-of-line l m i) where
-    pub line-fits : (end + 78 + length bs ≤ length out) × (length bs < 4294967296)
+    pub line-fits : (end + 89 + length bs ≤ length out) × (length bs < 4294967296)
     line-fits = rw b (omega (arith, line-room, ap length (row .bytes)), omega (arith, row-short row))
 
     pub line-listed : {out′ : List ℕ} {r : ℕ}
-        → Puts out end (line-shown i (line-of (getD l (line-width * i) 0) (getD l (line-width * i + 1) 0) bs)) out′ r → Listed c l m d out′ r (i + 1)
+        → Puts out end (line-shown i (with-offset (getD l (line-width * i + 4) 0) (line-of (getD l (line-width * i) 0) (getD l (line-width * i + 1) 0) bs))) out′ r
+        → Listed c l m d out′ r (i + 1)
     line-listed {out′} {r} p =
         let xs : List Line = things line-form (c .lines) l m in
         let q : Puts out end (line-shown i line) out′ r = rw (b, row-line row) at p in

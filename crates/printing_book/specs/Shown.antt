@@ -15,11 +15,11 @@ counts-shown c =
     spaced (codes "kind") (c .kind) ++ (spaced (codes " nodes") (c .nodes) ++ (spaced (codes " names") (c .names)
     ++ (spaced (codes " lines") (c .lines) ++ (spaced (codes " pool") (c .pool) ++ (spaced (codes " edits") (c .edits) ++ line-feed ∷ [])))))
 
--- ---- `lines`: for each line `LINE NODE CLASS SECTION LANGUAGE STRUCK LENGTH` and its bytes after a blank
+-- ---- `lines`: for each line `LINE NODE CLASS SECTION LANGUAGE STRUCK LENGTH OFFSET` and its bytes after a blank
 unfoldable pub fields-shown : Line → List ℕ
 fields-shown x =
     spaced [] (x .node) ++ (spaced [] (x .class) ++ (spaced [] (x .section) ++ (spaced [] (x .language)
-    ++ (spaced [] (x .struck) ++ spaced [] (length (x .bytes))))))
+    ++ (spaced [] (x .struck) ++ (spaced [] (length (x .bytes)) ++ spaced [] (x .offset))))))
 
 unfoldable pub line-shown : ℕ → Line → List ℕ
 line-shown i x = decimal i ++ (fields-shown x ++ space ∷ (x .bytes ++ line-feed ∷ []))
@@ -44,4 +44,4 @@ dump-shown c b =
 
 -- ---- a room for whichever of these is shown: a number has ten digits at most, a byte three, each with a blank before it
 unfoldable pub shown-room : Counts → ℕ
-shown-room c = answer-room + (33 * c .nodes + (4 * c .names + (78 * c .lines + (4 * c .pool + 22 * c .edits))))
+shown-room c = answer-room + (33 * c .nodes + (4 * c .names + (89 * c .lines + (4 * c .pool + 22 * c .edits))))

@@ -16,7 +16,7 @@ pub mod lines;
 pub fn shown_room(c: Counts) -> usize
     ensures { λ r. ⌜ r ≡ shown-room c ⌝ }
 {
-    let rows = 33 * (c.nodes as usize) + 78 * (c.lines as usize) + 22 * (c.edits as usize);
+    let rows = 33 * (c.nodes as usize) + 89 * (c.lines as usize) + 22 * (c.edits as usize);
     128 + (rows + 4 * (c.names as usize) + 4 * (c.pool as usize))
 }
 

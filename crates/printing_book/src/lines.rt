@@ -4,6 +4,7 @@ ghost use mathlib.Core.Path.{_≡_};
 ghost use mathlib.Core.Bool.{true};
 ghost use Prim.Native.Nat.{_+_, _≤_, _<_};
 ghost use lib.ListN.{length};
+ghost use Rattle.book.specs.Books.{with-offset};
 ghost use Rattle.book.specs.Layout.{five, line-of};
 ghost use Rattle.book.specs.View.{book-of, holds};
 ghost use Rattle.printing.specs.Printing.{Begins, Puts};
@@ -19,10 +20,10 @@ use printing::put_number;
 use printing::put_spaced;
 use printing::put_text;
 
-// The numbers of a line, a blank before each: its node, class, section and language, its mark, and how many bytes it has.
-fn put_fields(out: &mut [u8], at: usize, node: u32, code: u32, bytes: &[u8]) -> usize
-    requires { ⌜ (at + 66 ≤ length (now out)) × (length (now bytes) < 4294967296) ⌝ }
-    ensures { λ r. ⌜ Puts (now (out .entry)) at (fields-shown (line-of node code (now (bytes .entry)))) (now (out .exit)) r ⌝ }
+// The numbers of a line, a blank before each: its node, class, section and language, its mark, how many bytes it has, and its offset.
+fn put_fields(out: &mut [u8], at: usize, node: u32, code: u32, offset: u32, bytes: &[u8]) -> usize
+    requires { ⌜ (at + 77 ≤ length (now out)) × (length (now bytes) < 4294967296) ⌝ }
+    ensures { λ r. ⌜ Puts (now (out .entry)) at (fields-shown (with-offset offset (line-of node code (now (bytes .entry))))) (now (out .exit)) r ⌝ }
 {
     let class = class_of(code);
     let section = section_of(code);
@@ -32,16 +33,25 @@ fn put_fields(out: &mut [u8], at: usize, node: u32, code: u32, bytes: &[u8]) -> 
     let c = put_spaced(out, b, b"", section);
     let d = put_spaced(out, c, b"", language);
     let e = put_spaced(out, d, b"", code / STRUCK);
-    put_spaced(out, e, b"", bytes.len() as u32)
+    let f = put_spaced(out, e, b"", bytes.len() as u32);
+    put_spaced(out, f, b"", offset)
 }
 
 // A line of a book from its row and its bytes, from a place on, and the place behind it.
-fn put_line(out: &mut [u8], at: usize, line: u32, node: u32, code: u32, bytes: &[u8]) -> usize
-    requires { ⌜ (at + 78 + length (now bytes) ≤ length (now out)) × (length (now bytes) < 4294967296) ⌝ }
-    ensures { λ r. ⌜ Puts (now (out .entry)) at (line-shown line (line-of node code (now (bytes .entry)))) (now (out .exit)) r ⌝ }
+fn put_line(
+    out: &mut [u8],
+    at: usize,
+    line: u32,
+    node: u32,
+    code: u32,
+    offset: u32,
+    bytes: &[u8],
+) -> usize
+    requires { ⌜ (at + 89 + length (now bytes) ≤ length (now out)) × (length (now bytes) < 4294967296) ⌝ }
+    ensures { λ r. ⌜ Puts (now (out .entry)) at (line-shown line (with-offset offset (line-of node code (now (bytes .entry))))) (now (out .exit)) r ⌝ }
 {
     let a = put_number(out, at, line);
-    let b = put_fields(out, a, node, code, bytes);
+    let b = put_fields(out, a, node, code, offset, bytes);
     let c = put_text(out, b, b" ");
     let d = put_text(out, c, bytes);
     put_text(out, d, b"\n")
@@ -68,7 +78,15 @@ pub fn show_lines(
         let number = i as usize;
         let row = LINE_WIDTH * number;
         let bytes = line_bytes(lines, pool, number);
-        end = put_line(out, end, i, lines[row], lines[row + 1], bytes);
+        end = put_line(
+            out,
+            end,
+            i,
+            lines[row],
+            lines[row + 1],
+            lines[row + 4],
+            bytes,
+        );
         i += 1;
     }
     end

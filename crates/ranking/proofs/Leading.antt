@@ -26,6 +26,7 @@ use Rattle.ranking.specs.Walk.{decided, deciding-among, stages, walk}
 use Rattle.ranking.specs.Ranks.{rank, Decides}
 use Rattle.ranking.proofs.Stages.{rank-below}
 use Rattle.ranking.proofs.Deciders.{walk-decides, walk-nothing}
+use Rattle.ranking.proofs.Offsets.{matches-ignores-offset, rank-ignores-offset}
 
 -- ---- among lines, of which i are passed
 -- no line is held yet, and `line` is how many lines there are; or a line that matches is held, and each that matches before it is of a higher rank
@@ -126,7 +127,8 @@ module _ {frame : Frame} {n p : ℕ} {l m raw demangled : List ℕ} where
 
       module _ {r : ℕ} (q : r ≡ rank (frame .nodes) (line-of (getD l (line-width * i) 0) (getD l (line-width * i + 1) 0) [])) where
         seen-rank : r ≡ rank (frame .nodes) (line-at (things line-form n l m) i)
-        seen-rank = q ∙ same-rank (frame .nodes) _ _ (bytes-of-line l m i) ∙ ap (rank (frame .nodes)) (row-line seek-row)
+        seen-rank =
+            q ∙ same-rank (frame .nodes) _ _ (bytes-of-line l m i) ∙ sym (rank-ignores-offset (frame .nodes) _ _) ∙ ap (rank (frame .nodes)) (row-line seek-row)
 
         -- the line's rank is no better: it is not matched
         pub seek-behind : best ≤ r → Seeking frame n p l m raw demangled best line (i + 1)
@@ -137,7 +139,7 @@ module _ {frame : Frame} {n p : ℕ} {l m raw demangled : List ℕ} where
           seen-match : v ≡ line-matches (edition-of frame) (name-of raw demangled) (line-at (things line-form n l m) i)
           seen-match =
               y ∙ ap₂ (λ (u : Edition) (t : List ℕ). line-matches u (name-of raw demangled) (line-of 0 (getD l (line-width * i + 1) 0) t)) d b
-              ∙ same-match (edition-of frame) raw demangled (getD l (line-width * i) 0) _ _
+              ∙ same-match (edition-of frame) raw demangled (getD l (line-width * i) 0) _ _ ∙ sym (matches-ignores-offset (edition-of frame) (name-of raw demangled) _ _)
               ∙ ap (line-matches (edition-of frame) (name-of raw demangled)) (row-line seek-row)
 
           -- it is better, and matches

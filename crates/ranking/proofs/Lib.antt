@@ -3,5 +3,6 @@ pub mod Deciders
 pub mod Unmatched
 pub mod NameTests
 pub mod Answers
+pub mod Offsets
 mod LineTests
 mod Leading

@@ -1,5 +1,6 @@
 // A line's place in 01's ranking, as one number, and what is asked of a name before it is looked up. The search for the line that decides stands in
-// `finding`. Definitions: specs/Matching.antt, specs/Walk.antt, specs/Ranks.antt and specs/Names.antt, from document 01, 'Ranking'.
+// `finding`. Definitions: specs/Matching.antt, specs/Walk.antt, specs/Ranks.antt and specs/Names.antt, from document 01, 'Ranking'; that no offset is
+// seen: specs/Offsets.antt, from document 02, request 02.
 ghost use mathlib.Core.Path.{_≡_};
 ghost use mathlib.Core.List.{[]};
 ghost use Prim.Native.Nat.{_≤_, _<_};

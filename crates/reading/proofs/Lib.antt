@@ -10,4 +10,5 @@ pub mod Points
 pub mod Parts
 pub mod Origins
 pub mod Spans
+pub mod Lines
 pub mod WholeNodes

@@ -1,5 +1,5 @@
--- The parts of the text that an event names lie within it, and its section and language are 0 or 1, as those of the cursor behind it (`next-parts`). One law
--- for each way in which a step goes on, and then one for each definition, in its order.
+-- The parts of the text that an event names lie within it, a line's token starts at a byte of it, or at 0 where it has none, and its section and language are
+-- 0 or 1, as those of the cursor behind it (`next-parts`). One law for each way in which a step goes on, and then one for each definition, in its order.
 -- Assumes nothing.
 use Prim.Native.Nat.{ℕ, _+_, _-_, _<_, _≤_}
 use mathlib.Core.Path.{_≡_, refl}
@@ -46,7 +46,7 @@ pub data Parts (s : List ℕ) : Event → Type 0 where
   section : {k : ℕ} → Parts s (Section k)
   extern : {k l : ℕ} → Parts s (Extern k l)
   closed : Parts s Closed
-  line : {k l p n : ℕ} → Marks k l → p + n ≤ length s → Parts s (Line k l p n)
+  line : {k l p n : ℕ} → Marks k l → p + n ≤ length s → p ≤ length s - 1 → Parts s (Line k l p n)
   parent : {p n : ℕ} → p + n ≤ length s → Parts s (Parent p n)
 
 abbrev pub Marked : Cursor → Type 0
@@ -87,7 +87,7 @@ module _ (s : List ℕ) where
     -- ---- matchers
     line-to-keeps : (place : ℕ) {p : ℕ} {e : TokenEnd} → Ends s p e → Keeps s (line-to c s place p e)
     unfolding line-to
-    line-to-keeps place {p} (ends {q = q} h k) = on-skipping c q (λ r. goes (line m (trimmed-within s p q (omega arith))) m)
+    line-to-keeps place {p} (ends {q = q} h k) = on-skipping c q (λ r. goes (line m (trimmed-within s p q (omega arith)) (omega arith)) m)
     line-to-keeps place (refuses h) = refused
 
     extern-open-keeps : (place language p : ℕ) → language ≤ 1 → Keeps s (extern-open c s place language p)
@@ -122,7 +122,7 @@ module _ (s : List ℕ) where
 
     bare-line-keeps : (place : ℕ) (e : TokenEnd) → Keeps s (bare-line c s place e)
     unfolding bare-line
-    bare-line-keeps place (To q) = on-skipping c _ (λ r. goes (line m (trimmed-within s 0 q (omega arith))) m)
+    bare-line-keeps place (To q) = on-skipping c _ (λ r. goes (line m (trimmed-within s 0 q (omega arith)) (omega arith)) m)
     bare-line-keeps place (token.Refused n) = refused
 
     bare-matcher-keeps : (inner place : ℕ) → Keeps s (bare-matcher c s inner place)

@@ -1,5 +1,6 @@
--- What of the text lies before an event, where it is a named node's: a node's name, its body and its parent text lie one behind the other, and a reading ends
--- only outside a node (`next-spans`, `next-ends`). One law for each definition, in its order.
+-- What of the text lies before an event, where it is a named node's or a line: a node's name, its body and its parent text lie one behind the other, a line's
+-- token lies between where the reading stood and where it goes on, and a reading ends only outside a node (`next-spans`, `next-ends`). One law for each
+-- definition, in its order.
 -- Assumes nothing.
 use Prim.Native.Nat.{ℕ, _+_, _-_, _<_, _≤_}
 use mathlib.Core.Path.{_≡_, refl, sym}
@@ -8,7 +9,7 @@ use mathlib.Core.Bool.{Bool, true, false, cond, _||_}
 use native.Mathlib.Omega.{arith}
 use borrow.Author.Tests.{eqb-true, eqb-false, ltb-true, ltb-false}
 use lib.Dec.{eqb, ltb}
-use lib.ListN.{length, getD}
+use lib.ListN.{length, getD, take, drop, length-take}
 use Rattle.numbers.specs.Limits.{script-limit}
 use Rattle.numbers.specs.Signs.{closing-brace, opening-brace, semicolon}
 use Rattle.linker_script.specs.declared.Found.{Found}
@@ -18,20 +19,21 @@ use Rattle.linker_script.specs.declared.Skipped.the-variants.{At, Open}
 use Rattle.linker_script.specs.Finding.{first-from, is}
 use Rattle.linker_script.proofs.Searches.{first-within}
 use Rattle.linker_script.proofs.Skipping.{skip-ended}
+use Rattle.linker_script.proofs.Trimming.{trim-few}
 use Rattle.reading_tokens.specs.declared.TokenEnd.{TokenEnd}
-use Rattle.reading_tokens.specs.declared.TokenEnd.the-variants.{To}
-use Rattle.reading_tokens.specs.declared.TokenEnd.the-variants as token
-use Rattle.reading_tokens.specs.Tokens.{stands-at, name-end, to-semicolon}
+use Rattle.reading_tokens.specs.Tokens.{stands-at, name-end, trimmed}
 use Rattle.reading_cursors.specs.declared.Cursor.{Cursor}
 use Rattle.reading_cursors.specs.declared.Event.{Event}
 use Rattle.reading_cursors.specs.declared.Event.the-variants.{Node, Body, Section, Extern, Closed, Line, Parent}
 use Rattle.reading_cursors.specs.declared.Step.{Step}
 use Rattle.reading_cursors.specs.declared.Step.the-variants.{Go, End, Refused}
 use Rattle.reading_cursors.specs.Moves.{edition-at, in-section, moved, skip-at, on-skip, skipping, expecting, ending}
-use Rattle.reading_matchers.specs.Matchers.{extern-word, cxx-word, c-word, close-word, line-to, extern-open, extern-at, extern-inside, in-extern, matcher}
+use Rattle.reading_matchers.specs.Matchers.{extern-word, cxx-word, c-word, close-word, past-semicolon}
+use Rattle.reading_matchers.specs.Matchers.{line-to, extern-open, extern-at, extern-inside, in-extern, matcher}
 use Rattle.reading_cursors.specs.Places.{at-script, at-node, at-body, in-body, in-body-extern, in-sole, in-sole-extern, at-list, in-list, in-list-extern, at-symbol}
 use Rattle.reading_bodies.specs.Bodies.{global-word, local-word, name-to, node-at, script-at, parent-to, parent-at, node-end, sole-end, inside-body, body-at, sole-at, list-at}
 use Rattle.reading.specs.Scripts.{opening-at, within, start-script, go-node, go-body, go-sole, go-list, next-script, next-list, next}
+use Rattle.reading.proofs.Bounds.{Ends, ends, refuses, either-ends, past-semicolon-within, semicolon-ends}
 
 -- how far a named node has come at a place of the grammar: there is none, it has its name, its body is open
 abbrev pub outside : ℕ
@@ -69,13 +71,20 @@ pub record Closes (c : Cursor) (p n : ℕ) (d : Cursor) : Type 0 where
 abbrev pub Stays : Cursor → Cursor → Type 0
 Stays c d = stage (d .place) ≡ stage (c .place)
 
+-- a line, with the token of n bytes at p
+pub record Passes (c : Cursor) (p n : ℕ) (d : Cursor) : Type 0 where
+  pub stays : Stays c d
+  pub from : c .at ≤ p
+  pub some : p < d .at
+  pub to : p + n ≤ d .at
+
 abbrev pub Spans : Cursor → Event → Cursor → Type 0
 Spans c (Node p n) d = Begins c p n d
 Spans c Body d = Opens c d
 Spans c (Section k) d = Stays c d
 Spans c (Extern k l) d = Stays c d
 Spans c Closed d = Stays c d
-Spans c (Line k l p n) d = Stays c d
+Spans c (Line k l p n) d = Passes c p n d
 Spans c (Parent p n) d = Closes c p n d
 
 data Comes (c : Cursor) : Step → Type 0 where
@@ -103,10 +112,17 @@ module _ (s : List ℕ) (c : Cursor) where
   on-within limit f = on-cond (ltb limit (length s)) (λ _. refused) (λ _. f)
 
   -- ---- matchers: the cursor stands at `place` behind a line, and in an extern block at `inner`
-  line-to-comes : (place p : ℕ) (e : TokenEnd) → stage place ≡ stage (c .place) → Comes c (line-to c s place p e)
+  trimmed-few : (p q : ℕ) → trimmed s p q ≤ q - p
+  trimmed-few p q = omega (arith, trim-few (take (q - p) (drop p s)), length-take (q - p) (drop p s))
+
+  line-to-comes : (place p : ℕ) {e : TokenEnd} → Ends s p e → c .at ≤ p → stage place ≡ stage (c .place) → Comes c (line-to c s place p e)
   unfolding line-to
-  line-to-comes place p (To q) h = on-skipping q (λ r _. goes h)
-  line-to-comes place p (token.Refused k) h = refused
+  line-to-comes place p (ends {q = q} u v) k h = on-skipping q (λ r l.
+      let w = past-semicolon-within s r in
+      let o : Passes c p (trimmed s p q) (moved c place (past-semicolon s r)) =
+      record { stays = h; from = k; some = omega (arith, w .onward); to = omega (arith, w .onward, trimmed-few p q) } in
+      goes o)
+  line-to-comes place p (refuses u) k h = refused
 
   module _ (place : ℕ) (h : stage place ≡ stage (c .place)) where
     extern-open-comes : (language p : ℕ) → Comes c (extern-open c s place language p)
@@ -119,20 +135,20 @@ module _ (s : List ℕ) (c : Cursor) where
         on-cond (stands-at cxx-word s (p + 7)) (λ _. extern-open-comes 1 (p + 12))
         (λ _. on-cond (stands-at c-word s (p + 7)) (λ _. extern-open-comes 0 (p + 10)) (λ _. refused))
 
-    extern-inside-comes : (p : ℕ) (e : TokenEnd) → Comes c (extern-inside c s place p e)
+    extern-inside-comes : (p : ℕ) {e : TokenEnd} → Ends s p e → c .at ≤ p → Comes c (extern-inside c s place p e)
     unfolding extern-inside
-    extern-inside-comes p e =
+    extern-inside-comes p u k =
         on-cond (stands-at close-word s p) (λ _. on-skipping (p + 2) (λ q _. goes h))
-        (λ _. on-cond (stands-at extern-word s p) (λ _. refused) (λ _. line-to-comes (c .place) p e refl))
+        (λ _. on-cond (stands-at extern-word s p) (λ _. refused) (λ _. line-to-comes (c .place) p u k refl))
 
     in-extern-comes : Comes c (in-extern c s place)
     unfolding in-extern
-    in-extern-comes = on-skipping (c .at) (λ p _. extern-inside-comes p _)
+    in-extern-comes = on-skipping (c .at) (λ p k. extern-inside-comes p (either-ends (edition-at c) s p) k)
 
-  matcher-comes : (inner place p : ℕ) → stage inner ≡ stage (c .place) → stage place ≡ stage (c .place) → Comes c (matcher c s inner place p)
+  matcher-comes : (inner place p : ℕ) → c .at ≤ p → stage inner ≡ stage (c .place) → stage place ≡ stage (c .place) → Comes c (matcher c s inner place p)
   unfolding matcher
-  matcher-comes inner place p h k =
-      on-cond (stands-at extern-word s p) (λ _. extern-at-comes inner h p) (λ _. line-to-comes place p (to-semicolon (edition-at c) s p) k)
+  matcher-comes inner place p l h k =
+      on-cond (stands-at extern-word s p) (λ _. extern-at-comes inner h p) (λ _. line-to-comes place p (semicolon-ends (edition-at c) s p) l k)
 
   -- ---- a body or a list opens
   opening-at-comes : (place : ℕ) → ((q : ℕ) → Comes c (Go Body (moved c place q))) → Comes c (opening-at c s place)
@@ -144,11 +160,11 @@ module _ (s : List ℕ) (c : Cursor) where
     on-ending : (p : ℕ) → Comes c (ending s p)
     on-ending p = on-cond (eqb p (length s)) (λ _. done h) (λ _. refused)
 
-    list-at-comes : (p : ℕ) → Comes c (list-at c s p)
+    list-at-comes : (p : ℕ) → c .at ≤ p → Comes c (list-at c s p)
     unfolding list-at
-    list-at-comes p =
+    list-at-comes p k =
         on-cond (stands-at close-word s p) (λ _. on-skipping (p + 2) (λ q _. on-ending q))
-        (λ _. matcher-comes in-list-extern in-list p (sym h) (sym h))
+        (λ _. matcher-comes in-list-extern in-list p k (sym h) (sym h))
 
     name-to-comes : (p : ℕ) → c .at ≤ p → Comes c (name-to c p (name-end s p))
     unfolding name-to
@@ -173,17 +189,17 @@ module _ (s : List ℕ) (c : Cursor) where
     sole-end-comes p = on-skipping p (λ q _. on-expecting semicolon q (on-skipping (q + 1) (λ e _. on-ending e)))
 
   -- ---- bodies
-  inside-body-comes : (inner p : ℕ) → stage inner ≡ stage (c .place) → Comes c (inside-body c s inner p)
+  inside-body-comes : (inner p : ℕ) → c .at ≤ p → stage inner ≡ stage (c .place) → Comes c (inside-body c s inner p)
   unfolding inside-body
-  inside-body-comes inner p h =
+  inside-body-comes inner p k h =
       on-cond (stands-at global-word s p) (λ _. goes refl)
       (λ _. on-cond (stands-at local-word s p) (λ _. goes refl)
-      (λ _. matcher-comes inner (c .place) p h refl))
+      (λ _. matcher-comes inner (c .place) p k h refl))
 
-  sole-at-comes : stage (c .place) ≡ outside → (p : ℕ) → Comes c (sole-at c s p)
+  sole-at-comes : stage (c .place) ≡ outside → (p : ℕ) → c .at ≤ p → Comes c (sole-at c s p)
   unfolding sole-at
-  sole-at-comes h p =
-      on-cond (eqb (getD s p 0) closing-brace) (λ _. sole-end-comes h (p + 1)) (λ _. inside-body-comes in-sole-extern p (sym h))
+  sole-at-comes h p k =
+      on-cond (eqb (getD s p 0) closing-brace) (λ _. sole-end-comes h (p + 1)) (λ _. inside-body-comes in-sole-extern p k (sym h))
 
   module _ (h : stage (c .place) ≡ is-open) where
     parent-to-comes : (p : ℕ) → c .at < p → (f : Found) → first-from (is semicolon) s p ≡ f → Comes c (parent-to (in-section c 0) p f)
@@ -202,7 +218,7 @@ module _ (s : List ℕ) (c : Cursor) where
     body-at-comes : (p : ℕ) → c .at ≤ p → Comes c (body-at c s p)
     unfolding body-at
     body-at-comes p k =
-        on-cond (eqb (getD s p 0) closing-brace) (λ _. node-end-comes (p + 1) (omega arith)) (λ _. inside-body-comes in-body-extern p (sym h))
+        on-cond (eqb (getD s p 0) closing-brace) (λ _. node-end-comes (p + 1) (omega arith)) (λ _. inside-body-comes in-body-extern p k (sym h))
 
   -- ---- the step at each place
   at-place : {place : ℕ} → eqb (c .place) place ≡ true → c .place ≡ place
@@ -216,7 +232,7 @@ module _ (s : List ℕ) (c : Cursor) where
       (λ f1. on-cond (eqb (c .place) at-body) (λ e. opening-at-comes in-body (λ q. goes (of-node (rw (at-place e)) refl)))
       (λ f2. on-cond (eqb (c .place) in-body) (λ e. on-skipping (c .at) (λ p k. body-at-comes (rw (at-place e)) p k))
       (λ f3. on-cond (eqb (c .place) in-body-extern) (λ e. in-extern-comes in-body (rw (at-place e)))
-      (λ f4. on-cond (eqb (c .place) in-sole) (λ e. on-skipping (c .at) (λ p _. sole-at-comes (rw (at-place e)) p))
+      (λ f4. on-cond (eqb (c .place) in-sole) (λ e. on-skipping (c .at) (λ p k. sole-at-comes (rw (at-place e)) p k))
       (λ f5.
       let z : c .place ≡ in-sole-extern = last f0 f1 f2 f3 f4 f5 in
       in-extern-comes in-sole (rw z)))))))
@@ -240,7 +256,7 @@ module _ (s : List ℕ) (c : Cursor) where
   next-list-comes l m =
       on-cond (eqb (c .place) at-list)
       (λ e. on-within script-limit (opening-at-comes in-list (λ q. goes (of-none (rw (at-place e)) refl))))
-      (λ f0. on-cond (eqb (c .place) in-list) (λ e. on-skipping (c .at) (λ p _. list-at-comes (rw (at-place e)) p))
+      (λ f0. on-cond (eqb (c .place) in-list) (λ e. on-skipping (c .at) (λ p k. list-at-comes (rw (at-place e)) p k))
       (λ f1.
       let z : c .place ≡ in-list-extern = omega (arith, eqb-false (c .place) 7 f0, eqb-false (c .place) 8 f1) in
       in-extern-comes in-list (rw z)))

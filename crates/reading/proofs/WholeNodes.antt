@@ -34,7 +34,7 @@ use Rattle.reading.specs.Standing.{Standing}
 use Rattle.reading.proofs.Onward.{next-stands, reading-step, start-stands}
 
 -- ---- a skip stops where it takes nothing
-skip-stays : (e : Edition) (p : ℕ) (l : List ℕ) → skips l 0 ≡ false → skip-past e 0 p l ≡ At p
+pub skip-stays : (e : Edition) (p : ℕ) (l : List ℕ) → skips l 0 ≡ false → skip-past e 0 p l ≡ At p
 unfolding skip-past move
 skip-stays e p [] h = refl
 skip-stays e p (b ∷ l) h =
@@ -70,10 +70,10 @@ module _ (s : List ℕ) where
   pub drop-behind : (p : ℕ) (t l : List ℕ) → drop p s ≡ t ++ l → drop (p + length t) s ≡ l
   drop-behind p t l e = sym (drop-drop (length t) p s) ∙ ap (drop (length t)) e ∙ drop-at t l (length t) refl
 
-  first-byte : (p b : ℕ) (l : List ℕ) → drop p s ≡ b ∷ l → getD s p 0 ≡ b
+  pub first-byte : (p b : ℕ) (l : List ℕ) → drop p s ≡ b ∷ l → getD s p 0 ≡ b
   first-byte p b l e = ap (λ (k : ℕ). getD s k 0) (sym (add-zero p)) ∙ sym (getD-drop p s 0 0) ∙ ap (λ (m : List ℕ). getD m 0 0) e
 
-  skip-here : (x : Edition) (p : ℕ) → skips (drop p s) 0 ≡ false → skip x s p ≡ At p
+  pub skip-here : (x : Edition) (p : ℕ) → skips (drop p s) 0 ≡ false → skip x s p ≡ At p
   unfolding skip
   skip-here x p h = skip-stays x p (drop p s) h
 
@@ -138,7 +138,7 @@ pub record Whole (s : List ℕ) (r : Reading) (p : ℕ) (t u : List ℕ) : Type 
   pub at : behind .at ≡ p + length t + length u + 3
   pub reads : r ≡ and-then (Node p (length t)) (and-then Body (and-then (Parent (p + length t + 2) (length u)) (reading-from s behind)))
 
-event-reads : {s : List ℕ} {c d : Cursor} {e : Event} → Standing s c → next s c ≡ Go e d → reading-from s c ≡ and-then e (reading-from s d)
+pub event-reads : {s : List ℕ} {c d : Cursor} {e : Event} → Standing s c → next s c ≡ Go e d → reading-from s c ≡ and-then e (reading-from s d)
 event-reads k h = reading-step k ∙ rw h
 
 -- a name, and a text that stands before a `;`, by a test `free` that no `;` passes

@@ -282,7 +282,7 @@ struct Book {
     counts: Counts,
     nodes: [u32; 30],
     names: [u8; 100],
-    rows: [u32; 400],
+    rows: [u32; 500],
     pool: [u8; 256],
     journal: [u32; 2],
 }
@@ -291,7 +291,7 @@ struct Book {
 fn open_book(line: &[u8], at: usize, source: u64, text: &[u8]) -> Book {
     let mut nodes = [0u32; 30];
     let mut names = [0u8; 100];
-    let mut rows = [0u32; 400];
+    let mut rows = [0u32; 500];
     let mut pool = [0u8; 256];
     let mut journal = [0u32; 2];
     let opened = open(

@@ -197,7 +197,7 @@ fn same_bytes(a: &[u8], b: &[u8]) -> bool {
 fn list(text: &[u8], out: &mut [u8]) -> usize {
     let mut nodes = [0u32; 3072];
     let mut names = [0u8; 65536];
-    let mut lines = [0u32; 8192];
+    let mut lines = [0u32; 10240];
     let mut pool = [0u8; 65536];
     let mut journal = [0u32; 2];
     let listed = render_listing(

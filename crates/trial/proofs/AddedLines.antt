@@ -20,7 +20,7 @@ use Rattle.storing.specs.Keeping.{kept, keep}
 use Rattle.book.specs.declared.Frame.{Frame}
 use Rattle.book.specs.Books.{Book, Edit, Line, Node, add, book-frame, edition-of, export, new-line, regular, rust}
 use Rattle.book.specs.Layout.{Buffers, edit-width, line-form, line-width}
-use Rattle.book.specs.Sanity.{edit-ok, in-range, kind-allows, line-ok, nodes-good}
+use Rattle.book.specs.Sanity.{edit-ok, in-range, kind-allows, line-ok, nodes-good, offset-good}
 use Rattle.book.specs.View.{Fits}
 use Rattle.book_rooms.specs.Rooms.{edit-room, fits-row, line-room, pool-room}
 use Rattle.book_rooms.proofs.Putting.{room-length, room-limit}
@@ -49,8 +49,9 @@ module _ (frame : Frame) (k : eqb (frame .kind) rust ≡ false) where
   unfolding line-ok
   added-ok t c bs q node section language i j l f =
       let x : Line = new-line node section language (class-number c) bs in
-      let h = both (in-range (frame .nodes) x) _ (kept-line (frame .nodes) t c bs q node section language i j l) in
-      rw (h .0, allows x f) (both (kind-allows regular x) _ (h .1) .1)
+      let h = both (in-range (frame .nodes) x) _ (kept-line (frame .nodes) t c bs q node section language 0 i j l (omega arith)) in
+      let o = both (offset-good x) _ (h .1) in
+      rw (h .0, o .0, allows x f) (both (kind-allows regular x) _ (o .1) .1)
 
 -- ---- the book with it
 pub fits-line : (b : Buffers) (w : Book) → Fits b w → (x : Line) → line-ok (book-frame w) x ≡ true → line-room b (w .lines) (x .bytes) ≡ true

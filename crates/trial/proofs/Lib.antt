@@ -6,3 +6,4 @@ pub mod Growth
 pub mod Marking
 pub mod Standing
 pub mod Marks
+pub mod Offsets

@@ -10,10 +10,10 @@ use Rattle.lists.proofs.Tests.{both}
 use Rattle.book.specs.declared.Frame.{Frame}
 use Rattle.book.specs.Books.{Line}
 use Rattle.book.specs.Edits.{marked}
-use Rattle.book.specs.Sanity.{content-good, in-range, kind-allows, line-ok}
+use Rattle.book.specs.Sanity.{content-good, in-range, kind-allows, line-ok, offset-good}
 
 pub marked-ok : (frame : Frame) (mark : ℕ) (x : Line) → mark ≤ 1 → line-ok frame x ≡ true → line-ok frame (marked mark x) ≡ true
-unfolding line-ok in-range kind-allows content-good
+unfolding line-ok in-range offset-good kind-allows content-good
 marked-ok frame mark x h g =
     let a = both (in-range (frame .nodes) x) _ g in
     let b = both (ltb (x .node) (frame .nodes)) _ (a .0) in

@@ -1,4 +1,5 @@
--- The trial book: what add, strike, undo and settle make of a book, as 01 has it under 'The book', in buffers with the rooms of b. Assumes nothing.
+-- The trial book: what add, strike, undo and settle make of a book, as 01 has it under 'The book', in buffers with the rooms of b. What that makes of the
+-- lines' offsets: specs/Offsets.antt. Assumes nothing.
 use Prim.Native.Nat.{ℕ, _-_}
 use mathlib.Core.List.{List, [], _∷_, _++_}
 use mathlib.Core.Bool.{Bool, true, false, cond, _&&_, _||_, not}

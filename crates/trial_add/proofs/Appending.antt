@@ -166,7 +166,7 @@ module _ {c : Counts} {b : Buffers} (layout : Layout c b (book-of c b)) where
 
         buffers-more : (i class code : ℕ) (l′ j′ : List ℕ) → c .pool + length bs ≤ pool-room (b .pool) → i ≡ length bs → class ≡ class-number k
             → code ≡ standing-code class section language
-            → l′ ≡ paste (b .lines) (line-width * c .lines) (row-of-line node code (c .pool) i) line-width
+            → l′ ≡ paste (b .lines) (line-width * c .lines) (row-of-line node code (c .pool) i 0) line-width
             → q′ ≡ paste (b .pool) (c .pool) bs (length bs)
             → j′ ≡ paste (b .journal) (edit-width * c .edits) (add ∷ c .lines ∷ []) edit-width
             → five (b .nodes) (b .names) l′ q′ j′ ≡ laid-out b (with-line book line)
@@ -182,7 +182,7 @@ module _ {c : Counts} {b : Buffers} (layout : Layout c b (book-of c b)) where
 
       pub append-made : (f : fits-row (b .lines) (c .lines) ≡ true) (g : edit-row (b .journal) (c .edits) ≡ true)
           → (k : Class) (i class code : ℕ) (l′ j′ : List ℕ) → s ≡ As k i → class ≡ class-number k → code ≡ standing-code class section language
-          → l′ ≡ paste (b .lines) (line-width * c .lines) (row-of-line node code (c .pool) i) line-width
+          → l′ ≡ paste (b .lines) (line-width * c .lines) (row-of-line node code (c .pool) i 0) line-width
           → j′ ≡ paste (b .journal) (edit-width * c .edits) (add ∷ c .lines ∷ []) edit-width → (d : Counts)
           → d ≡ counts-with c (c .lines + 1) (c .pool + i) (c .edits + 1) → Appends (answer.Done d) (five (b .nodes) (b .names) l′ q′ j′)
       unfolding edited after

@@ -71,7 +71,7 @@ pub fn append(
         Stored::Refused(no) => Edited::Refused(no),
         Stored::As(class, size) => {
             let code = code_of(class_number(class), section, language);
-            put_line(lines, n, node, code, c.pool, size as u32);
+            put_line(lines, n, node, code, c.pool, size as u32, 0);
             put_two(journal, EDIT_WIDTH * e, ADD, c.lines);
             Edited::Done(counts_with(c, c.lines + 1, c.pool + (size as u32), c.edits + 1))
         }

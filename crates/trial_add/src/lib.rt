@@ -1,5 +1,6 @@
 // "Add (node, section, language, token)" of the trial book. A refusal changes nothing. Definitions: trial/specs/Trial.antt (`add-asked`), from document 01,
-// 'The book'. It asks first whether the buffers hold a book (14); what it does then stands in `adding`.
+// 'The book'. It asks first whether the buffers hold a book (14); what it does then stands in `adding`. What it makes of the lines' offsets (02,
+// request 02): trial/specs/Offsets.antt.
 ghost use mathlib.Core.Path.{_≡_};
 ghost use Rattle.book.specs.Layout.{five};
 ghost use Rattle.trial.specs.Changes.{Answers};
@@ -42,7 +43,7 @@ fn may_stand(kind: u32, nodes: u32, node: u32, section: u32, language: u32) -> b
     node == 0
 }
 
-// A line more: the token is trimmed and classed as in a script.
+// A line more, of the offset 0 (`Add-offsets`): the token is trimmed and classed as in a script.
 pub fn add(
     c: Counts,
     nodes: &[u32],

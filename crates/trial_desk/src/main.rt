@@ -180,7 +180,7 @@ fn sit(export: bool, text: &[u8], commands: &[u8], out: &mut [u8; 1048576])
 {
     let mut nodes = [0u32; 3072];
     let mut names = [0u8; 65536];
-    let mut lines = [0u32; 16384];
+    let mut lines = [0u32; 20480];
     let mut pool = [0u8; 65536];
     let mut journal = [0u32; 2048];
     work(

@@ -84,6 +84,10 @@ module _ {n : ℕ} {l₀ p₀ : List ℕ} where
       unfolding line-form
       size-now = cell-now 3 (omega arith)
 
+      offset-now : getD l (line-width * i + 4) 0 ≡ line-at lines i .offset
+      unfolding line-form
+      offset-now = cell-now 4 (omega arith)
+
       bytes-now : take (length (line-at lines i .bytes)) (drop read p) ≡ line-at lines i .bytes
       unfolding line-form
       bytes-now = midway-bytes (packing (s .asked)) (s .midway) no-line below
@@ -114,8 +118,8 @@ module _ {n : ℕ} {l₀ p₀ : List ℕ} where
 
       -- a line that stands is packed
       pub sift-keeps : {l′ p′ : List ℕ} {u : Bool} → u ≡ has-mark (getD l (line-width * i + 1) 0) → u ≡ false
-          → l′ ≡ paste l (line-width * j) (row-of-line (getD l (line-width * i) 0) (getD l (line-width * i + 1) 0) written (getD l (line-width * i + 3) 0))
-          line-width
+          → l′ ≡ paste l (line-width * j) (row-of-line (getD l (line-width * i) 0) (getD l (line-width * i + 1) 0) written (getD l (line-width * i + 3) 0)
+          (getD l (line-width * i + 4) 0)) line-width
           → p′ ≡ paste p written (take (getD l (line-width * i + 3) 0) (drop read p)) (getD l (line-width * i + 3) 0)
           → Sifting n l₀ p₀ l′ p′ (i + 1) (read + getD l (line-width * i + 3) 0) (j + 1) (written + getD l (line-width * i + 3) 0)
       unfolding line-form
@@ -126,7 +130,7 @@ module _ {n : ℕ} {l₀ p₀ : List ℕ} where
           let z : line-at lines i .struck ≡ 0 = omega (arith, code-now) in
           let e : standing (take (i + 1) lines) ≡ standing (take i lines) ++ line-at lines i ∷ []
           = standing-kept lines i below (eq-eqb (line-at lines i .struck) 0 z) in
-          let el′ : l′ ≡ paste l (line-width * j) (line-form .row written x) line-width = rw (← node-now, ← code-now, ← size-now) el in
+          let el′ : l′ ≡ paste l (line-width * j) (line-form .row written x) line-width = rw (← node-now, ← code-now, ← size-now, ← offset-now) el in
           let ep′ : p′ ≡ paste p written (x .bytes) (length (x .bytes))
           = ep
           ∙ ap (λ (k : ℕ). paste p written (take k (drop read p)) k) size-now

@@ -1,5 +1,5 @@
 // Settle, of the trial book. A refusal changes nothing. Definitions: trial/specs/Trial.antt (`settle-asked`), from document 01, 'The book'. It asks first
-// whether the buffers hold a book (14); what it does then stands in `settling`.
+// whether the buffers hold a book (14); what it does then stands in `settling`. What it makes of the lines' offsets (02, request 02): trial/specs/Offsets.antt.
 ghost use Rattle.book.specs.Layout.{five};
 ghost use Rattle.trial.specs.Changes.{Answers};
 ghost use Rattle.trial.specs.Trial.{settle-asked};
@@ -11,7 +11,7 @@ use trial::Edited;
 
 pub mod settling;
 
-// The struck lines are dropped, and the rest is packed.
+// The struck lines are dropped, and the rest is packed, each line with its offset (`Settle-offsets`).
 pub fn settle(
     c: Counts,
     nodes: &[u32],

@@ -63,7 +63,8 @@ fn pack_standing(lines: &mut [u32], pool: &mut [u8], n: usize) -> Standing
         if is_struck(code) {
             continue;
         }
-        put_line(lines, j, node, code, written as u32, size as u32);
+        let offset = lines[here + 4];
+        put_line(lines, j, node, code, written as u32, size as u32, offset);
         move_down(pool, from, written, size);
         j += 1;
         written += size;

@@ -70,7 +70,7 @@ module _ {c : Counts} {b : Buffers} {w : Book} (t : Layout c b w) (i : ℕ) wher
               nodes = t .nodes;
               lines = set-thing (line-laws (frame-of c)) (t .lines) i no-line (line-within t i h) 1 _
                   (marked 1 x) (omega arith) (marked-ok (frame-of c) 1 x (omega arith) (line-right t i h)) refl
-                  (λ o. ap (λ (k : ℕ). row-of-line (x .node) k o (length (x .bytes))) s) el;
+                  (λ o. ap (λ (k : ℕ). row-of-line (x .node) k o (length (x .bytes)) (x .offset)) s) el;
               edits = put-thing edit-laws (t .edits) (record { what = strike; line = i }) refl
                   (omega (arith, edit-within (b .journal) (c .edits) f)) (omega arith) ej refl;
             }

@@ -1,5 +1,5 @@
 // Strike, of the trial book. A refusal changes nothing. Definitions: trial/specs/Trial.antt (`strike-asked`), from document 01, 'The book'. It asks first
-// whether the buffers hold a book (14).
+// whether the buffers hold a book (14). What it makes of the lines' offsets (02, request 02): trial/specs/Offsets.antt.
 ghost use Rattle.book.specs.Layout.{five};
 ghost use Rattle.trial.specs.Changes.{Answers};
 ghost use Rattle.trial.specs.Trial.{strike-asked};
@@ -20,7 +20,7 @@ use numbers::WRONG_KIND;
 use trial::Edited;
 use trial::STRIKE;
 
-// A line that stands is struck.
+// A line that stands is struck. Every line keeps its offset (`Strike-offsets`).
 pub fn strike(
     c: Counts,
     nodes: &[u32],

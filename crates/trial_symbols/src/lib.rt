@@ -1,5 +1,6 @@
 // export_list.rs, the book's side: "`add_symbol` on an export list is one add per line, all or none." Definitions: trial/specs/Symbols.antt, from document 01,
-// 'The book'. It asks first whether the buffers hold a book (14); what it does then stands in `lines`.
+// 'The book'. It asks first whether the buffers hold a book (14); what it does then stands in `lines`. What it makes of the lines' offsets (02,
+// request 02): trial/specs/Offsets.antt.
 ghost use mathlib.Core.Path.{_≡_};
 ghost use Rattle.book.specs.Layout.{five};
 ghost use Rattle.trial.specs.Changes.{Answers};
@@ -29,7 +30,7 @@ fn place_of(without_semicolon: bool) -> u32
     AT_SYMBOL
 }
 
-// The lines of one matcher; `without_semicolon` says how it ends.
+// The lines of one matcher, each of the offset 0 (`Symbol-offsets`); `without_semicolon` says how it ends.
 pub fn add_symbol(
     c: Counts,
     nodes: &[u32],

@@ -219,7 +219,7 @@ module _ {c : Counts} {b : Buffers} {w : Book} (t : Layout c b w) (f : journal-f
           nodes = t .nodes;
           lines = set-thing (line-laws (frame-of c)) (t .lines) i no-line
               (struck-line .0) 1 _ (marked 0 x) (omega arith) (marked-ok (frame-of c) 0 x (omega arith) (line-right t i struck-at)) refl
-              (λ o. ap (λ (k : ℕ). row-of-line (x .node) k o (length (x .bytes))) s) el;
+              (λ o. ap (λ (k : ℕ). row-of-line (x .node) k o (length (x .bytes)) (x .offset)) s) el;
           edits = edits-behind ej;
         }
 

@@ -1,6 +1,6 @@
 // "undo takes back the latest edit not yet undone": `undo`, to which the counts are lent, over a core that takes them by value. Whoever holds the counts as a
 // value goes through it by `undo_latest`. A refusal changes nothing. Definitions: trial/specs/Trial.antt, from document 01, 'The book'. It is asked first
-// whether the buffers hold a book (14); what is done then stands in `taking_back`.
+// whether the buffers hold a book (14); what is done then stands in `taking_back`. What it makes of the lines' offsets (02, request 02): trial/specs/Offsets.antt.
 ghost use Rattle.book.specs.Layout.{five};
 ghost use Rattle.trial.specs.Changes.{Answers, Updates};
 ghost use Rattle.trial.specs.Trial.{undo-asked};
@@ -48,7 +48,7 @@ fn undo_by_value(
     Undone { counts, number: 0 }
 }
 
-// "The book's counts are lent to undo, which updates them": 0, or the number that says no.
+// "The book's counts are lent to undo, which updates them": 0, or the number that says no. The lines that are left keep their offsets (`Undo-offsets`).
 pub fn undo(
     counts: &mut Counts,
     nodes: &[u32],

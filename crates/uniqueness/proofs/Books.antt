@@ -64,7 +64,7 @@ pub is-struck-unique : Unique is_struck.ended is_struck.Reads.Post
 is-struck-unique κs a x y v w p q = (same p q, refl)
 
 pub put-line-unique : Unique put_line.ended put_line.Reads.Post
-put-line-unique κs a x y v w p q = (refl, λ i. same p q i ▹ tt ▹ tt ▹ tt ▹ tt ▹ tt ▹ tt)
+put-line-unique κs a x y v w p q = (refl, λ i. same p q i ▹ tt ▹ tt ▹ tt ▹ tt ▹ tt ▹ tt ▹ tt)
 
 pub line-bytes-unique : Unique-as line_bytes.ended (λ κs. List ℕ) (λ κs r. now r) line_bytes.Reads.Post
 line-bytes-unique κs a x y v w p q = (same p q, refl)

@@ -17,7 +17,7 @@ fn render(text: &[u8], out: &mut [u8; 983104]) -> Listed
 {
     let mut nodes = [0u32; 3072];
     let mut names = [0u8; 65536];
-    let mut lines = [0u32; 8192];
+    let mut lines = [0u32; 10240];
     let mut pool = [0u8; 65536];
     let mut journal = [0u32; 2];
     render_listing(

@@ -14,7 +14,7 @@ const fn change(words: &'static str, make: fn(&mut Random, &mut Buffers)) -> Cha
     Change { words, make }
 }
 
-pub const CHANGES: [Change; 30] = [
+pub const CHANGES: [Change; 33] = [
     change("count: kind", |random, book| count(random, book, 0)),
     change("count: nodes", |random, book| count(random, book, 1)),
     change("count: name bytes", |random, book| count(random, book, 2)),
@@ -42,6 +42,15 @@ pub const CHANGES: [Change; 30] = [
     change("line: code, below 64", any_code),
     change("line: start", |random, book| line(random, book, 2)),
     change("line: length", |random, book| line(random, book, 3)),
+    change("line: offset", |random, book| line(random, book, OFFSET)),
+    change("line: offset, around the limit", |random, book| {
+        let lines = used(book).lines;
+        if lines > 0 {
+            let line = random.below(lines);
+            book.lines[width::LINE * line + OFFSET] = around_the_limit(random);
+        }
+    }),
+    change("line: offset of an added line", added_offset),
     change("lines: the rest", |random, book| {
         let used = width::LINE * used(book).lines;
         rest(random, &mut book.lines, used);
@@ -87,6 +96,9 @@ pub const CHANGES: [Change; 30] = [
         }
     }),
 ];
+
+/// The field of a line's row that says where the line came from.
+const OFFSET: usize = 4;
 
 /// What is in use; no more than there is room for, should a change have made a count too large.
 fn used(book: &Buffers) -> Counted {
@@ -207,6 +219,29 @@ fn any_code(random: &mut Random, book: &mut Buffers) {
     if lines > 0 {
         let line = random.below(lines);
         book.lines[width::LINE * line + 1] = random.below(64) as u32;
+    }
+}
+
+/// The last offset that is taken, and up to two less and more.
+fn around_the_limit(random: &mut Random) -> u32 {
+    (limit::SCRIPT - 2 + random.below(5)) as u32
+}
+
+/// Of a line that the journal says was added, where there is one.
+fn added_offset(random: &mut Random, book: &mut Buffers) {
+    let Counted { lines, edits, .. } = used(book);
+    let edits = book.journal.chunks_exact(width::EDIT).take(edits);
+    let added: Vec<usize> = edits
+        .filter(|edit| edit[0] == 1)
+        .map(|edit| edit[1] as usize)
+        .filter(|&line| line < lines)
+        .collect();
+    if !added.is_empty() {
+        let offset = &mut book.lines[width::LINE * random.pick(&added) + OFFSET];
+        *offset = match random.one_in(2) {
+            true => around_the_limit(random),
+            false => other(random, *offset, &[1]),
+        };
     }
 }
 

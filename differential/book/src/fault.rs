@@ -1,4 +1,4 @@
-//! Document 01's row 14, with document 02's request 01, and nothing of the proved library's own
+//! Document 01's row 14, with document 02's requests 01 and 02, and nothing of the proved library's own
 //! definitions: what keeps lent buffers from being a book. Slow and plain, one sentence of the papers
 //! after the other.
 
@@ -25,6 +25,7 @@ struct Line<'b> {
     cxx: bool,
     struck: bool,
     bytes: &'b [u8],
+    offset: usize,
 }
 
 fn checked(book: &Buffers) -> Result<(), &'static str> {
@@ -39,6 +40,7 @@ fn checked(book: &Buffers) -> Result<(), &'static str> {
     let lines = lines(book, &counts)?;
     for line in &lines {
         in_range(line, nodes.len())?;
+        placed(line)?;
         glob(line)?;
     }
     of_its_kind(&counts, &nodes, &lines)?;
@@ -165,6 +167,7 @@ fn lines<'b>(book: &'b Buffers, counts: &Counted) -> Result<Vec<Line<'b>>, &'sta
             cxx: code & 1 != 0,
             struck,
             bytes,
+            offset: row[4] as usize,
         }
     };
     Ok(bytes.into_iter().zip(rows).map(line).collect())
@@ -180,6 +183,12 @@ fn in_range(line: &Line, nodes: usize) -> Result<(), &'static str> {
         line.class != class::ALL || line.bytes.is_empty(),
         "an All line with bytes",
     )
+}
+
+/// "14 also covers an offset over 1,048,576", of whichever line, and nothing else of an offset: one that
+/// the journal says was added may have another than 0.
+fn placed(line: &Line) -> Result<(), &'static str> {
+    demand(line.offset <= limit::SCRIPT, "an offset over the limit")
 }
 
 /// "A stored glob that 5 or 6 refuses or that storing would change".

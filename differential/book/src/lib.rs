@@ -39,6 +39,6 @@ pub mod limit {
 /// The numbers of a row.
 pub mod width {
     pub const NODE: usize = 3;
-    pub const LINE: usize = 4;
+    pub const LINE: usize = 5;
     pub const EDIT: usize = 2;
 }

@@ -28,6 +28,8 @@ pub struct Line {
     pub language: usize,
     pub struck: bool,
     pub bytes: Vec<u8>,
+    /// The place of its token in the opened text, plus one; 0 where it was added.
+    pub offset: usize,
 }
 
 #[derive(Clone, Copy, Debug, PartialEq, Eq)]
@@ -47,10 +49,14 @@ impl Model {
         }
     }
 
-    /// A regular one with so many lines of two bytes.
+    /// A regular one with so many lines of two bytes, as `{ab;ab;` has them.
     pub fn with_lines(count: usize) -> Self {
+        let line = |number| Line {
+            offset: 2 + 3 * number,
+            ..Line::exact(b"ab")
+        };
         Self {
-            lines: vec![Line::exact(b"ab"); count],
+            lines: (0..count).map(line).collect(),
             ..Self::new(kind::REGULAR)
         }
     }
@@ -143,6 +149,7 @@ impl Model {
                     language: (row[1] % 2) as usize,
                     struck: row[1] >= 32,
                     bytes: part(&book.pool, row[2], row[3]),
+                    offset: row[4] as usize,
                 })
                 .collect(),
             edits: edits
@@ -219,7 +226,7 @@ impl Model {
         for line in &self.lines {
             let code = line.class as usize * 4 + line.section * 2 + line.language;
             let code = if line.struck { code + 32 } else { code };
-            let row = [line.node, code, pool.len(), line.bytes.len()];
+            let row = [line.node, code, pool.len(), line.bytes.len(), line.offset];
             lines.extend(row.map(|number| number as u32));
             pool.extend_from_slice(&line.bytes);
         }
@@ -251,7 +258,7 @@ impl Model {
 }
 
 impl Line {
-    /// A general global line of node 0 that stands.
+    /// A general global line of node 0 that stands, and is of no opened text.
     pub fn exact(bytes: &[u8]) -> Self {
         Self {
             node: 0,
@@ -260,6 +267,7 @@ impl Line {
             language: 0,
             struck: false,
             bytes: bytes.to_vec(),
+            offset: 0,
         }
     }
 }

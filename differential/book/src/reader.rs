@@ -1,6 +1,7 @@
 //! Document 01's 'Reading', and nothing of the proved library's own definitions: what is read of a
-//! text, and where it is refused. Slow and plain, one sentence of the paper after the other. The places
-//! of refusals, and what the paper leaves open, are those of docs/DECISIONS.md.
+//! text, where each token starts, and where the text is refused. Slow and plain, one sentence of the
+//! paper after the other. The places of refusals, and what the paper leaves open, are those of
+//! docs/DECISIONS.md.
 
 use host::refusal;
 use reading_host::Source;
@@ -43,6 +44,8 @@ pub type Read<T> = Result<T, Refused>;
 
 /// A token as it is read, with its blanks.
 pub struct Token<'t> {
+    /// Its first byte's place in the text, behind the skip before it.
+    pub start: usize,
     pub bytes: &'t [u8],
     pub section: usize,
     pub language: usize,
@@ -220,6 +223,7 @@ impl<'t> Reader<'t, '_> {
         }
         let rest = self.rest();
         let token = |length: usize| Token {
+            start,
             bytes: &rest[..length],
             section,
             language: 0,
@@ -227,9 +231,9 @@ impl<'t> Reader<'t, '_> {
         };
         let sign: &[u8] = if self.without_semicolon { b"}" } else { b";" };
         match find(rest, sign) {
-            None if self.without_semicolon => self.line(start, start, token(rest.len())),
+            None if self.without_semicolon => self.line(start, token(rest.len())),
             None | Some(0) => self.refuse(refusal::UNREADABLE, start),
-            Some(length) => self.line(start, start + length, token(length)),
+            Some(length) => self.line(start + length, token(length)),
         }
     }
 
@@ -272,21 +276,23 @@ impl<'t> Reader<'t, '_> {
                 return self.refuse(refusal::UNREADABLE, start);
             }
             let token = Token {
+                start,
                 bytes: &rest[..length],
                 section,
                 language,
                 in_block: true,
             };
-            self.line(start, start + length, token)?;
+            self.line(start + length, token)?;
         }
     }
 
-    /// A token that starts and is followed there: "skip; take a `;` if there". "The skip between a token
-    /// and its `;` comes before its 1, 5, 6, 8."
-    fn line(&mut self, start: usize, behind: usize, token: Token) -> Read<()> {
+    /// A token, and where it is followed: "skip; take a `;` if there". "The skip between a token and its
+    /// `;` comes before its 1, 5, 6, 8."
+    fn line(&mut self, behind: usize, token: Token) -> Read<()> {
         self.at = behind;
         self.skip()?;
         self.takes(b";");
+        let start = token.start;
         let line = self.taker.line(token);
         line.map_err(|refused| refused.at(start))
     }

@@ -1,6 +1,6 @@
-//! Document 01's openings and edits, and nothing of the proved library's own definitions: what each
-//! call answers, and which book it leaves. Slow and plain. An undo goes back to the book that stood
-//! before the edit, which was kept whole.
+//! Document 01's openings and edits, with document 02's request 02, and nothing of the proved library's
+//! own definitions: what each call answers, and which book it leaves. Slow and plain. An undo goes back
+//! to the book that stood before the edit, which was kept whole.
 
 use crate::buffers::{Buffers, Rooms};
 use crate::model::{Edit, Line, Model, Node};
@@ -111,7 +111,7 @@ impl Trial {
     }
 
     /// "Add (node, section, language, token) trims and classes the token as in a script, any bytes or
-    /// none, and appends." In order: 13, 11, 1, 5, 6, 8.
+    /// none, and appends"; its offset is "0 for an added line". In order: 13, 11, 1, 5, 6, 8.
     pub fn add(&mut self, [node, section, language]: [u32; 3], token: &[u8]) -> Read<()> {
         if self.book.kind == kind::RUST {
             return Err(Refused::new(refusal::WRONG_KIND));
@@ -136,6 +136,7 @@ impl Trial {
             language,
             struck: false,
             bytes,
+            offset: 0,
         });
         Ok(())
     }
@@ -165,7 +166,7 @@ impl Trial {
     }
 
     /// "Settle drops struck lines, packs and renumbers the rest in order, empties the journal; with
-    /// none struck it changes nothing."
+    /// none struck it changes nothing." The rest keep their offsets.
     pub fn settle(&mut self) {
         if self.book.lines.iter().any(|line| line.struck) {
             self.book.lines.retain(|line| !line.struck);
@@ -301,6 +302,8 @@ impl Taker for Opening {
             language: token.language,
             struck: false,
             bytes,
+            // "The byte offset of its token in the opened text plus one."
+            offset: token.start + 1,
         });
         Ok(())
     }

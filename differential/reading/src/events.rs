@@ -3,7 +3,7 @@
 
 use differential::domain::{negated, shape};
 use host::{class, ours as tokens, refusal};
-use reading_host::kept::{Kept, KeptNode, Line, Matcher, Node};
+use reading_host::kept::{is_placed, Kept, KeptNode, Line, Matcher, Node};
 use reading_host::ours::{kind, WIDTH};
 use reading_host::Source;
 
@@ -171,7 +171,7 @@ impl<'t> Rows<'t> {
                 bytes.truncate(value as usize / 8);
                 if !run {
                     let class = value % 8;
-                    return Some(Line { class, bytes });
+                    return Some(placed(class, bytes, start));
                 }
                 if value % 8 != class || shape.open || bytes != shape.kept.as_bytes() {
                     return None;
@@ -182,10 +182,16 @@ impl<'t> Rows<'t> {
             refusal::GLOB_NOT_UTF8 | refusal::BAD_GLOB => self.read.bad_glob = true,
             _ => return None,
         }
-        Some(Line {
-            class,
-            bytes: as_a_glob.into_bytes(),
-        })
+        Some(placed(class, as_a_glob.into_bytes(), start))
+    }
+}
+
+/// A line whose token starts there, which is told where the Rust tells it.
+fn placed(class: u64, bytes: Vec<u8>, start: u64) -> Line {
+    Line {
+        class,
+        bytes,
+        place: is_placed(class).then_some(start as usize),
     }
 }
 
@@ -208,7 +214,7 @@ impl Read {
             for (matchers, lines) in node.matchers.iter().zip(&mut kept.lines) {
                 for matcher in matchers {
                     for line in matcher.lines() {
-                        lines[matcher.language()].push(line.clone());
+                        lines[matcher.language()].push(line.class, line.bytes.clone());
                     }
                 }
             }

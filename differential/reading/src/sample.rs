@@ -117,7 +117,7 @@ fn block(matcher: &Matcher, section: usize) -> String {
     let language = matcher.language();
     let lines = matcher.lines().iter();
     let lines: String = lines
-        .map(|Line { class, bytes }| format!(" L{section}{language}{class} {}", hex(bytes)))
+        .map(|Line { class, bytes, .. }| format!(" L{section}{language}{class} {}", hex(bytes)))
         .collect();
     match matcher {
         Matcher::Bare(_) => lines,

@@ -308,10 +308,12 @@ pub fn nested(take: &mut dyn FnMut(&[u8])) {
 /// longest length, with blanks behind them.
 pub fn limits(take: &mut dyn FnMut(&[u8])) {
     let block = [b"b".repeat(60_000), b";".to_vec()].concat();
-    let shapes: [[&[u8]; 3]; 14] = [
+    let shapes: [[&[u8]; 3]; 16] = [
         [b"{", b"a;", b";};"],
         [b"{", b"haze_month;\n", b";};"],
         [b"{", b" ", b"};"],
+        [b"{", b" ", b"a;};"],
+        [b"A{/*", b"c", b"*/\"a\";};"],
         [b"", b"\n", b"{};"],
         [b"{/*", b"c", b"*/};"],
         [b"{};#", b"c", b"\n"],

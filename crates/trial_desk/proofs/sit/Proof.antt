@@ -9,7 +9,7 @@ long : (n : ℕ) → length {A = ℕ} (replicate n 0) ≡ n
 long n = length-replicate {0} {A = ℕ} n 0
 
 work-requires : tie.Need-work-requires
-work-requires c κs = (record { nodes = long 3072; names = long 65536; lines = long 16384; pool = long 65536; journal = long 2048 }, c .before .before .before .before .before .before .before .before .pre)
+work-requires c κs = (record { nodes = long 3072; names = long 65536; lines = long 20480; pool = long 65536; journal = long 2048 }, c .before .before .before .before .before .before .before .before .pre)
 
 pub sit-spec : {M : Type 1} → statement M
 sit-spec =
@@ -17,7 +17,7 @@ sit-spec =
     (tie.spec
     (λ c. sym (long 3072))
     (λ c. sym (long 65536))
-    (λ c. sym (long 16384))
+    (λ c. sym (long 20480))
     (λ c. sym (long 65536))
     (λ c. sym (long 2048))
     work-requires

@@ -19,7 +19,7 @@ render-spec =
     (tie.spec
     (λ c. sym (long 3072))
     (λ c. sym (long 65536))
-    (λ c. sym (long 8192))
+    (λ c. sym (long 10240))
     (λ c. sym (long 65536))
     (λ c. sym (long 2))
     (λ c κs. tt)

@@ -281,8 +281,8 @@ fn edit(random: &mut Random, model: &mut Model) {
 }
 
 /// Books with as many nodes, lines, pool bytes and edits as are taken, and up to two less and more,
-/// in rooms that are larger; a line as long as it can be; a name, and a parent's, as long as a
-/// script can have it; and more bytes of names than a script has.
+/// in rooms that are larger; a line as long as it can be, and one with the last offset; a name, and a
+/// parent's, as long as a script can have it; and more bytes of names than a script has.
 fn limits(comparison: &mut Comparison) {
     let over = |limit: usize| limit - 2..=limit + 2;
     let mut held = |words, model: &Model, within: bool| {
@@ -290,7 +290,7 @@ fn limits(comparison: &mut Comparison) {
         let book = model.laid(Rooms {
             nodes: needs.nodes + 10,
             names: needs.names + 3,
-            lines: needs.lines + 10,
+            lines: needs.lines + 12,
             pool: needs.pool + 3,
             journal: needs.journal + 5,
         });
@@ -330,6 +330,33 @@ fn limits(comparison: &mut Comparison) {
                 ..Line::exact(&byte.repeat(length))
             });
             held("a line's length", &model, length <= limit::TOKEN);
+        }
+    }
+    for offset in over(limit::SCRIPT).chain([u32::MAX as usize]) {
+        for kind in [kind::REGULAR, kind::RUST, kind::EXPORT_LIST] {
+            let opened = Line {
+                offset: 2,
+                section: usize::from(kind == kind::RUST),
+                class: class::ALL,
+                ..Line::exact(b"")
+            };
+            let line = Line {
+                offset,
+                ..Line::exact(b"haze")
+            };
+            let mut model = Model::new(kind);
+            model.lines = vec![line.clone(), opened.clone()];
+            held("an offset", &model, offset <= limit::SCRIPT);
+            model.lines.reverse();
+            held("an offset", &model, offset <= limit::SCRIPT);
+            if kind != kind::RUST {
+                let mut model = Model::new(kind);
+                model.lines.push(opened);
+                model.add(line);
+                held("an added line's offset", &model, offset <= limit::SCRIPT);
+                model.strike(1);
+                held("a struck line's offset", &model, offset <= limit::SCRIPT);
+            }
         }
     }
     let named = |letter: &[u8], length, parent| Node {

@@ -1,11 +1,11 @@
-//! Histories at the limits, in rooms that are larger, so that the limit says no and not the room; and
-//! runs of stars, in rooms for what is kept of them.
+//! Histories at the limits, in rooms that are larger, so that the limit says no and not the room; of
+//! lines with offsets that no text gives; and runs of stars, in rooms for what is kept of them.
 
 use crate::history::Step;
 use book::buffers::Rooms;
-use book::model::Model;
+use book::model::{Line, Model};
 use book::questions::{Question, What};
-use book::{limit, width};
+use book::{kind, limit, width};
 use differential::inputs::long;
 use reading_host::Source;
 
@@ -15,6 +15,7 @@ pub fn histories() -> Vec<Vec<Step>> {
         lines(),
         pool(),
         edits(),
+        offsets(),
         tokens(),
         runs(),
         symbols(),
@@ -48,6 +49,10 @@ fn openings() -> Vec<Step> {
     }
     for length in around(limit::SCRIPT) {
         open(long([b"{a;};", b" ", b"\n"], length));
+        // The last place that a token can have, bare, in quotes and in a block.
+        open(long([b"{b;", b" ", b"\na;};"], length));
+        open(long([b"{b;", b" ", b"\n\"a\";};"], length));
+        open(long([b"{extern \"C\"{b;", b" ", b"\na};};"], length));
     }
     steps
 }
@@ -152,6 +157,55 @@ fn edits() -> Vec<Step> {
         Step::Undo,
         Step::Undo,
     ]
+}
+
+/// The last offset that is taken, and less and more, of an opened line and of one that was added: each
+/// call keeps it, or where it is over the limit is refused.
+fn offsets() -> Vec<Step> {
+    let mut steps = Vec::new();
+    for offset in [
+        1,
+        65_536,
+        limit::SCRIPT - 1,
+        limit::SCRIPT,
+        limit::SCRIPT + 1,
+        u32::MAX as usize,
+    ] {
+        for [opened, added] in [[offset, 0], [7, offset]] {
+            for kind in [kind::REGULAR, kind::EXPORT_LIST] {
+                let line = |bytes, offset| Line {
+                    offset,
+                    ..Line::exact(bytes)
+                };
+                let mut book = Model::new(kind);
+                book.lines = vec![line(b"a", 3), line(b"bc", opened), line(b"", 5)];
+                book.add(line(b"d", added));
+                steps.extend([
+                    lent(&book),
+                    ask(b"d"),
+                    Step::Strike(1),
+                    Step::Strike(3),
+                    ask(b"bc"),
+                    add(b"e"),
+                    Step::AddSymbol(0, b"f;".to_vec()),
+                    Step::Undo,
+                    Step::Undo,
+                    Step::Undo,
+                    Step::Undo,
+                    Step::Undo,
+                    add(b"g*"),
+                    Step::Strike(0),
+                    Step::Settle,
+                    ask(b"gh"),
+                    add(b"h"),
+                    Step::Strike(0),
+                    Step::Settle,
+                    ask(b"h"),
+                ]);
+            }
+        }
+    }
+    steps
 }
 
 /// Tokens of the longest length, and of up to two bytes less and more.

@@ -8,7 +8,8 @@
 //! buffers must be, number for number and byte for byte, what the model lays out, and the number what it
 //! answers; then the counts and some names are asked, mostly of lines that the call has changed, and held
 //! against document 01's ranking. The model (../trial.rs, ../reader.rs, ../storing.rs) is written from
-//! document 01 and docs/DECISIONS.md; its undo goes back to the book before, which it has kept whole.
+//! document 01, document 02's requests 01 and 02 and docs/DECISIONS.md; its reading tells each line's
+//! offset, and its undo goes back to the book before, which it has kept whole.
 //!
 //! Where the lines left standing can be written as a text, the published Rust reads that text and is
 //! asked for the same names. Left out, and counted by the cause, are books with a line that no text has

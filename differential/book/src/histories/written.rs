@@ -99,11 +99,12 @@ fn token(line: &Line) -> Result<Vec<u8>, Cause> {
 }
 
 /// Whether the text is read, by document 01, as the lines that stand, in each node, section and
-/// language in order.
+/// language in order. They stand at other places there.
 pub fn is_read_back(book: &Model, source: Source, text: &[u8]) -> bool {
     let lines = |book: &Model| {
         let mut lines: Vec<Line> = book.lines.clone();
         lines.retain(|line| !line.struck);
+        lines.iter_mut().for_each(|line| line.offset = 0);
         lines.sort_by_key(|line| (line.node, line.section, line.language));
         lines
     };

@@ -3,6 +3,7 @@
 
 use crate::coverage::Coverage;
 use book::buffers::{Buffers, Rooms};
+use book::limit;
 use book::model::Model;
 use book::ours::{self, Name};
 use book::questions::{Held, Outside, Question};
@@ -24,6 +25,8 @@ pub struct Opened<'t> {
     pub runs: bool,
     pub model: Model,
     book: Buffers,
+    /// The same book, whose lines have other offsets.
+    elsewhere: Buffers,
     ranking: Ranking,
 }
 
@@ -41,13 +44,24 @@ pub fn opened(source: Source, text: &[u8]) -> Option<Opened<'_>> {
     }
     let model = Model::of(&book);
     let ranking = Ranking::new(&model);
+    let elsewhere = elsewhere(&model).laid(book.rooms());
     Some(Opened {
         held,
         runs,
         model,
         book,
+        elsewhere,
         ranking,
     })
+}
+
+/// A book with the last offsets that are taken, in falling order.
+fn elsewhere(book: &Model) -> Model {
+    let mut book = book.clone();
+    for (number, line) in book.lines.iter_mut().enumerate() {
+        line.offset = limit::SCRIPT - number;
+    }
+    book
 }
 
 impl Opened<'_> {
@@ -117,6 +131,10 @@ impl Opened<'_> {
         }
         let got = question.ours(&self.book);
         expect(got == want, || format!("expected {want:?}, got {got:?}"))?;
+        let got = question.ours(&self.elsewhere);
+        expect(got == want, || {
+            format!("expected {want:?}, got {got:?} of lines with other offsets")
+        })?;
         Ok(outside)
     }
 }

@@ -11,7 +11,8 @@
 //! 01's, of the globals that the Rust lists. Every answer is also held against document 01's ranking
 //! (../ranking.rs), which says which line decided; how often each kind of line did is printed at the
 //! end. Of each text the counts of versions and parents are compared too, and, of our side alone, that
-//! a question of the other kind is refused 13.
+//! a question of the other kind is refused 13, and that the book whose lines have other offsets answers
+//! each name alike.
 //!
 //! Outside the domain of equality lie names over the limit and names that are not UTF-8, where we must
 //! refuse, and texts with a run of stars outside a bracket, where the ranking over the lines that we

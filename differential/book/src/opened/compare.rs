@@ -15,7 +15,7 @@ use differential::runs::Runs;
 use differential::tally::Tally;
 use host::{class, refusal};
 use reading::verdict::{Outside, Verdict, REASONS};
-use reading_host::kept::{self, Kept, KeptNode, Matcher};
+use reading_host::kept::{self, is_placed, Kept, KeptNode, Matcher};
 use reading_host::published::{self, Accepted, Answer};
 use reading_host::Source;
 
@@ -61,7 +61,7 @@ impl Case {
             small: Some(Rooms {
                 nodes: room(13),
                 names: room(8),
-                lines: room(21),
+                lines: room(26),
                 pool: room(16),
                 journal: room(5),
             }),
@@ -290,8 +290,12 @@ fn opened(source: Source, text: &[u8], rooms: Rooms, book: &mut Buffers) -> Resu
         return Err(format!("opened, and no book: {fault}"));
     }
     let model = Model::of(book);
-    expect(plain.is_ok_and(|plain| plain.book == model), || {
-        format!("another book than document 01's: {:?}", book.counted())
+    let plain = plain.expect("it is opened").book;
+    expect(plain == model, || {
+        let mut lines = model.lines.iter().zip(&plain.lines);
+        let unlike = lines.find(|(got, want)| got != want);
+        let counts = book.counted();
+        format!("another book than document 01's: {counts:?}, the first line unlike {unlike:?}")
     })?;
     let of_its_source = match source {
         Source::Script => model.kind != kind::EXPORT_LIST,
@@ -358,8 +362,11 @@ fn squeeze(rust: &mut Accepted) {
     }
 }
 
-/// A node's name, and its lines by section in order of reading, each with its language.
-type Ordered<'a> = Vec<(&'a [u8], [Vec<(usize, u64, &'a [u8])>; 2])>;
+/// A node's name, and its lines by section in order of reading.
+type Ordered<'a> = Vec<(&'a [u8], [Vec<Told<'a>>; 2])>;
+
+/// Of a line its language, its class, its bytes, and its offset where the Rust tells the token's place.
+type Told<'a> = (usize, u64, &'a [u8], Option<usize>);
 
 fn nodes(read: &[kept::Node]) -> Ordered<'_> {
     let nodes = read.iter();
@@ -368,10 +375,13 @@ fn nodes(read: &[kept::Node]) -> Ordered<'_> {
         .collect()
 }
 
-fn lines_of(matchers: &Vec<Matcher>) -> Vec<(usize, u64, &[u8])> {
+fn lines_of(matchers: &Vec<Matcher>) -> Vec<Told<'_>> {
     let lines = matchers.iter().flat_map(|matcher| {
         let lines = matcher.lines().iter();
-        lines.map(|line| (matcher.language(), line.class, &line.bytes[..]))
+        lines.map(|line| {
+            let offset = line.place.map(|place| place + 1);
+            (matcher.language(), line.class, &line.bytes[..], offset)
+        })
     });
     lines.collect()
 }
@@ -383,7 +393,9 @@ fn by_section(book: &Model) -> Ordered<'_> {
         .map(|node| (&node.name[..], Default::default()))
         .collect();
     for line in &book.lines {
-        nodes[line.node].1[line.section].push((line.language, line.class, &line.bytes[..]));
+        let offset = is_placed(line.class).then_some(line.offset);
+        let told = (line.language, line.class, &line.bytes[..], offset);
+        nodes[line.node].1[line.section].push(told);
     }
     nodes
 }
@@ -412,7 +424,7 @@ fn kept(book: &Model) -> Kept {
         ..
     } in book.lines.clone()
     {
-        nodes[node].lines[section][language].push(kept::Line { class, bytes });
+        nodes[node].lines[section][language].push(class, bytes);
     }
     Kept::Nodes(nodes)
 }

@@ -6,7 +6,8 @@
 //! the kind, the nodes with their names and parents, the counts of versions and parents, and the
 //! lines: as the Rust holds them (exact and escaped as sets, globs in order, All as a mark; for the
 //! Rust kind the listed globals), and before that in order of reading, by node and section, each
-//! with its language, its class and its bytes.
+//! with its language, its class and its bytes, and where it came from if it is exact or escaped: the
+//! Rust has no offsets, but holds the tokens of these as parts of the text.
 //!
 //! The Rust's side is that of the comparison of reading (../reading/host), with what is stood in for
 //! there: version_script.rs and export_list.rs, unchanged, each with a child module that sees its
@@ -21,8 +22,8 @@
 //! Besides, of our side alone: what was opened is a book, by the library's own check and by the
 //! plain reading of row 14 in this crate; a refused opening leaves all lent memory zero; nothing
 //! beside the lent memory is written; in small rooms the answer is 8 exactly where what the text needs
-//! does not fit; and the number and the place of every refusal, and the book, are those of the slow model
-//! of document 01 in this crate (../trial.rs).
+//! does not fit; and the number and the place of every refusal, and the book, with the offset of every
+//! line, are those of the slow model of document 01 in this crate (../trial.rs).
 
 mod compare;
 

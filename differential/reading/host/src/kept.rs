@@ -3,11 +3,19 @@
 use host::class;
 use std::collections::BTreeSet;
 
-/// A line: the class of its token, and the bytes that are kept.
+/// A line: the class of its token, the bytes that are kept, and where the token starts in the text,
+/// where the Rust tells it.
 #[derive(Clone, Debug, PartialEq, Eq)]
 pub struct Line {
     pub class: u64,
     pub bytes: Vec<u8>,
+    pub place: Option<usize>,
+}
+
+/// Whether the Rust tells where a token of this class starts: it holds those of exact and escaped lines
+/// as parts of the text.
+pub fn is_placed(class: u64) -> bool {
+    matches!(class, class::EXACT | class::ESCAPED)
 }
 
 /// A matcher as it is read. The language is 1 for C++.
@@ -69,7 +77,7 @@ pub struct Lines {
 }
 
 impl Lines {
-    pub fn push(&mut self, Line { class, bytes }: Line) {
+    pub fn push(&mut self, class: u64, bytes: Vec<u8>) {
         match class {
             class::EXACT => {
                 self.exact.insert(bytes);

@@ -1,4 +1,4 @@
--- `put_line` meets its contract: four stores are a paste. Assumes nothing.
+-- `put_line` meets its contract: five stores are a paste. Assumes nothing.
 use native.Mathlib.Omega.{arith}
 use borrow.Author.Needs.{needs}
 use lib.ListN.{length-set}
@@ -14,6 +14,8 @@ put-line-spec =
     tie.close
     (tie.spec
     (λ c. search needs) (λ c. search needs) (λ c. search needs) (λ c. search needs) (λ c. search needs)
+    (λ c. simp length-set (omega arith))
+    (λ c. search needs) (λ c. search needs)
     (λ c. simp length-set (omega arith))
     (λ c. search needs) (λ c. search needs)
     (λ c. simp length-set (omega arith))

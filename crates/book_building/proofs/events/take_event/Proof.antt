@@ -17,9 +17,9 @@ line-stands-requires : tie.Need-line-stands-requires
 line-stands-requires c κs =
     let s = c .before .before .before .before .before .before .before .before .before .before in
     let a = s .args in
-    let h = line-asks (a .s .now) (a .g) (a .nodes .now) (a .names .now) (a .lines .now) (a .pool .now) (s .pre .0) (a .e) _ _ _ _ (s .pre .2)
+    let h = line-asks (a .s .now) (a .g) (a .nodes .now) (a .names .now) (a .lines .now) (a .pool .now) (s .pre .0) (a .e) _ _ _ _ (s .pre .1) (s .pre .2)
     (c .before .before .before .e3 .given .1) in
-    (h .0, h .1, h .2, h .3, omega (arith, h .4, h .5), omega (arith, h .4, h .5))
+    (h .0, h .1, h .2, h .3, omega (arith, h .4, h .5), omega (arith, h .4, h .5), h .6)
 
 node-ends-requires : tie.Need-node-ends-requires
 node-ends-requires c κs =

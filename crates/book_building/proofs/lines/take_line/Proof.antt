@@ -6,6 +6,7 @@ use mathlib.Core.List.{[]}
 use mathlib.Core.Path.{_≡_, sym, _∙_}
 use borrow.Author.Tests.{not-true, not-false}
 use lib.Seq.{paste}
+use Rattle.book.specs.Books.{offset-at}
 use Rattle.book.specs.Layout.{line-width, row-of-line, standing-code}
 use Rattle.book_rooms.proofs.Putting.{room-limit}
 use Rattle.book_rooms.proofs.Rows.{row-number, row-within}
@@ -62,8 +63,8 @@ add-t29 c =
     let r = row-number (a .lines .now) (a .g .lines) (sym (i .before .has-row .ensures) ∙ not-false _ (i .if1 .left)) in
     omega arith
 
-add-t35 : tie.Need-add-t35
-add-t35 c =
+add-t36 : tie.Need-add-t36
+add-t36 c =
     let x = c .before .before .before .before .before .before .before .before .before .before .before .before .before .before .before .before .before in
     let a = x .before .before .before .before .before .before .before .args in
     omega (
@@ -99,7 +100,8 @@ placed : (c : tie.After-put-line)
     let a = entry f .args in
     c .put-line .last .0
     ≡ paste (a .lines .now) (line-width * a .g .lines)
-    (row-of-line (a .g .nodes - 1) (f .code-of .result) (a .g .pool) (f .before .before .before .before .before .before .before .class .given .0 .1 .0)) line-width
+    (row-of-line (a .g .nodes - 1) (f .code-of .result) (a .g .pool) (f .before .before .before .before .before .before .before .class .given .0 .1 .0) (offset-at (a .p)))
+    line-width
 placed c = c .put-line .ensures
 
 returns-3 : tie.Need-returns-3
@@ -111,7 +113,7 @@ returns-3 c =
     (x .before .before .edition-of .result) (x .before .before .edition-of .ensures) (x .put-token .result) _
     (x .before .before .before .before .before .before .before .pre .0) (x .put-token .ensures)
     _ _ _ _ _ _ _ (i .before .before .before .before .class .given .1) (sym (i .before .has-row .ensures) ∙ not-false _ (i .if1 .left)) (omega arith)
-    (omega arith)
+    (omega arith) (x .before .before .before .before .before .before .before .pre .5)
     (c .before .before .before .before .before .before .before .before .class-number .ensures)
     (coded (c .before .before .before .before .before .before)) (c .before .mixed-behind .ensures) (c .starred-behind .ensures)
     (placed (c .before .before .before .before))
@@ -127,10 +129,11 @@ take-line-spec =
     code-of-requires
     cast-put-line
     cast-put-line-2
+    (λ c. search needs) (λ c. search needs)
     put-line-requires
     (λ c κs. search needs) (λ c κs. search needs)
     add-t29
-    add-t35
+    add-t36
     (λ c. search needs)
     returns-2
     (λ c. search needs) (λ c. search needs)

@@ -20,7 +20,7 @@ returns-2 c = search size-wrong
 
 loop-again : tie.Need-loop-again Inv-loop μ-loop
 loop-again c =
-    let d = c .before .before .before .before .before in
+    let d = c .before .before .before .before .before .before in
     let w = d .before .before .before .before in
     line-right (w .before .loop .inv) (w .before .before .before .before .pre .0) (w .loop-test .taken) (c .before .line-good .ensures)
     (omega (arith, d .before .before .if1 .left)) (omega (arith, d .if2 .left)) (c .if3 .left)
@@ -44,8 +44,9 @@ line-rows-spec =
     cast-size
     (λ c. search needs)
     returns-2
-    (λ c. search needs) (λ c. search needs) (λ c. search needs) (λ c. search needs) (λ c. search needs)
-    (λ c. search needs) (λ c. search needs) (λ c. search needs) (λ c. search needs) (λ c κs. search needs)
+    (λ c. search needs) (λ c. search needs) (λ c. search needs) (λ c. search needs) (λ c. search needs) (λ c. search needs)
+    (λ c. search needs) (λ c. search needs) (λ c. search needs) (λ c. search needs) (λ c. search needs) (λ c. search needs)
+    (λ c κs. search needs)
     (λ c. search line-wrong)
     (λ c. search needs) (λ c. search needs) (λ c. search needs)
     loop-again

@@ -4,15 +4,15 @@ use mathlib.Core.List.{List, []}
 use borrow.Author.Needs.{needs}
 use native.Mathlib.Omega.{arith}
 use lib.ListN.{length}
-use Rattle.book.specs.Books.{Line}
+use Rattle.book.specs.Books.{Line, with-offset}
 use Rattle.book.specs.Layout.{line-of}
 use Rattle.printing_book.proofs.Pieces.{Placed, room-behind, spaced-behind, spaced-placed, told-behind}
-use Rattle.printing_book.proofs.Fields.{fields-put, to-class, to-language, to-length, to-node, to-section, to-struck}
+use Rattle.printing_book.proofs.Fields.{fields-put, to-class, to-language, to-length, to-node, to-offset, to-section, to-struck}
 use Rattle.printing_book.proofs.lines.put_fields.Statement.{statement}
 use Rattle.printing_book.proofs.lines.put_fields.Tie as tie
 
 abbrev line : tie.Start → Line
-line s = line-of (s .args .node) (s .args .code) (s .args .bytes .now)
+line s = with-offset (s .args .offset) (line-of (s .args .node) (s .args .code) (s .args .bytes .now))
 
 -- a text of this line, m bytes at most, stands from the place on
 abbrev Stands : tie.Start → ℕ → (Line → List ℕ) → List ℕ → ℕ → Type 0
@@ -67,6 +67,15 @@ struck c =
     let p = language (c .before .before .before .before .before) in
     spaced-behind p [] (line (start5 c) .struck) (omega (arith, start5 c .pre .0)) (c .put-spaced5 .ensures)
 
+-- behind the sixth
+abbrev start6 : tie.After-put-spaced6 → tie.Start
+start6 c = start5 (c .before .before .before .before .before)
+
+sized : (c : tie.After-put-spaced6) → Stands (start6 c) 66 to-length (c .put-spaced6 .last .0) (c .put-spaced6 .result)
+sized c =
+    let p = struck (c .before .before .before .before .before) in
+    spaced-behind p [] (length (line (start6 c) .bytes)) (omega (arith, start6 c .pre .0)) (c .put-spaced6 .ensures)
+
 -- ---- the needs
 put-spaced-requires-2 : tie.Need-put-spaced-requires-2
 put-spaced-requires-2 c κs =
@@ -93,12 +102,25 @@ put-spaced-requires-6 c κs =
     let p = c .before .before .before .before in
     room-behind (struck p) 0 (omega (arith, start5 p .pre .0))
 
+put-spaced-requires-7 : tie.Need-put-spaced-requires-7
+put-spaced-requires-7 c κs =
+    let p = c .before .before .before .before in
+    room-behind (sized p) 0 (omega (arith, start6 p .pre .0))
+
+-- behind the last
+abbrev start7 : tie.After-put-spaced7 → tie.Start
+start7 c = start6 (c .before .before .before .before .before)
+
+all-put : (c : tie.After-put-spaced7) → Stands (start7 c) 77 to-offset (c .put-spaced7 .last .0) (c .put-spaced7 .result)
+all-put c =
+    let p = sized (c .before .before .before .before .before) in
+    spaced-behind p [] (line (start7 c) .offset) (omega (arith, start7 c .pre .0)) (c .put-spaced7 .ensures)
+
+same-length : tie.Need-same-length
+same-length c = all-put (c .before .before) .long
+
 returns : tie.Need-returns
-returns c =
-    let q = c .before .before in
-    let p = q .before .before .before .before .before in
-    let x = line (start5 p) in
-    fields-put x (spaced-behind (struck p) [] (length (x .bytes)) (omega (arith, start5 p .pre .0)) (q .put-spaced6 .ensures))
+returns c = let q = c .before .before in fields-put (line (start7 q)) (all-put q)
 
 pub put-fields-spec : {M : Type 1} → statement M
 put-fields-spec =
@@ -116,4 +138,6 @@ put-fields-spec =
     (λ c. omega (arith, start5 (c .before .before .before .before) .pre .1))
     put-spaced-requires-6
     (λ c. search needs)
+    put-spaced-requires-7
+    same-length
     returns)

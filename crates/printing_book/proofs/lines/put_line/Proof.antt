@@ -1,6 +1,7 @@
 -- `put_line` meets its contract. Assumes nothing.
 use borrow.Author.Needs.{needs}
 use native.Mathlib.Omega.{arith}
+use Rattle.book.specs.Books.{with-offset}
 use Rattle.book.specs.Layout.{line-of}
 use Rattle.printing.proofs.Digits.{few-digits}
 use Rattle.printing_book.proofs.Fields.{few-fields, line-put}
@@ -19,7 +20,7 @@ put-text-requires c κs =
     let at-args = c .before .before .before .before .before .before .before .before .before .before .before .before in
     let a = at-args .args in
     let f = few-digits (a .line) in
-    let g = few-fields (line-of (a .node) (a .code) (a .bytes .now)) in
+    let g = few-fields (with-offset (a .offset) (line-of (a .node) (a .code) (a .bytes .now))) in
     omega (arith, at-args .pre .0)
 
 put-text-requires-2 : tie.Need-put-text-requires-2
@@ -27,7 +28,7 @@ put-text-requires-2 c κs =
     let at-args = c .before .before .before .before .before .before .before .before .before .before .before .before .before .before .before .before in
     let a = at-args .args in
     let f = few-digits (a .line) in
-    let g = few-fields (line-of (a .node) (a .code) (a .bytes .now)) in
+    let g = few-fields (with-offset (a .offset) (line-of (a .node) (a .code) (a .bytes .now))) in
     omega (arith, at-args .pre .0)
 
 put-text-requires-3 : tie.Need-put-text-requires-3
@@ -35,7 +36,7 @@ put-text-requires-3 c κs =
     let at-args = c .before .before .before .before .before .before .before .before .before .before .before .before .before .before .before .before .before .before .before .before .before in
     let a = at-args .args in
     let f = few-digits (a .line) in
-    let g = few-fields (line-of (a .node) (a .code) (a .bytes .now)) in
+    let g = few-fields (with-offset (a .offset) (line-of (a .node) (a .code) (a .bytes .now))) in
     omega (arith, at-args .pre .0)
 
 returns : tie.Need-returns
@@ -52,7 +53,7 @@ returns c =
     let s = at-put-text .put-text in
     let t = at-put-text2 .put-text2 in
     let u = at-put-text3 .put-text3 in
-    line-put (a .out .now) (a .at) (line-of (a .node) (a .code) (a .bytes .now)) (a .line) (at-args .pre .0)
+    line-put (a .out .now) (a .at) (with-offset (a .offset) (line-of (a .node) (a .code) (a .bytes .now))) (a .line) (at-args .pre .0)
     (p .ensures) (q .ensures) (s .ensures) (t .ensures) (u .ensures)
 
 pub put-line-spec : {M : Type 1} → statement M

@@ -16,13 +16,13 @@ loop-holds c = search lines-start
 
 put-line-requires : tie.Need-put-line-requires Inv-loop μ-loop
 put-line-requires c κs =
-    let b = c .before .before .before in
+    let b = c .before .before .before .before in
     line-fits (b .before .before .before .loop .inv) (b .before .if1 .taken) (b .line-bytes .ensures)
 
 loop-again : tie.Need-loop-again Inv-loop μ-loop
 loop-again c =
     let p = c .before .before in
-    let b = p .before .before .before .before in
+    let b = p .before .before .before .before .before in
     line-listed (b .before .before .before .loop .inv) (b .before .if1 .taken) (b .line-bytes .ensures) (p .put-line .ensures)
 
 pub show-lines-spec : {M : Type 1} → statement M
@@ -35,7 +35,8 @@ show-lines-spec =
     (λ c. search needs)
     (λ c. search needs)
     (λ c κs. search line-lies)
-    (λ c. search needs) (λ c. search needs) (λ c. search needs) (λ c. search needs) (λ c. search needs)
+    (λ c. search needs) (λ c. search needs) (λ c. search needs) (λ c. search needs) (λ c. search needs) (λ c. search needs)
+    (λ c. search needs) (λ c. search needs)
     put-line-requires
     (λ c. search needs) (λ c. search needs)
     loop-again

@@ -136,7 +136,7 @@ placed : (c : tie.After-put-line)
     → let f = told c in
     let a = asked f .args in
     c .put-line .last .0
-    ≡ paste (a .lines .now) (line-width * a .c .lines) (row-of-line (a .node) (f .code-of .result) (a .c .pool) (classed f .class .given .0 .1 .0)) line-width
+    ≡ paste (a .lines .now) (line-width * a .c .lines) (row-of-line (a .node) (f .code-of .result) (a .c .pool) (classed f .class .given .0 .1 .0) 0) line-width
 placed c = c .put-line .ensures
 
 -- and its edit is an add of this line

@@ -21,12 +21,12 @@ turn c =
     sift-fits (u .before .loop .inv) (u .loop-test .taken)
 
 add-written : tie.Need-add-written Inv-loop μ-loop
-add-written c = omega (arith, turn (c .before .before .before .before .before .before .before .before .before .before))
+add-written c = omega (arith, turn (c .before .before .before .before .before .before .before .before .before .before .before))
 
 loop-again-2 : tie.Need-loop-again-2 Inv-loop μ-loop
 loop-again-2 c =
     let r = c .before .before .before .before .before .before in
-    let k = r .before .before in
+    let k = r .before .before .before in
     let u = k .before .before .before .before .before in
     sift-keeps (u .before .loop .inv) (u .loop-test .taken) (k .before .is-struck .ensures) (k .if1 .left) (r .put-line .ensures)
     (c .before .before .move-down .ensures)
@@ -50,10 +50,10 @@ pack-standing-spec =
     (λ c. omega arith) (λ c κs. omega arith) (λ c. omega arith)
     (λ c. let u = c .before .before .before .before .before in
     sift-skips (u .before .loop .inv) (u .loop-test .taken) (c .before .is-struck .ensures) (c .if1 .taken))
-    (λ c. omega arith)
-    (λ c. omega (arith, turn (c .before .before .before)))
+    (λ c. omega arith) (λ c. omega arith) (λ c. omega arith) (λ c. omega arith)
+    (λ c. omega (arith, turn (c .before .before .before .before)))
     (λ c κs. omega arith)
-    (λ c κs. omega (arith, turn (c .before .before .before .before .before .before .before)))
+    (λ c κs. omega (arith, turn (c .before .before .before .before .before .before .before .before)))
     (λ c. omega arith)
     add-written
     (λ c. omega arith)

@@ -23,7 +23,7 @@ fn matchers(text: &[u8]) -> winnow::Result<Vec<Matcher>> {
         if input.starts_with(b"};") {
             return Ok(matchers);
         }
-        matchers.push(matcher(parse_matcher(input, false)?));
+        matchers.push(matcher(text, parse_matcher(input, false)?));
     }
 }
 
@@ -39,7 +39,7 @@ pub(crate) fn symbol(text: &[u8], without_semicolon: bool) -> Option<Accepted> {
     }
     let read = parse_matcher(&mut BStr::new(text), without_semicolon);
     let read = read.expect("an accepted text is read again");
-    Some(accepted(vec![matcher(read)], list))
+    Some(accepted(vec![matcher(text, read)], list))
 }
 
 fn accepted(globals: Vec<Matcher>, list: ExportList) -> Accepted {

@@ -48,7 +48,7 @@ fn nodes(text: &[u8]) -> winnow::Result<Vec<kept::Node>> {
     skip_comments_and_whitespace(input)?;
     if input.starts_with(b"{") {
         return Ok(vec![kept::Node {
-            matchers: both(parse_version_section(input)?),
+            matchers: both(text, parse_version_section(input)?),
             ..Default::default()
         }]);
     }
@@ -56,7 +56,7 @@ fn nodes(text: &[u8]) -> winnow::Result<Vec<kept::Node>> {
     while !input.is_empty() {
         let name = parse_token(input)?.to_vec();
         skip_comments_and_whitespace(input)?;
-        let matchers = both(parse_version_section(input)?);
+        let matchers = both(text, parse_version_section(input)?);
         let parent: &[u8] = take_until(0.., b';').parse_next(input)?;
         let parent = parent.to_vec();
         ";".parse_next(input)?;
@@ -88,32 +88,54 @@ pub(crate) fn is_for_meaning<T>(answer: winnow::Result<T>) -> bool {
     )
 }
 
-fn both(body: RawVersionBody) -> [Vec<Matcher>; 2] {
-    [body.globals, body.locals].map(|section| section.into_iter().map(matcher).collect())
+fn both(text: &[u8], body: RawVersionBody) -> [Vec<Matcher>; 2] {
+    [body.globals, body.locals].map(|section| {
+        let matchers = section.into_iter();
+        matchers.map(|read| matcher(text, read)).collect()
+    })
 }
 
-pub(crate) fn matcher(read: ParsedSymbolMatcher) -> Matcher {
-    let block = |language, matchers: Vec<SymbolMatcher>| Matcher::Extern {
-        language,
-        lines: matchers.into_iter().map(line).collect(),
+/// A matcher that is read out of the text.
+pub(crate) fn matcher(text: &[u8], read: ParsedSymbolMatcher) -> Matcher {
+    let block = |language, matchers: Vec<SymbolMatcher>| {
+        let lines = matchers.into_iter();
+        Matcher::Extern {
+            language,
+            lines: lines.map(|matcher| line(text, matcher)).collect(),
+        }
     };
     match read {
-        ParsedSymbolMatcher::Single(matcher) => Matcher::Bare(line(matcher)),
+        ParsedSymbolMatcher::Single(matcher) => Matcher::Bare(line(text, matcher)),
         ParsedSymbolMatcher::Multiple(matchers) => block(0, matchers),
         ParsedSymbolMatcher::CxxMatchers(matchers) => block(1, matchers),
     }
 }
 
-fn line(matcher: SymbolMatcher) -> Line {
-    let (class, bytes) = match matcher {
-        SymbolMatcher::Exact(bytes) => (class::EXACT, bytes.to_vec()),
+fn line(text: &[u8], matcher: SymbolMatcher) -> Line {
+    let (class, bytes, part) = match matcher {
+        SymbolMatcher::Exact(part) => (class::EXACT, part.to_vec(), Some(part)),
         // Unescaped when it is kept.
-        SymbolMatcher::EscapedExact(bytes) => (class::ESCAPED, unescape_pattern(bytes)),
-        SymbolMatcher::NonstarGlob(glob) => (class::NON_STAR, bytes(&glob)),
-        SymbolMatcher::StarGlob(glob) => (class::STAR, bytes(&glob)),
-        SymbolMatcher::MatchesAll => (class::ALL, Vec::new()),
+        SymbolMatcher::EscapedExact(part) => (class::ESCAPED, unescape_pattern(part), Some(part)),
+        SymbolMatcher::NonstarGlob(glob) => (class::NON_STAR, bytes(&glob), None),
+        SymbolMatcher::StarGlob(glob) => (class::STAR, bytes(&glob), None),
+        SymbolMatcher::MatchesAll => (class::ALL, Vec::new(), None),
     };
-    Line { class, bytes }
+    let place = part.map(|part| place(text, part));
+    Line {
+        class,
+        bytes,
+        place,
+    }
+}
+
+/// Where the token starts that the Rust holds this part of: the part has lost the token's quotes, where
+/// it had some. No token follows a quote that is not its own.
+fn place(text: &[u8], part: &[u8]) -> usize {
+    let start = part.as_ptr() as usize - text.as_ptr() as usize;
+    match text[..start].last() {
+        Some(b'"') => start - 1,
+        _ => start,
+    }
 }
 
 fn bytes(glob: &Pattern) -> Vec<u8> {
