@@ -115,7 +115,7 @@ pub record Lent-points : Type 0 where
       (view (record { kind = regular; nodes = 1; names = 0; lines = 3; pool = 3; edits = 0 })
       (five (zeros 3) [] (row-of-line 0 0 0 1 9 ++ (row-of-line 0 0 1 1 4 ++ row-of-line 0 0 2 1 4)) (codes "abc") []))
       ≡ true
-  -- a row of four numbers holds no line
+  -- in a buffer of four numbers there is no row
   pub four :
       view (record { kind = regular; nodes = 1; names = 0; lines = 1; pool = 1; edits = 0 }) (five (zeros 3) [] (0 ∷ 0 ∷ 0 ∷ 1 ∷ []) (codes "a") [])
       ≡ none
