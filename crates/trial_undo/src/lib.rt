@@ -1,6 +1,7 @@
 // "undo takes back the latest edit not yet undone": `undo`, to which the counts are lent, over a core that takes them by value. Whoever holds the counts as a
 // value goes through it by `undo_latest`. A refusal changes nothing. Definitions: trial/specs/Trial.antt, from document 01, 'The book'. It is asked first
-// whether the buffers hold a book (14); what is done then stands in `taking_back`. What it makes of the lines' offsets (02, request 02): trial/specs/Offsets.antt.
+// whether the buffers hold a book (14); what is done then stands in `taking_back`. What it makes of the lines' offsets (02, request 02):
+// trial/specs/Offsets.antt.
 ghost use Rattle.book.specs.Layout.{five};
 ghost use Rattle.trial.specs.Changes.{Answers, Updates};
 ghost use Rattle.trial.specs.Trial.{undo-asked};
