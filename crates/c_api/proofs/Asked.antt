@@ -1,4 +1,4 @@
--- Each question of a lent book (src/lent_questions.rt) from what the library answered (x) and what was told of it. l is the counts that were lent, b the
+-- Each question of a lent book (src/lent_questions.rt, src/lent_why.rt) from what the library answered (x) and what was told of it. l is the counts that were lent, b the
 -- buffers, and `out` the place of the value; c is the counts that the library was given. Assumes nothing.
 use Prim.Native.Nat.{ℕ}
 use mathlib.Core.Path.{_≡_}
@@ -15,8 +15,10 @@ use Rattle.lookups.specs.declared.answers.Locality.{Locality}
 use Rattle.lookups.specs.Lookups.{locality-asked, locality-refusal, locality-value, version-asked, version-refusal, version-value}
 use Rattle.export_list.specs.declared.Membership.{Membership}
 use Rattle.export_list.specs.Membership.{contains-asked, membership-refusal, membership-value}
-use Rattle.c_lending.specs.Calls.{Replies, lent, lent-counts}
-use Rattle.c_lending.proofs.Lending.{asked-lent}
+use Rattle.reasons.specs.declared.Why.{Why}
+use Rattle.reasons.specs.Why.{why-asked, why-numbers, why-refusal}
+use Rattle.c_lending.specs.Calls.{Replies, Replies-with, lent, lent-counts}
+use Rattle.c_lending.proofs.Lending.{asked-lent, asked-lent-with}
 
 module _ (l : List ℕ) (b : Buffers) (out : List ℕ) (c : Counts) (e : c ≡ lent-counts l) where
   pub versions-told : (x : Count) → x ≡ counted version-count (view c b) → (r : ℕ) (out′ : List ℕ) → Replies count-refusal count-value x out r out′
@@ -38,3 +40,7 @@ module _ (l : List ℕ) (b : Buffers) (out : List ℕ) (c : Counts) (e : c ≡ l
   pub contains-told : (n : Name) (x : Membership) → x ≡ contains-asked (view c b) n → (r : ℕ) (out′ : List ℕ)
       → Replies membership-refusal membership-value x out r out′ → Replies membership-refusal membership-value (contains-asked (lent l b) n) out r out′
   contains-told n = asked-lent membership-refusal membership-value (λ w. contains-asked w n) l b out c e
+
+  pub why-told : (n : Name) (v : Option (List ℕ)) (x : Why) → x ≡ why-asked (view c b) n v → (r : ℕ) (out′ : List ℕ)
+      → Replies-with why-refusal why-numbers x out r out′ → Replies-with why-refusal why-numbers (why-asked (lent l b) n v) out r out′
+  why-told n v = asked-lent-with why-refusal why-numbers (λ w. why-asked w n v) l b out c e

@@ -1,2 +1,3 @@
 mod OpeningExits
 mod Asked
+mod Seven

@@ -4,7 +4,8 @@ ghost use Rattle.ranking.specs.Matching.{name-of};
 ghost use Rattle.counting.specs.Questions.{count-refusal, count-value, counted, parent-count, version-count};
 ghost use Rattle.lookups.specs.Lookups.{locality-asked, locality-refusal, locality-value, version-asked, version-refusal, version-value, wanted-of};
 ghost use Rattle.export_list.specs.Membership.{contains-asked, membership-refusal, membership-value};
-ghost use Rattle.c_lending.specs.Calls.{Replies, flag, lent};
+ghost use Rattle.reasons.specs.Why.{why-asked, why-numbers, why-refusal};
+ghost use Rattle.c_lending.specs.Calls.{Replies, Replies-with, flag, lent};
 
 #[no_mangle]
 pub extern "C" fn tuno_version_count(
@@ -138,6 +139,43 @@ pub extern "C" fn tuno_contains(
         journal,
         raw,
         demangled,
+        out,
+    )
+}
+
+// Why a name is answered as it is, in seven numbers: 0 for no line, 1 for a line, 2 for the wanted version; then the line's number, class, node, section,
+// language and offset, or zeros. `has_wanted`, where it is not 0, says that `wanted` is the version that is wanted.
+#[no_mangle]
+pub extern "C" fn tuno_why(
+    counts: &[u32],
+    nodes: &[u32],
+    names: &[u8],
+    lines: &[u32],
+    pool: &[u8],
+    journal: &[u32],
+    raw: &[u8],
+    demangled: &[u8],
+    has_wanted: u32,
+    wanted: &[u8],
+    out: &mut [u32],
+) -> u32
+    ensures { λ r. ⌜ Replies-with why-refusal why-numbers
+        (why-asked (lent (now (counts .entry))
+        (five (now (nodes .entry)) (now (names .entry)) (now (lines .entry)) (now (pool .entry)) (now (journal .entry))))
+        (name-of (now (raw .entry)) (now (demangled .entry))) (wanted-of (flag «has_wanted») (now (wanted .entry))))
+        (now (out .entry)) r (now (out .exit)) ⌝ }
+{
+    crate::lent_why::why(
+        counts,
+        nodes,
+        names,
+        lines,
+        pool,
+        journal,
+        raw,
+        demangled,
+        has_wanted,
+        wanted,
         out,
     )
 }

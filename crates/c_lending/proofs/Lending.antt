@@ -12,7 +12,7 @@ use Rattle.book.specs.declared.Counts.{Counts}
 use Rattle.book.specs.Layout.{Buffers}
 use Rattle.book.specs.Books.{Book}
 use Rattle.book.specs.View.{view, holds, laid, within-limits}
-use Rattle.c_lending.specs.Calls.{Replies, counts-put, counts-row, lent, lent-counts, unheld-counts, number-told, row-counts, six, value-left}
+use Rattle.c_lending.specs.Calls.{Replies, Replies-with, counts-put, counts-row, lent, lent-counts, unheld-counts, number-told, numbers-left, numbers-told, row-counts, six, value-left}
 
 -- six numbers, each of them written
 pub six-written : (l : List ℕ) (c : Counts) → length l ≡ 6
@@ -59,6 +59,14 @@ asked-lent refusal value ask l b out c e x a r out′ t =
     let q : x ≡ ask (lent l b) = a ∙ ap ask (lent-viewed l b c e) in
     rw q at t
 
+-- the same of one that is answered with several numbers
+pub asked-lent-with : {A : Type 0} (refusal : A → ℕ) (values : A → List ℕ) (ask : Option Book → A) (l : List ℕ) (b : Buffers) (out : List ℕ) (c : Counts)
+    → c ≡ lent-counts l → (x : A) → x ≡ ask (view c b) → (r : ℕ) (out′ : List ℕ) → Replies-with refusal values x out r out′
+    → Replies-with refusal values (ask (lent l b)) out r out′
+asked-lent-with refusal values ask l b out c e x a r out′ t =
+    let q : x ≡ ask (lent l b) = a ∙ ap ask (lent-viewed l b c e) in
+    rw q at t
+
 -- ---- a number handed back: the exits of `answer`
 module _ (n v : ℕ) (out : List ℕ) where
   pub answer-refused : (n ≡ 0 → ⊥) → (n ≡ number-told n out) × (out ≡ value-left n v out)
@@ -82,3 +90,8 @@ pub tells : {A : Type 0} (refusal value : A → ℕ) (a y : A) (out : List ℕ) 
     → (r ≡ number-told (refusal y) out) × (out′ ≡ value-left (refusal y) (value y) out) → Replies refusal value a out r out′
 unfolding Replies
 tells refusal value a y out r out′ e t = rw e t
+
+pub tells-with : {A : Type 0} (refusal : A → ℕ) (values : A → List ℕ) (a y : A) (out : List ℕ) (r : ℕ) (out′ : List ℕ) → a ≡ y
+    → (r ≡ numbers-told (refusal y) (values y) out) × (out′ ≡ numbers-left (refusal y) (values y) out) → Replies-with refusal values a out r out′
+unfolding Replies-with
+tells-with refusal values a y out r out′ e t = rw e t

@@ -5,10 +5,11 @@ use mathlib.Core.Path.{_≡_}
 use mathlib.Core.List.{List, [], _∷_}
 use mathlib.Core.Bool.{Bool, cond, not}
 use mathlib.Core.Option.{Option, none}
-use lib.Dec.{eqb}
+use lib.Dec.{eqb, ltb}
 use lib.ListN.{length, getD, set}
 use Rattle.numbers.specs.Limits.{node-limit, over, script-limit}
 use Rattle.numbers.specs.Refusals.{no-room, too-long}
+use Rattle.lists.specs.Front.{front}
 use Rattle.packing.specs.Padding.{zeroed}
 use Rattle.book.specs.declared.Counts.{Counts}
 use Rattle.book.specs.Books.{Book}
@@ -77,6 +78,17 @@ value-left n v out = cond (eqb n 0) (set out 0 v) out
 -- what a question with the answer a leaves, of which `refusal` and `value` tell: r answered, and out′
 unfoldable pub Replies : {A : Type 0} → (A → ℕ) → (A → ℕ) → A → List ℕ → ℕ → List ℕ → Type 0
 Replies refusal value a out r out′ = (r ≡ number-told (refusal a) out) × (out′ ≡ value-left (refusal a) (value a) out)
+
+-- ---- a question that is answered with several numbers, at the front of `out`, which is refused last where it is shorter than they are many
+unfoldable pub numbers-told : ℕ → List ℕ → List ℕ → ℕ
+numbers-told n vs out = cond (eqb n 0) (cond (ltb (length out) (length vs)) no-room 0) n
+
+unfoldable pub numbers-left : ℕ → List ℕ → List ℕ → List ℕ
+numbers-left n vs out = cond (eqb n 0) (cond (ltb (length out) (length vs)) out (front vs out)) out
+
+-- what such a question with the answer a leaves, of which `refusal` and `values` tell: r answered, and out′
+unfoldable pub Replies-with : {A : Type 0} → (A → ℕ) → (A → List ℕ) → A → List ℕ → ℕ → List ℕ → Type 0
+Replies-with refusal values a out r out′ = (r ≡ numbers-told (refusal a) (values a) out) × (out′ ≡ numbers-left (refusal a) (values a) out)
 
 -- ---- an edit: the counts of the book behind it, where it is done
 unfoldable pub counts-edited : List ℕ → Change → List ℕ

@@ -54,25 +54,25 @@ unfolding shown-room
 shown-suffices c n h = omega arith
 
 -- ---- the line t, for which there is no room
-pub not-answered : (c : Counts) (b : Buffers) (t d : List ℕ) → length d < shown-room c + length t → Runs-line c b t d (not-run c) d b
+pub not-answered : (s : List ℕ) (c : Counts) (b : Buffers) (t d : List ℕ) → length d < shown-room c + length t → Runs-line s c b t d (not-run c) d b
 unfolding line-ran line-printed line-leaves has-room
-not-answered c b t d h = rw (lt-leb (shown-room c + length t) (length d) h) (refl, refl, refl)
+not-answered s c b t d h = rw (lt-leb (shown-room c + length t) (length d) h) (refl, refl, refl)
 
 -- and for which there is: r is answered, l is left of d, and b′ of the buffers b
-module _ (c : Counts) (t d : List ℕ) (h : shown-room c + length t ≤ length d) (b : Buffers) (m : Command) (f : m ≡ command-of t) (l : List ℕ) (r : Ran)
+module _ (s : List ℕ) (c : Counts) (t d : List ℕ) (h : shown-room c + length t ≤ length d) (b : Buffers) (m : Command) (f : m ≡ command-of t) (l : List ℕ) (r : Ran)
     (b′ : Buffers) where
-  answered : Runs c b (λ b w. step c b w t m) d r l b′ → Runs-line c b t d r l b′
+  answered : Runs c b (λ b w. step s c b w t m) d r l b′ → Runs-line s c b t d r l b′
   unfolding line-ran line-printed line-leaves has-room line-step
   answered p = rw (le-leb (shown-room c + length t) (length d) h, ← f) p
 
-  pub edit-answered : (v : Edit) → m ≡ command.Edits v → Runs c b (λ b w. edit-step c b w t v) d r l b′ → Runs-line c b t d r l b′
+  pub edit-answered : (v : Edit) → m ≡ command.Edits v → Runs c b (λ b w. edit-step c b w t v) d r l b′ → Runs-line s c b t d r l b′
   unfolding step
   edit-answered v g p = answered (rw g p)
 
-  pub question-answered : (q : Question) → m ≡ command.Asks q → Tells c b (λ b w. question-told c b w t q) d r l → b′ ≡ b → Runs-line c b t d r l b′
+  pub question-answered : (q : Question) → m ≡ command.Asks q → Tells c b (λ b w. question-told s c b w t q) d r l → b′ ≡ b → Runs-line s c b t d r l b′
   unfolding step question-step
   question-answered q g p i = answered (rw g (p .0, p .1, i))
 
-  pub unknown-answered : m ≡ command.Unknown → (r ≡ untold c 2) × (l ≡ front (question ∷ line-feed ∷ []) d) → b′ ≡ b → Runs-line c b t d r l b′
+  pub unknown-answered : m ≡ command.Unknown → (r ≡ untold c 2) × (l ≡ front (question ∷ line-feed ∷ []) d) → b′ ≡ b → Runs-line s c b t d r l b′
   unfolding step
   unknown-answered g p i = answered (rw g (p .0, p .1, i))

@@ -19,6 +19,7 @@ use Rattle.desk_commands.specs.declared.Question.{Question}
 use Rattle.desk_commands.specs.declared.Question.the-variants as question
 use Rattle.desk_commands.specs.declared.Shown.{Shown}
 use Rattle.printing_book.specs.Shown.{shown-room}
+use Rattle.printing_why.specs.Whys.{why-answered}
 use Rattle.desk.specs.declared.answering.Ran.{Ran}
 use Rattle.desk.specs.Answers.{Tells, ran-with}
 use Rattle.desk.specs.Asked.{asked}
@@ -45,12 +46,21 @@ module _ (c : Counts) (t d : List ℕ) (h : shown-room c + length t ≤ length d
   unfolding shown-room
   ask-room u at i = rw i (omega (arith, length-drop at t))
 
-module _ (c : Counts) (b : Buffers) (t : List ℕ) (q : Question) (d l : List ℕ) (r : Ran) where
+  pub why-asks : (u : List ℕ) (at : ℕ) → u ≡ drop at t → length u + c .names + 128 ≤ length d
+  unfolding shown-room
+  why-asks u at i = rw i (omega (arith, length-drop at t))
+
+module _ (s : List ℕ) (c : Counts) (b : Buffers) (t : List ℕ) (q : Question) (d l : List ℕ) (r : Ran) where
   pub ask-told : (at : ℕ) (u : List ℕ) → q ≡ question.Ask at → u ≡ drop at t → Tells c b (λ b w. asked (c .kind) w u) d r l
-      → Tells c b (λ b w. question-told c b w t q) d r l
+      → Tells c b (λ b w. question-told s c b w t q) d r l
   unfolding question-told
   ask-told at u g i p = rw (g, ← i) p
 
-  pub show-told : (x : Shown) → q ≡ question.Show x → Tells c b (λ b w. of-book w (book-shown c b x)) d r l → Tells c b (λ b w. question-told c b w t q) d r l
+  pub why-told : (at : ℕ) (u : List ℕ) → q ≡ question.Why at → u ≡ drop at t → Tells c b (λ b w. why-answered s w u) d r l
+      → Tells c b (λ b w. question-told s c b w t q) d r l
+  unfolding question-told
+  why-told at u g i p = rw (g, ← i) p
+
+  pub show-told : (x : Shown) → q ≡ question.Show x → Tells c b (λ b w. of-book w (book-shown c b x)) d r l → Tells c b (λ b w. question-told s c b w t q) d r l
   unfolding question-told
   show-told x g p = rw g p

@@ -26,14 +26,14 @@ use Rattle.desk.specs.Questions.{question-step}
 abbrev pub unknown-printed : List ℕ
 unknown-printed = question ∷ line-feed ∷ []
 
--- a command of the line l, on the book w of the counts c and the buffers b
-unfoldable pub step : Counts → Buffers → Option Book → List ℕ → Command → Step
-step c b w l (command.Edits e) = edit-step c b w l e
-step c b w l (command.Asks q) = question-step c b w l q
-step c b w l command.Unknown = record { printed = unknown-printed; counts = c; left = b; known = false }
+-- a command of the line l, on the book w of the counts c and the buffers b, which the text s was opened as
+unfoldable pub step : List ℕ → Counts → Buffers → Option Book → List ℕ → Command → Step
+step s c b w l (command.Edits e) = edit-step c b w l e
+step s c b w l (command.Asks q) = question-step s c b w l q
+step s c b w l command.Unknown = record { printed = unknown-printed; counts = c; left = b; known = false }
 
-unfoldable pub line-step : Counts → Buffers → List ℕ → Step
-line-step c b l = step c b (view c b) l (command-of l)
+unfoldable pub line-step : List ℕ → Counts → Buffers → List ℕ → Step
+line-step s c b l = step s c b (view c b) l (command-of l)
 
 -- ---- in a lent buffer: where what is printed might not fit, nothing is done, and 8 is answered
 abbrev pub not-run : Counts → Ran
@@ -46,15 +46,15 @@ unfoldable pub has-room : Counts → List ℕ → List ℕ → Bool
 has-room c l out = room-for c (length l) (length out)
 
 -- what the desk makes of a line, in counts, buffers and `out` as they are lent
-unfoldable pub line-ran : Counts → Buffers → List ℕ → List ℕ → Ran
-line-ran c b l out = cond (has-room c l out) (ran (line-step c b l)) (not-run c)
+unfoldable pub line-ran : List ℕ → Counts → Buffers → List ℕ → List ℕ → Ran
+line-ran s c b l out = cond (has-room c l out) (ran (line-step s c b l)) (not-run c)
 
-unfoldable pub line-printed : Counts → Buffers → List ℕ → List ℕ → List ℕ
-line-printed c b l out = cond (has-room c l out) (front (line-step c b l .printed) out) out
+unfoldable pub line-printed : List ℕ → Counts → Buffers → List ℕ → List ℕ → List ℕ
+line-printed s c b l out = cond (has-room c l out) (front (line-step s c b l .printed) out) out
 
-unfoldable pub line-leaves : Counts → Buffers → List ℕ → List ℕ → Buffers
-line-leaves c b l out = cond (has-room c l out) (line-step c b l .left) b
+unfoldable pub line-leaves : List ℕ → Counts → Buffers → List ℕ → List ℕ → Buffers
+line-leaves s c b l out = cond (has-room c l out) (line-step s c b l .left) b
 
 -- the line l is answered with r, and `out` and the buffers are out′ and b′ then
-abbrev pub Runs-line : Counts → Buffers → List ℕ → List ℕ → Ran → List ℕ → Buffers → Type 0
-Runs-line c b l out r out′ b′ = (r ≡ line-ran c b l out) × (out′ ≡ line-printed c b l out) × (b′ ≡ line-leaves c b l out)
+abbrev pub Runs-line : List ℕ → Counts → Buffers → List ℕ → List ℕ → Ran → List ℕ → Buffers → Type 0
+Runs-line s c b l out r out′ b′ = (r ≡ line-ran s c b l out) × (out′ ≡ line-printed s c b l out) × (b′ ≡ line-leaves s c b l out)

@@ -14,6 +14,7 @@ use Rattle.desk_commands.specs.declared.Question.the-variants as question
 use Rattle.desk_commands.specs.declared.Shown.{Shown}
 use Rattle.desk_commands.specs.declared.Shown.the-variants as shown
 use Rattle.printing_book.specs.Shown.{counts-shown, dump-shown, lines-shown}
+use Rattle.printing_why.specs.Whys.{why-answered}
 use Rattle.desk.specs.Answers.{Step, telling}
 use Rattle.desk.specs.Asked.{asked}
 
@@ -32,11 +33,12 @@ book-shown c b shown.Dump v = dump-shown c b
 abbrev pub held-shown : Counts → Buffers → Shown → List ℕ
 held-shown c b x = book-shown c b x (book-of c b)
 
--- ---- what a question of the line l prints, on the book w of the counts c and the buffers b
-unfoldable pub question-told : Counts → Buffers → Option Book → List ℕ → Question → List ℕ
-question-told c b w l (question.Ask at) = asked (c .kind) w (drop at l)
-question-told c b w l (question.Show x) = of-book w (book-shown c b x)
+-- ---- what a question of the line l prints, on the book w of the counts c and the buffers b, which the text s was opened as
+unfoldable pub question-told : List ℕ → Counts → Buffers → Option Book → List ℕ → Question → List ℕ
+question-told s c b w l (question.Ask at) = asked (c .kind) w (drop at l)
+question-told s c b w l (question.Why at) = why-answered s w (drop at l)
+question-told s c b w l (question.Show x) = of-book w (book-shown c b x)
 
 -- it changes nothing
-unfoldable pub question-step : Counts → Buffers → Option Book → List ℕ → Question → Step
-question-step c b w l q = telling c b (question-told c b w l q)
+unfoldable pub question-step : List ℕ → Counts → Buffers → Option Book → List ℕ → Question → Step
+question-step s c b w l q = telling c b (question-told s c b w l q)

@@ -48,8 +48,8 @@ fn has_room(c: Counts, line: usize, out: usize) -> bool
     line <= out - room
 }
 
-// A line of the desk's input. `out` has to have room for whatever is shown of the book, and for the line; where it has less, nothing is done, and the answer is
-// `NO_ROOM`.
+// A line of the desk's input; the text is what was opened into the buffers. `out` has to have room for whatever is shown of the book, and for the line; where
+// it has less, nothing is done, and the answer is `NO_ROOM`.
 pub fn run_line(
     c: Counts,
     nodes: &[u32],
@@ -57,10 +57,12 @@ pub fn run_line(
     lines: &mut [u32],
     pool: &mut [u8],
     journal: &mut [u32],
+    text: &[u8],
     line: &[u8],
     out: &mut [u8],
 ) -> Ran
-    ensures { λ r. ⌜ Runs-line c (five (now (nodes .entry)) (now (names .entry)) (now (lines .entry)) (now (pool .entry)) (now (journal .entry)))
+    ensures { λ r. ⌜ Runs-line (now (text .entry)) c
+        (five (now (nodes .entry)) (now (names .entry)) (now (lines .entry)) (now (pool .entry)) (now (journal .entry)))
         (now (line .entry)) (now (out .entry)) r (now (out .exit))
         (five (now (nodes .entry)) (now (names .entry)) (now (lines .exit)) (now (pool .exit)) (now (journal .exit))) ⌝ }
 {
@@ -74,7 +76,7 @@ pub fn run_line(
     }
     match command_of(line) {
         Command::Edits(e) => run_edit(c, nodes, names, lines, pool, journal, line, e, out),
-        Command::Asks(q) => run_question(c, nodes, names, lines, pool, journal, line, q, out),
+        Command::Asks(q) => run_question(c, nodes, names, lines, pool, journal, text, line, q, out),
         Command::Unknown => run_unknown(c, out),
     }
 }

@@ -13,6 +13,7 @@ ghost use Rattle.desk.specs.Questions.{book-shown, held-shown, of-book, 
 use crate::answering::Ran;
 use crate::answering::printed;
 use crate::asking::run_ask;
+use crate::asking::run_why;
 use book::Counts;
 use book_check::is_book;
 use desk_commands::Question;
@@ -76,16 +77,28 @@ pub fn run_question(
     lines: &[u32],
     pool: &[u8],
     journal: &[u32],
+    text: &[u8],
     line: &[u8],
     q: Question,
     out: &mut [u8],
 ) -> Ran
     requires { ⌜ shown-room c + length (now line) ≤ length (now out) ⌝ }
     ensures { λ r. ⌜ Tells c (five (now (nodes .entry)) (now (names .entry)) (now (lines .entry)) (now (pool .entry)) (now (journal .entry)))
-        (λ b w. question-told c b w (now (line .entry)) q) (now (out .entry)) r (now (out .exit)) ⌝ }
+        (λ b w. question-told (now (text .entry)) c b w (now (line .entry)) q) (now (out .entry)) r (now (out .exit)) ⌝ }
 {
     match q {
         Question::Ask(at) => run_ask(c, nodes, names, lines, pool, journal, tail(line, at), out),
+        Question::Why(at) => run_why(
+            c,
+            nodes,
+            names,
+            lines,
+            pool,
+            journal,
+            text,
+            tail(line, at),
+            out,
+        ),
         Question::Show(what) => run_show(c, nodes, names, lines, pool, journal, what, out),
     }
 }

@@ -1,5 +1,5 @@
 -- Where a line ends: the exits of `line_end`, and that a line of a text ends within it. Assumes nothing.
-use Prim.Native.Nat.{ℕ, _≤_}
+use Prim.Native.Nat.{ℕ, _≤_, _<_}
 use mathlib.Core.Path.{_≡_, refl}
 use mathlib.Core.List.{List}
 use native.Mathlib.Omega.{arith}
@@ -29,3 +29,7 @@ module _ (s : List ℕ) (at : ℕ) where
           let w = first-within e in
           (w .onward, omega (arith, w .within))
       go Nowhere e = (h, omega arith)
+
+-- the same of an end that is known
+pub line-within : (s : List ℕ) (at end : ℕ) → at < length s → end ≡ line-end s at → (at ≤ end) × (end ≤ length s)
+line-within s at end h e = rw e (end-within s at (omega arith))

@@ -102,33 +102,41 @@ module _ (l : List ℕ) (t : Bool) (e : t ≡ begins (codes "ask ") l) where
   unfolding question-of codes
   is-ask h = rw (sym e ∙ h)
 
-  module _ (m : t ≡ false) (t₂ : Bool) (e₂ : t₂ ≡ same l (codes "counts")) where
+  module _ (m₀ : t ≡ false) (t₁ : Bool) (e₁ : t₁ ≡ begins (codes "why ") l) where
     no-ask : begins (codes "ask ") l ≡ false
-    no-ask = sym e ∙ m
+    no-ask = sym e ∙ m₀
 
-    pub is-counts : t₂ ≡ true → command.Asks (question.Show shown.Counts) ≡ question-of l
+    pub is-why : t₁ ≡ true → command.Asks (question.Why 4) ≡ question-of l
     unfolding question-of codes
-    is-counts h = rw (no-ask, sym e₂ ∙ h)
+    is-why h = rw (no-ask, sym e₁ ∙ h)
 
-    module _ (m₂ : t₂ ≡ false) (t₃ : Bool) (e₃ : t₃ ≡ same l (codes "lines")) where
-      no-counts : same l (codes "counts") ≡ false
-      no-counts = sym e₂ ∙ m₂
+    module _ (m : t₁ ≡ false) (t₂ : Bool) (e₂ : t₂ ≡ same l (codes "counts")) where
+      no-why : begins (codes "why ") l ≡ false
+      no-why = sym e₁ ∙ m
 
-      pub is-lines : t₃ ≡ true → command.Asks (question.Show shown.Lines) ≡ question-of l
+      pub is-counts : t₂ ≡ true → command.Asks (question.Show shown.Counts) ≡ question-of l
       unfolding question-of codes
-      is-lines h = rw (no-ask, no-counts, sym e₃ ∙ h)
+      is-counts h = rw (no-ask, no-why, sym e₂ ∙ h)
 
-      module _ (m₃ : t₃ ≡ false) (t₄ : Bool) (e₄ : t₄ ≡ same l (codes "dump")) where
-        no-lines : same l (codes "lines") ≡ false
-        no-lines = sym e₃ ∙ m₃
+      module _ (m₂ : t₂ ≡ false) (t₃ : Bool) (e₃ : t₃ ≡ same l (codes "lines")) where
+        no-counts : same l (codes "counts") ≡ false
+        no-counts = sym e₂ ∙ m₂
 
-        pub is-dump : t₄ ≡ true → command.Asks (question.Show shown.Dump) ≡ question-of l
+        pub is-lines : t₃ ≡ true → command.Asks (question.Show shown.Lines) ≡ question-of l
         unfolding question-of codes
-        is-dump h = rw (no-ask, no-counts, no-lines, sym e₄ ∙ h)
+        is-lines h = rw (no-ask, no-why, no-counts, sym e₃ ∙ h)
 
-        pub is-unknown : t₄ ≡ false → command.Unknown ≡ question-of l
-        unfolding question-of codes
-        is-unknown h = rw (no-ask, no-counts, no-lines, sym e₄ ∙ h)
+        module _ (m₃ : t₃ ≡ false) (t₄ : Bool) (e₄ : t₄ ≡ same l (codes "dump")) where
+          no-lines : same l (codes "lines") ≡ false
+          no-lines = sym e₃ ∙ m₃
+
+          pub is-dump : t₄ ≡ true → command.Asks (question.Show shown.Dump) ≡ question-of l
+          unfolding question-of codes
+          is-dump h = rw (no-ask, no-why, no-counts, no-lines, sym e₄ ∙ h)
+
+          pub is-unknown : t₄ ≡ false → command.Unknown ≡ question-of l
+          unfolding question-of codes
+          is-unknown h = rw (no-ask, no-why, no-counts, no-lines, sym e₄ ∙ h)
 
 -- ---- a line: the tests that fail, and the one that holds
 module _ (l : List ℕ) (t : Bool) (e : t ≡ begins (codes "add ") l) where

@@ -3,3 +3,4 @@ mod Points
 mod Behind
 pub mod Ends
 mod Numbers
+pub mod Cuts

@@ -33,6 +33,9 @@ bare-word = codes "symbol! "
 abbrev pub ask-word : List ℕ
 ask-word = codes "ask "
 
+abbrev pub why-word : List ℕ
+why-word = codes "why "
+
 abbrev pub on-number : Numeral → (ℕ → ℕ → Command) → Command
 on-number (Number n p) on = on n p
 on-number Nothing on = command.Unknown
@@ -52,15 +55,16 @@ add-command l =
 unfoldable pub strike-command : List ℕ → Command
 strike-command l = on-number (number-at l (length strike-word)) (λ line p. cond (eqb p (length l)) (command.Edits (edit.Strike line)) command.Unknown)
 
--- ---- a line: one of the ten commands, or none of them
+-- ---- a line: one of the eleven commands, or none of them
 -- those that change nothing
 unfoldable pub question-of : List ℕ → Command
 question-of l =
     cond (begins ask-word l) (command.Asks (question.Ask (length ask-word)))
+    (cond (begins why-word l) (command.Asks (question.Why (length why-word)))
     (cond (same l (codes "counts")) (command.Asks (question.Show shown.Counts))
     (cond (same l (codes "lines")) (command.Asks (question.Show shown.Lines))
     (cond (same l (codes "dump")) (command.Asks (question.Show shown.Dump))
-    command.Unknown)))
+    command.Unknown))))
 
 unfoldable pub command-of : List ℕ → Command
 command-of l =

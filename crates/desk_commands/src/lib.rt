@@ -33,9 +33,10 @@ pub enum Shown {
     Dump,
 }
 
-// A question; a name begins at a place of its line.
+// A question; a name begins at a place of its line. `Ask` asks for its version, locality or membership, `Why` for the line that decides.
 pub enum Question {
     Ask(usize),
+    Why(usize),
     Show(Shown),
 }
 
@@ -111,6 +112,9 @@ fn question_of(line: &[u8]) -> Command
 {
     if try_take(line, b"ask ", 0) {
         return Command::Asks(Question::Ask(4));
+    }
+    if try_take(line, b"why ", 0) {
+        return Command::Asks(Question::Why(4));
     }
     if same_bytes(line, b"counts") {
         return Command::Asks(Question::Show(Shown::Counts));

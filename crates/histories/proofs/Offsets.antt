@@ -24,7 +24,7 @@ use Rattle.ranking.specs.Matching.{Name, line-matches}
 use Rattle.ranking.specs.Offsets.{without-offsets}
 use Rattle.ranking.specs.Walk.{deciding}
 use Rattle.ranking.proofs.Offsets.{deciding-ignores-offsets, matches-ignores-offset}
-use Rattle.lookups.specs.Lookups.{decided-locality, decided-version, listed, locality-asked, locality-of, version-asked, version-of}
+use Rattle.lookups.specs.Lookups.{decided-locality, decided-version, listed, listed-as, locality-asked, locality-of, version-asked, version-of}
 use Rattle.export_list.specs.Membership.{contains-asked, member-of}
 use Rattle.trial.specs.Trial.{kept-if, standing}
 use Rattle.trial.specs.Symbols.{symbol-place}
@@ -66,7 +66,7 @@ module _ (w : Book) (n : Name) where
   version-without none = rw (same-deciding, same-version (deciding n w))
 
   listed-without : listed (without-offsets (w .lines)) (n .raw) ≡ listed (w .lines) (n .raw)
-  unfolding listed
+  unfolding listed listed-as
   listed-without = any-without _ (λ x. refl) (w .lines)
 
   locality-without : locality-of (book-without-offsets w) n ≡ locality-of w n

@@ -1,3 +1,4 @@
 pub mod Marks
 mod Positioned
 pub mod Cuts
+pub mod Halves

@@ -1,5 +1,5 @@
--- Line and column of a place in a text, for a person: both from 1 on, the column in bytes. They are for standard error; what 01 says of verlist's output has
--- none. Assumes nothing.
+-- Line and column of a place in a text, for a person: both from 1 on, the column in bytes. What is refused is told so on standard error, and `why` tells the
+-- place of a line. Assumes nothing.
 use Prim.Native.Nat.{ℕ, zero, suc, _+_}
 use mathlib.Core.List.{List, [], _∷_}
 use mathlib.Core.Bool.{cond}

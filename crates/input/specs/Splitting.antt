@@ -6,7 +6,7 @@ use mathlib.Core.Bool.{Bool, true, cond, _&&_, _||_}
 use mathlib.Core.Option.{Option, some, none}
 use lib.Dec.{eqb}
 use lib.ListN.{length, getD, take, drop}
-use Rattle.numbers.specs.Signs.{line-feed}
+use Rattle.numbers.specs.Signs.{line-feed, tab}
 use Rattle.linker_script.specs.declared.Found.{Found}
 use Rattle.linker_script.specs.declared.Found.the-variants.{Here, Nowhere}
 use Rattle.linker_script.specs.Finding.{first-from, found, is}
@@ -69,3 +69,16 @@ name-part t = part-before t (first-from (is at-sign) t 0)
 
 unfoldable pub wanted-part : List ℕ → Option (List ℕ)
 wanted-part t = wanted-by t (first-from (is at-sign) t 0)
+
+-- ---- 01: "C++ lines see the demangled name". verlist's lines tell none; those of `why` and of the release desk may, behind a TAB (docs/DECISIONS.md). The
+-- first TAB splits a line, before any `@` does
+unfoldable pub symbol-part : List ℕ → List ℕ
+symbol-part t = part-before t (first-from (is tab) t 0)
+
+-- 01: "the raw one again if there is none"; an empty one behind a TAB is one
+abbrev pub demangled-by : List ℕ → List ℕ → Found → List ℕ
+demangled-by t raw (Here p) = drop (p + 1) t
+demangled-by t raw Nowhere = raw
+
+unfoldable pub demangled-part : List ℕ → List ℕ
+demangled-part t = demangled-by t (name-part (symbol-part t)) (first-from (is tab) t 0)

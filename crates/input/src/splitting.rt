@@ -1,8 +1,9 @@
 // The parts of a text: the script before a line `%%`, and a symbol's line at its first `@`.
 ghost use mathlib.Core.Bool.{_&&_};
 ghost use mathlib.Core.Path.{_≡_};
-ghost use Rattle.input.specs.Splitting.{at-sign, mark, marks};
+ghost use Rattle.input.specs.Splitting.{at-sign, mark, marks, part-before};
 ghost use Rattle.linker_script.specs.Finding.{first-from, is};
+ghost use Prim.Native.Nat.{_+_};
 ghost use lib.ListN.{drop};
 use linker_script::Found;
 use linker_script::byte_at;
@@ -57,4 +58,26 @@ pub fn find_at(line: &[u8]) -> Found
     ensures { λ r. ⌜ r ≡ first-from (is at-sign) (now (line .entry)) 0 ⌝ }
 {
     find(line, b'@', 0)
+}
+
+// What stands before the first such byte, or all.
+pub fn part_before(t: &[u8], mark: u8) -> &[u8]
+    ensures { λ r. ⌜ now r ≡ part-before (now (t .entry)) (first-from (is mark) (now (t .entry)) 0) ⌝ }
+{
+    match find(t, mark, 0) {
+        Found::Nowhere => t,
+        Found::Here(p) => &t[..p],
+    }
+}
+
+// What stands behind the first n bytes and the one behind them; nothing past the end.
+pub fn part_behind(t: &[u8], n: usize) -> &[u8]
+    ensures { λ r. ⌜ now r ≡ drop (n + 1) (now (t .entry)) ⌝ }
+{
+    let length = t.len();
+    if length <= n {
+        return &t[length..];
+    }
+    let from = n + 1;
+    &t[from..]
 }

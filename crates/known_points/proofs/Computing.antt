@@ -37,7 +37,7 @@ use Rattle.ranking.specs.Matching.{class-matches, line-matches, seen}
 use Rattle.ranking.specs.Names.{bad-name, long-name, name-refusal}
 use Rattle.ranking.specs.Walk.{deciding, exact-of, exact-stages, first-line, glob-of, glob-stages, stages, walk}
 use Rattle.counting.specs.Questions.{counted, node-of, node-told, version-count}
-use Rattle.lookups.specs.Lookups.{index-of, last-named, listed, locality-asked, locality-of, node-version, version-asked, version-of, wanted-version}
+use Rattle.lookups.specs.Lookups.{index-of, last-named, listed, listed-as, locality-asked, locality-of, node-version, version-asked, version-of, wanted-version}
 use Rattle.export_list.specs.Membership.{contains-asked, member-of}
 use Rattle.trial.specs.Changes.{after, counts-after, edited}
 use Rattle.trial.specs.Trial.{add-asked, append, append-kept, may-stand, settle-asked, settled, standing, strike-asked, strike-line, undo-asked, without-latest}
@@ -81,7 +81,7 @@ unfoldable pub asking : ℕ
 unfolding class-matches line-matches seen bad-name long-name name-refusal
     deciding exact-of exact-stages first-line glob-of glob-stages stages walk
     counted node-of node-told version-count
-    index-of last-named listed locality-asked locality-of node-version version-asked version-of wanted-version
+    index-of last-named listed listed-as locality-asked locality-of node-version version-asked version-of wanted-version
     contains-asked member-of
 asking = 0
 

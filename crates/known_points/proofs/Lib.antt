@@ -3,3 +3,4 @@ pub mod Theorem
 pub mod RunTheorem
 mod LateToken
 pub mod OffsetTheorem
+pub mod WhyTheorem

@@ -55,13 +55,15 @@ module _ (frame : Frame) (n p : ℕ) (l m raw demangled : List ℕ) (g : packs l
   nothing-decides q = rw (decided-none found d w q)
 
   module _ (i : ℕ) (q : d ≡ answer.Line i) where
-    one-found : found ≡ some i
+    pub one-found : found ≡ some i
     one-found = decided-line found d i w q
 
-    decider-row : Row frame n l m i
-    decider-row =
-        line-row frame n p l m g i
-        (omega (arith, lines-count frame n p l m g, walk-decides (frame .nodes) (line-matches (edition-of frame) (name-of raw demangled)) xs in-order i .0 one-found .there))
+    pub decider-below : i < n
+    decider-below =
+        omega (arith, lines-count frame n p l m g, walk-decides (frame .nodes) (line-matches (edition-of frame) (name-of raw demangled)) xs in-order i .0 one-found .there)
+
+    pub decider-row : Row frame n l m i
+    decider-row = line-row frame n p l m g i decider-below
 
     pub decider-lies : Line-lies l m i
     decider-lies = decider-row .lies

@@ -3,4 +3,4 @@ mod LastNamed
 pub mod Decided
 mod AskedLocality
 mod Listing
-mod AskedVersion
+pub mod AskedVersion

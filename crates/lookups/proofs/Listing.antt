@@ -19,7 +19,7 @@ use Rattle.book.specs.Edits.{line-at}
 use Rattle.book.specs.Layout.{Line-lies, bytes-of-line, line-form, line-width, section-in}
 use Rattle.book.specs.Sanity.{line-ok}
 use Rattle.book.proofs.LineRows.{Walk, walk-count, walk-on, walk-row, walk-starts}
-use Rattle.lookups.specs.Lookups.{listed}
+use Rattle.lookups.specs.Lookups.{listed, listed-as}
 use Rattle.lookups.proofs.Decided.{row-section}
 
 -- the lines from i on decide whether the name is listed
@@ -42,7 +42,7 @@ module _ {n : ℕ} {l m t : List ℕ} where
       next : listed (drop i (things line-form n l m)) t
           ≡ (eqb (line-at (things line-form n l m) i .section) global && same (line-at (things line-form n l m) i .bytes) t)
           || listed (drop (i + 1) (things line-form n l m)) t
-      unfolding any listed
+      unfolding any listed listed-as
       next = rw (drop-cons (things line-form n l m) i no-line (omega (arith, walk-count (z .walk))), add-one)
 
       -- its section is that of its code

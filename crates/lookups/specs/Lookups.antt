@@ -81,8 +81,11 @@ abbrev pub locality-among : Frame → Name → List Line → Locality
 locality-among f n ls = decided-locality ls (deciding-among f n ls)
 
 -- "global for listed names, else local"; the global lines of a book of the Rust kind are Exact and general, and none is struck (14)
+unfoldable pub listed-as : List ℕ → Line → Bool
+listed-as t x = eqb (x .section) global && same (x .bytes) t
+
 unfoldable pub listed : List Line → List ℕ → Bool
-listed xs t = any (λ x. eqb (x .section) global && same (x .bytes) t) xs
+listed xs t = any (listed-as t) xs
 
 unfoldable pub locality-of : Book → Name → Locality
 locality-of w n = cond (eqb (w .kind) rust) (cond (listed (w .lines) (n .raw)) locality.Global locality.Local) (decided-locality (w .lines) (deciding n w))

@@ -61,7 +61,7 @@ fn decided_version(c: Counts, lines: &[u32], pool: &[u8], raw: &[u8], demangled:
 }
 
 // Whether a version is wanted that is over its limit.
-fn is_long(has_wanted: bool, wanted: &[u8]) -> bool
+pub fn is_long(has_wanted: bool, wanted: &[u8]) -> bool
     ensures { λ r. ⌜ r ≡ long-wanted (wanted-of «has_wanted» (now (wanted .entry))) ⌝ }
 {
     if !has_wanted {

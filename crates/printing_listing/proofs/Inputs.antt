@@ -60,7 +60,7 @@ module _ (s : List ℕ) (end : ℕ) (e : end ≡ length (part-before s (mark s))
   pub script-count : end ≡ length (take end s)
   script-count = sym (length-take-le end s script-within)
 
-  script-part : take end s ≡ part-before s (mark s)
+  pub script-part : take end s ≡ part-before s (mark s)
   script-part = go (mark s) refl e
     where
       go : (x : Found) → mark s ≡ x → end ≡ length (part-before s x) → take end s ≡ part-before s x
@@ -82,7 +82,7 @@ module _ (s : List ℕ) (end : ℕ) (e : end ≡ length (part-before s (mark s))
     symbols-left : take (length s - from) (drop from s) ≡ drop (end + 3) s
     symbols-left = take-all (length s - from) (drop from s) (omega (arith, length-drop from s)) ∙ symbols-at (decLt (end + 3) (length s)) .1
 
-    symbols-part : take (length s - from) (drop from s) ≡ symbols-by s (mark s)
+    pub symbols-part : take (length s - from) (drop from s) ≡ symbols-by s (mark s)
     symbols-part = symbols-left ∙ go (mark s) refl e
       where
         go : (x : Found) → mark s ≡ x → end ≡ length (part-before s x) → drop (end + 3) s ≡ symbols-by s x

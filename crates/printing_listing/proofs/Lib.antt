@@ -1,3 +1,3 @@
-mod Inputs
-mod Scripts
+pub mod Inputs
+pub mod Scripts
 pub mod Answers

@@ -107,7 +107,7 @@ module _ (w : Option Book) (symbols d : List ℕ) (room : 48 ≤ length d) where
 
 -- ---- a script's opening: a refusal other than 0, or a book that the buffers hold
 module _ (b : Buffers) (s : List ℕ) (x : Opened) (e : x ≡ told (opening as-script b s)) where
-  script-opens : x .refusal ≡ 0 → (b′ : Buffers) → b′ ≡ left b (opening as-script b s)
+  pub script-opens : x .refusal ≡ 0 → (b′ : Buffers) → b′ ≡ left b (opening as-script b s)
       → (w : Book) × ((opening as-script b s ≡ opens w) × (view (x .counts) b′ ≡ some w))
   unfolding told left
   script-opens h b′ k = go (opening as-script b s) refl e k

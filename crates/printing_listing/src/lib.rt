@@ -43,7 +43,7 @@ fn nothing_listed() -> Listed
 }
 
 // Where the script ends: before the line `%%`, or with the input.
-fn script_end(text: &[u8]) -> usize
+pub fn script_end(text: &[u8]) -> usize
     ensures { λ r. ⌜ r ≡ length (part-before (now (text .entry)) (mark (now (text .entry)))) ⌝ }
 {
     match find_mark(text) {
@@ -53,7 +53,7 @@ fn script_end(text: &[u8]) -> usize
 }
 
 // Where the symbols' lines begin: behind the three bytes of that line, or at the input's end.
-fn symbols_start(end: usize, text: usize) -> usize
+pub fn symbols_start(end: usize, text: usize) -> usize
     requires { ⌜ end ≤ text ⌝ }
     ensures { λ r. ⌜ r ≡ cond (leb text (end + 3)) text (end + 3) ⌝ }
 {

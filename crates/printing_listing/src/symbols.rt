@@ -20,8 +20,7 @@ use lookups::locality_lookup::locality_in_book;
 use lookups::version_lookup::version_in_book;
 use printing_symbols::symbols::put_symbol_line;
 
-// A symbol that a book is asked for, with the version that is wanted, if one is. The book is not checked for each symbol, as it is by
-// `printing_symbols::symbols::render_asked`: what an opening leaves is a book.
+// A symbol that a book is asked for, with the version that is wanted, if one is. The book is not checked for each symbol: what an opening leaves is a book.
 fn render_asked_in_book(
     c: Counts,
     nodes: &[u32],

@@ -3,19 +3,11 @@
 ghost use Prim.Native.Nat.{_+_, _≤_};
 ghost use mathlib.Core.List.{_++_};
 ghost use lib.ListN.{length};
-ghost use Rattle.book.specs.Layout.{five};
-ghost use Rattle.book.specs.View.{view};
-ghost use Rattle.lookups.specs.Lookups.{wanted-of};
 ghost use Rattle.printing.specs.Printing.{Begins, Puts, decimal};
-ghost use Rattle.printing_symbols.specs.Lines.{asked-line, fields, symbol-answered, symbol-line, tail-room};
-use book::Counts;
-use input::splitting::find_at;
-use linker_script::Found;
+ghost use Rattle.printing_symbols.specs.Lines.{fields, symbol-line, tail-room};
 use lookups::answers::Locality;
 use lookups::answers::Version;
 use lookups::index::VersionIndex;
-use lookups::locality_lookup::locality;
-use lookups::version_lookup::version_for_symbol;
 use printing::put_number;
 use printing::put_refused_fields;
 use printing::put_text;
@@ -60,85 +52,4 @@ pub fn put_symbol_line(out: &mut [u8], name: &[u8], v: Version, l: Locality) -> 
     let b = put_text(out, a, b" ");
     let c = put_fields(out, b, v, l);
     put_text(out, c, b"\n")
-}
-
-// A symbol that a book is asked for, with the version that is wanted, if one is.
-fn render_asked(
-    c: Counts,
-    nodes: &[u32],
-    names: &[u8],
-    lines: &[u32],
-    pool: &[u8],
-    journal: &[u32],
-    name: &[u8],
-    has_wanted: bool,
-    wanted: &[u8],
-    out: &mut [u8],
-) -> usize
-    requires { ⌜ length (now name) + tail-room ≤ length (now out) ⌝ }
-    ensures { λ r. ⌜ Begins (now (out .entry))
-        (asked-line (view c (five (now (nodes .entry)) (now (names .entry)) (now (lines .entry)) (now (pool .entry)) (now (journal .entry))))
-        (now (name .entry)) (wanted-of «has_wanted» (now (wanted .entry)))) (now (out .exit)) r ⌝ }
-{
-    let v = version_for_symbol(
-        c,
-        nodes,
-        names,
-        lines,
-        pool,
-        journal,
-        name,
-        name,
-        has_wanted,
-        wanted,
-    );
-    let l = locality(c, nodes, names, lines, pool, journal, name, name);
-    put_symbol_line(out, name, v, l)
-}
-
-// A symbol's line of the input, asked of a book. The room goes by the whole line.
-pub fn render_symbol(
-    c: Counts,
-    nodes: &[u32],
-    names: &[u8],
-    lines: &[u32],
-    pool: &[u8],
-    journal: &[u32],
-    line: &[u8],
-    out: &mut [u8],
-) -> usize
-    requires { ⌜ length (now line) + tail-room ≤ length (now out) ⌝ }
-    ensures { λ r. ⌜ Begins (now (out .entry))
-        (symbol-answered (view c (five (now (nodes .entry)) (now (names .entry)) (now (lines .entry)) (now (pool .entry)) (now (journal .entry))))
-        (now (line .entry))) (now (out .exit)) r ⌝ }
-{
-    match find_at(line) {
-        Found::Nowhere => render_asked(
-            c,
-            nodes,
-            names,
-            lines,
-            pool,
-            journal,
-            line,
-            false,
-            line,
-            out,
-        ),
-        Found::Here(p) => {
-            let from = p + 1;
-            render_asked(
-                c,
-                nodes,
-                names,
-                lines,
-                pool,
-                journal,
-                &line[..p],
-                true,
-                &line[from..],
-                out,
-            )
-        }
-    }
 }

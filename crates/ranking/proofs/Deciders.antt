@@ -24,13 +24,13 @@ use Rattle.ranking.proofs.Stages.{no-stage, at-most-or-more, length-sta
 
 -- ---- the first line that passes a test
 -- line i is the first that does
-record First (t : Line → Bool) (ls : List Line) (i : ℕ) : Type 0 where
-  there : i < length ls
-  passes : t (line-at ls i) ≡ true
-  before : (j : ℕ) → j < i → t (line-at ls j) ≡ false
+pub record First (t : Line → Bool) (ls : List Line) (i : ℕ) : Type 0 where
+  pub there : i < length ls
+  pub passes : t (line-at ls i) ≡ true
+  pub before : (j : ℕ) → j < i → t (line-at ls j) ≡ false
 
 -- what the search among lines numbered from s on gives
-data Looked (t : Line → Bool) (ls : List Line) (s : ℕ) : Option ℕ → Type 0 where
+pub data Looked (t : Line → Bool) (ls : List Line) (s : ℕ) : Option ℕ → Type 0 where
   found : (i : ℕ) → First t ls i → Looked t ls s (some (s + i))
   missing : ((j : ℕ) → j < length ls → t (line-at ls j) ≡ false) → Looked t ls s none
 
@@ -54,7 +54,7 @@ module _ (t : Line → Bool) where
       (found 0 (record { there = omega arith; passes = e; before = λ j h. absurd (omega arith) }))
   looked-at x xs s o false e l = looked-behind x xs s o e l
 
-  looked : (s : ℕ) (ls : List Line) → Looked t ls s (first-line t s ls)
+  pub looked : (s : ℕ) (ls : List Line) → Looked t ls s (first-line t s ls)
   unfolding first-line
   looked s [] = missing (λ j h. absurd (omega arith))
   looked s (x ∷ xs) = looked-at x xs s (first-line t (s + 1) xs) (t x) refl (looked (s + 1) xs)

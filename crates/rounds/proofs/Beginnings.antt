@@ -24,7 +24,7 @@ module _ (how : How) (b : Buffers) (s commands : List ℕ) (x : Opened) (e : x �
   unfolding told desk-left
   refused-left h = f ∙ go (opening how b s) e
     where
-      go : (o : Opening) → x ≡ told o → left b o ≡ behind-opening b o (lines-in [] commands)
+      go : (o : Opening) → x ≡ told o → left b o ≡ behind-opening s b o (lines-in [] commands)
       go (opens w) g = absurd (h (ap (λ (y : Opened). y .refusal) g))
       go (declined n p) g = refl
 
@@ -42,14 +42,15 @@ module _ (how : How) (b : Buffers) (s commands : List ℕ) (x : Opened) (e : x �
     lent-now : _≡_ {A = Lent} (record { counts = x .counts; buffers = b′ }) (lent-opening b (opening how b s))
     lent-now = λ i. record { counts = e i .counts; buffers = f i }
 
-    pub reached-first : opens-at how ≡ true → Desk-rooms b → Reached (record { counts = x .counts; buffers = b′ })
+    pub reached-first : opens-at how ≡ true → Desk-rooms b → Reached s (record { counts = x .counts; buffers = b′ })
     unfolding lines-lent
     reached-first k r =
-        record { how = how; lent = b; text = s; book = begins .0; lines = []; known = k; roomy = r; opened = begins .1; behind = lent-now }
+        record { how = how; lent = b; book = begins .0; lines = []; known = k; roomy = r; opened = begins .1; behind = lent-now }
 
-    pub run-left : (c : Counts) (a : Buffers) → record { counts = c; buffers = a } ≡ lines-lent (record { counts = x .counts; buffers = b′ }) (lines-in [] commands)
+    pub run-left : (c : Counts) (a : Buffers)
+        → record { counts = c; buffers = a } ≡ lines-lent s (record { counts = x .counts; buffers = b′ }) (lines-in [] commands)
         → a ≡ desk-left how b s commands
     unfolding desk-left
     run-left c a z =
-        let q = ap (λ (y : Lent). y .buffers) (z ∙ ap (λ (y : Lent). lines-lent y (lines-in [] commands)) lent-now) in
+        let q = ap (λ (y : Lent). y .buffers) (z ∙ ap (λ (y : Lent). lines-lent s y (lines-in [] commands)) lent-now) in
         q ∙ rw (begins .1)

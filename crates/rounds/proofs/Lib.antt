@@ -1,4 +1,3 @@
-pub mod Cuts
 pub mod Reaching
 pub mod Turns
 pub mod Beginnings

@@ -50,35 +50,35 @@ record Seated (b : Buffers) (w : Book) (x : Lent) : Type 0 where
   desk : Desk
   held : Held b w desk x
 
-module _ (b : Buffers) (w : Book) (k : eqb (w .kind) rust ≡ false) where
+module _ (s : List ℕ) (b : Buffers) (w : Book) (k : eqb (w .kind) rust ≡ false) where
   seated-call : (x : Lent) → Seated b w x → (q : Call) → Seated b w (lent-after x q)
-  seated-call x s q = record { desk = _; held = held-after b w k (s .desk) x (s .held) q }
+  seated-call x t q = record { desk = _; held = held-after b w k (t .desk) x (t .held) q }
 
   seated-step : (x : Lent) → Seated b w x → (l : List ℕ) (m : Command)
-      → Seated b w (lent-step (step (x .counts) (x .buffers) (view (x .counts) (x .buffers)) l m))
+      → Seated b w (lent-step (step s (x .counts) (x .buffers) (view (x .counts) (x .buffers)) l m))
   unfolding step edit-step edit-asked question-step lent-after change
-  seated-step x s l (command.Edits (edit.Add node section language at)) = seated-call x s (adds node section language (drop at l))
-  seated-step x s l (command.Edits (edit.Strike line)) = seated-call x s (strikes line)
-  seated-step x s l (command.Edits edit.Undo) = seated-call x s undoes
-  seated-step x s l (command.Edits edit.Settle) = seated-call x s settles
-  seated-step x s l (command.Edits (edit.Symbol at bare)) = seated-call x s (adds-symbol (drop at l) bare)
-  seated-step x s l (command.Asks q) = s
-  seated-step x s l command.Unknown = s
+  seated-step x t l (command.Edits (edit.Add node section language at)) = seated-call x t (adds node section language (drop at l))
+  seated-step x t l (command.Edits (edit.Strike line)) = seated-call x t (strikes line)
+  seated-step x t l (command.Edits edit.Undo) = seated-call x t undoes
+  seated-step x t l (command.Edits edit.Settle) = seated-call x t settles
+  seated-step x t l (command.Edits (edit.Symbol at bare)) = seated-call x t (adds-symbol (drop at l) bare)
+  seated-step x t l (command.Asks q) = t
+  seated-step x t l command.Unknown = t
 
-  seated-lines : (ls : List (List ℕ)) (x : Lent) → Seated b w x → Seated b w (lines-lent x ls)
+  seated-lines : (ls : List (List ℕ)) (x : Lent) → Seated b w x → Seated b w (lines-lent s x ls)
   unfolding lines-lent line-step
-  seated-lines [] x s = s
-  seated-lines (l ∷ ls) x s = seated-lines ls (line-lent x l) (seated-step x s l (command-of l))
+  seated-lines [] x t = t
+  seated-lines (l ∷ ls) x t = seated-lines ls (line-lent s x l) (seated-step x t l (command-of l))
 
 -- ---- a book of the Rust kind, which has no edit: every edit is refused, and a settle finds no line struck
-module _ (b : Buffers) (w : Book) (k : eqb (w .kind) rust ≡ true) (v : Viewable b w) (e : w .edits ≡ []) where
+module _ (s : List ℕ) (b : Buffers) (w : Book) (k : eqb (w .kind) rust ≡ true) (v : Viewable b w) (e : w .edits ≡ []) where
   all-stand : every stands (w .lines) ≡ true
   unfolding sane journal-fits all-back
   all-stand =
       let j = both (kind-good w) _ (both (nodes-good (w .nodes)) _ (v .sane) .1) .1 in
       rw e at j
 
-  stays : (l : List ℕ) (m : Command) → lent-step (step (counts-of w) (laid-out b w) (some w) l m) ≡ lent-book b w
+  stays : (l : List ℕ) (m : Command) → lent-step (step s (counts-of w) (laid-out b w) (some w) l m) ≡ lent-book b w
   unfolding step edit-step edit-asked question-step add-asked strike-asked undo-asked settle-asked settled symbol-asked after counts-after
   stays l (command.Edits (edit.Add node section language at)) = rw k
   stays l (command.Edits (edit.Strike line)) = rw k
@@ -88,14 +88,14 @@ module _ (b : Buffers) (w : Book) (k : eqb (w .kind) rust ≡ true) (v : Viewabl
   stays l (command.Asks q) = refl
   stays l command.Unknown = refl
 
-  stays-line : (l : List ℕ) → line-lent (lent-book b w) l ≡ lent-book b w
+  stays-line : (l : List ℕ) → line-lent s (lent-book b w) l ≡ lent-book b w
   unfolding line-step
   stays-line l = rw (view-of-layout b w (v .fits) (v .sane)) (stays l (command-of l))
 
-  stays-lines : (ls : List (List ℕ)) → lines-lent (lent-book b w) ls ≡ lent-book b w
+  stays-lines : (ls : List (List ℕ)) → lines-lent s (lent-book b w) ls ≡ lent-book b w
   unfolding lines-lent
   stays-lines [] = refl
-  stays-lines (l ∷ ls) = ap (λ (y : Lent). lines-lent y ls) (stays-line l) ∙ stays-lines ls
+  stays-lines (l ∷ ls) = ap (λ (y : Lent). lines-lent s y ls) (stays-line l) ∙ stays-lines ls
 
 -- ---- either way there is a book, in buffers with the rooms of b
 record Holding (b : Buffers) (x : Lent) : Type 0 where
@@ -103,28 +103,28 @@ record Holding (b : Buffers) (x : Lent) : Type 0 where
   viewed : view (x .counts) (x .buffers) ≡ some book
   rooms : Rooms (x .buffers) b
 
-holding-lines : (how : How) (b : Buffers) (s : List ℕ) (w : Book) → Viewable b w → w .edits ≡ [] → (ls : List (List ℕ)) → Holding b (lines-lent (lent-book b w) ls)
+holding-lines : (how : How) (b : Buffers) (s : List ℕ) (w : Book) → Viewable b w → w .edits ≡ [] → (ls : List (List ℕ)) → Holding b (lines-lent s (lent-book b w) ls)
 holding-lines how b s w v e ls = go (eqb (w .kind) rust) refl
   where
-    go : (y : Bool) → eqb (w .kind) rust ≡ y → Holding b (lines-lent (lent-book b w) ls)
+    go : (y : Bool) → eqb (w .kind) rust ≡ y → Holding b (lines-lent s (lent-book b w) ls)
     go true k =
-        subst (Holding b) (sym (stays-lines b w k v e ls)) (record {
+        subst (Holding b) (sym (stays-lines s b w k v e ls)) (record {
           book = w;
           viewed = view-of-layout b w (v .fits) (v .sane);
           rooms = laid-out-rooms b w (v .fits);
         })
     go false k =
-        let s = seated-lines b w k ls (lent-book b w) (record { desk = desk-at (w .lines); held = held-opened how b s w v e }) in
-        let y : Lent = lines-lent (lent-book b w) ls in
-        record { book = _; viewed = seen b w (s .desk) y (s .held); rooms = calls.rooms b w (s .desk) y (s .held) }
+        let t = seated-lines s b w k ls (lent-book b w) (record { desk = desk-at (w .lines); held = held-opened how b s w v e }) in
+        let y : Lent = lines-lent s (lent-book b w) ls in
+        record { book = _; viewed = seen b w (t .desk) y (t .held); rooms = calls.rooms b w (t .desk) y (t .held) }
 
-holding : (x : Lent) (r : Reached x) → Holding (r .lent) x
+holding : (s : List ℕ) (x : Lent) (r : Reached s x) → Holding (r .lent) x
 unfolding told left
-holding x r =
-    let v = opened-viewable (r .how) (r .lent) (r .text) (r .book) (r .known) (r .opened) in
-    let e = opened-edits (r .how) (r .lent) (r .text) (r .book) (r .opened) in
-    let z : x ≡ lines-lent (lent-book (r .lent) (r .book)) (r .lines) = r .behind ∙ rw (r .opened) in
-    subst (Holding (r .lent)) (sym z) (holding-lines (r .how) (r .lent) (r .text) (r .book) v e (r .lines))
+holding s x r =
+    let v = opened-viewable (r .how) (r .lent) s (r .book) (r .known) (r .opened) in
+    let e = opened-edits (r .how) (r .lent) s (r .book) (r .opened) in
+    let z : x ≡ lines-lent s (lent-book (r .lent) (r .book)) (r .lines) = r .behind ∙ rw (r .opened) in
+    subst (Holding (r .lent)) (sym z) (holding-lines (r .how) (r .lent) s (r .book) v e (r .lines))
 
 -- ---- the room for what is printed of a book in the desk's rooms
 shown-fits : (b : Buffers) (w : Book) → Fits b w → Desk-rooms b → shown-room (counts-of w) + input-limit ≤ printing-room
@@ -143,27 +143,26 @@ roomy-again a b e d = record {
 
 pub no-line-lacks-room : No-line-lacks-room
 unfolding has-room
-no-line-lacks-room x l out r h o =
-    let g = holding x r in
+no-line-lacks-room s x l out r h o =
+    let g = holding s x r in
     let t = layout-of-view (x .counts) (x .buffers) (g .book) (g .viewed) in
     let f = shown-fits (x .buffers) (g .book) (t .2) (roomy-again (x .buffers) (r .lent) (g .rooms) (r .roomy)) in
     rw (t .0) (le-leb (shown-room (counts-of (g .book)) + length l) (length out) (omega (arith, f, h, o)))
 
 -- ---- what is reached, and a line more
-lines-last : (ls : List (List ℕ)) (x : Lent) (l : List ℕ) → lines-lent x (ls ++ l ∷ []) ≡ line-lent (lines-lent x ls) l
+lines-last : (s : List ℕ) (ls : List (List ℕ)) (x : Lent) (l : List ℕ) → lines-lent s x (ls ++ l ∷ []) ≡ line-lent s (lines-lent s x ls) l
 unfolding lines-lent
-lines-last [] x l = refl
-lines-last (m ∷ ls) x l = lines-last ls (line-lent x m) l
+lines-last s [] x l = refl
+lines-last s (m ∷ ls) x l = lines-last s ls (line-lent s x m) l
 
-pub reached-on : (x : Lent) (l : List ℕ) → Reached x → Reached (line-lent x l)
-reached-on x l r = record {
+pub reached-on : (s : List ℕ) (x : Lent) (l : List ℕ) → Reached s x → Reached s (line-lent s x l)
+reached-on s x l r = record {
   how = r .how;
   lent = r .lent;
-  text = r .text;
   book = r .book;
   lines = r .lines ++ l ∷ [];
   known = r .known;
   roomy = r .roomy;
   opened = r .opened;
-  behind = ap (λ (y : Lent). line-lent y l) (r .behind) ∙ sym (lines-last (r .lines) (lent-opening (r .lent) (opening (r .how) (r .lent) (r .text))) l);
+  behind = ap (λ (y : Lent). line-lent s y l) (r .behind) ∙ sym (lines-last s (r .lines) (lent-opening (r .lent) (opening (r .how) (r .lent) s)) l);
 }

@@ -12,35 +12,35 @@ use Rattle.desk.specs.declared.answering.Ran.{Ran}
 use Rattle.desk.specs.Desk.{line-leaves, line-ran}
 use Rattle.rounds.specs.Rounds.{Reached, line-lent, lines-lent, printing-room}
 use Rattle.input.proofs.Cuts.{no-lines-from}
-use Rattle.rounds.proofs.Cuts.{lines-from}
+use Rattle.desk_commands.proofs.Cuts.{lines-from}
 use Rattle.rounds.proofs.Reaching.{no-line-lacks-room, reached-on}
 
 -- a line that is run in the room for printing leaves what `line-lent` says
-pub line-runs : (c : Counts) (b : Buffers) (l out : List ℕ) → Reached (record { counts = c; buffers = b }) → length l ≤ input-limit → printing-room ≤ length out
-    → (r : Ran) → r ≡ line-ran c b l out → (b′ : Buffers) → b′ ≡ line-leaves c b l out
-    → record { counts = r .counts; buffers = b′ } ≡ line-lent (record { counts = c; buffers = b }) l
+pub line-runs : (text : List ℕ) (c : Counts) (b : Buffers) (l out : List ℕ) → Reached text (record { counts = c; buffers = b }) → length l ≤ input-limit
+    → printing-room ≤ length out → (r : Ran) → r ≡ line-ran text c b l out → (b′ : Buffers) → b′ ≡ line-leaves text c b l out
+    → record { counts = r .counts; buffers = b′ } ≡ line-lent text (record { counts = c; buffers = b }) l
 unfolding line-ran line-leaves
-line-runs c b l out t h o r e b′ f = rw (e, f, no-line-lacks-room (record { counts = c; buffers = b }) l out t h o)
+line-runs text c b l out t h o r e b′ f = rw (e, f, no-line-lacks-room text (record { counts = c; buffers = b }) l out t h o)
 
--- from y on, the commands s have been run up to the place at, and left x
-pub record Turning (y : Lent) (s : List ℕ) (x : Lent) (at : ℕ) : Type 0 where
-  pub reached : Reached x
-  pub leads : lines-lent x (lines-in [] (drop at s)) ≡ lines-lent y (lines-in [] s)
+-- from y on, behind the opening of the text, the commands s have been run up to the place at, and left x
+pub record Turning (text : List ℕ) (y : Lent) (s : List ℕ) (x : Lent) (at : ℕ) : Type 0 where
+  pub reached : Reached text x
+  pub leads : lines-lent text x (lines-in [] (drop at s)) ≡ lines-lent text y (lines-in [] s)
 
-pub turns-begin : (y : Lent) (s : List ℕ) → Reached y → Turning y s y 0
-turns-begin y s r = record { reached = r; leads = refl }
+pub turns-begin : (text : List ℕ) (y : Lent) (s : List ℕ) → Reached text y → Turning text y s y 0
+turns-begin text y s r = record { reached = r; leads = refl }
 
-pub turns-on : (y : Lent) (s : List ℕ) (x : Lent) (at : ℕ) → Turning y s x at → at < length s → (end : ℕ) → end ≡ line-end s at → (z : Lent)
-    → z ≡ line-lent x (take (end - at) (drop at s)) → Turning y s z (end + 1)
+pub turns-on : (text : List ℕ) (y : Lent) (s : List ℕ) (x : Lent) (at : ℕ) → Turning text y s x at → at < length s → (end : ℕ) → end ≡ line-end s at
+    → (z : Lent) → z ≡ line-lent text x (take (end - at) (drop at s)) → Turning text y s z (end + 1)
 unfolding lines-lent
-turns-on y s x at t h end e z f =
+turns-on text y s x at t h end e z f =
     let l : List ℕ = take (end - at) (drop at s) in
     let q : lines-in [] (drop at s) ≡ take (line-end s at - at) (drop at s) ∷ lines-in [] (drop (line-end s at + 1) s) = lines-from s at h in
     record {
-      reached = rw f (reached-on x l (t .reached));
-      leads = rw (f, e) (ap (lines-lent x) (sym q) ∙ t .leads);
+      reached = rw f (reached-on text x l (t .reached));
+      leads = rw (f, e) (ap (lines-lent text x) (sym q) ∙ t .leads);
     }
 
-pub turns-end : (y : Lent) (s : List ℕ) (x : Lent) (at : ℕ) → Turning y s x at → length s ≤ at → x ≡ lines-lent y (lines-in [] s)
+pub turns-end : (text : List ℕ) (y : Lent) (s : List ℕ) (x : Lent) (at : ℕ) → Turning text y s x at → length s ≤ at → x ≡ lines-lent text y (lines-in [] s)
 unfolding lines-lent
-turns-end y s x at t h = sym (ap (lines-lent x) (no-lines-from s at h)) ∙ t .leads
+turns-end text y s x at t h = sym (ap (lines-lent text x) (no-lines-from s at h)) ∙ t .leads

@@ -19,13 +19,13 @@ use Rattle.desk.specs.Desk.{has-room, line-step}
 abbrev pub with-counts : Counts → Buffers → Lent
 with-counts c b = record { counts = c; buffers = b }
 
--- ---- what a line leaves, and lines, each on what the one before it left
-abbrev pub line-lent : Lent → List ℕ → Lent
-line-lent x l = with-counts (line-step (x .counts) (x .buffers) l .counts) (line-step (x .counts) (x .buffers) l .left)
+-- ---- what a line leaves, and lines, each on what the one before it left, behind the opening of the text s
+abbrev pub line-lent : List ℕ → Lent → List ℕ → Lent
+line-lent s x l = with-counts (line-step s (x .counts) (x .buffers) l .counts) (line-step s (x .counts) (x .buffers) l .left)
 
-unfoldable pub lines-lent : Lent → List (List ℕ) → Lent
-lines-lent x [] = x
-lines-lent x (l ∷ ls) = lines-lent (line-lent x l) ls
+unfoldable pub lines-lent : List ℕ → Lent → List (List ℕ) → Lent
+lines-lent s x [] = x
+lines-lent s x (l ∷ ls) = lines-lent s (line-lent s x l) ls
 
 -- ---- trial_desk's rooms: 1,024 nodes, 4,096 lines, 65,536 bytes each of names and pool, 1,024 edits
 pub record Desk-rooms (b : Buffers) : Type 0 where
@@ -39,27 +39,26 @@ pub record Desk-rooms (b : Buffers) : Type 0 where
 abbrev pub printing-room : ℕ
 printing-room = 1048576
 
--- x is what some lines leave behind the opening of a text in these rooms
-pub record Reached (x : Lent) : Type 0 where
+-- x is what some lines leave behind the opening of the text s in these rooms
+pub record Reached (s : List ℕ) (x : Lent) : Type 0 where
   pub how : How
   pub lent : Buffers
-  pub text : List ℕ
   pub book : Book
   pub lines : List (List ℕ)
   pub known : opens-at how ≡ true
   pub roomy : Desk-rooms lent
-  pub opened : opening how lent text ≡ opens book
-  pub behind : x ≡ lines-lent (lent-opening lent (opening how lent text)) lines
+  pub opened : opening how lent s ≡ opens book
+  pub behind : x ≡ lines-lent s (lent-opening lent (opening how lent s)) lines
 
 -- ---- the theorem: wherever the desk's lines lead, no line of its input lacks room
 abbrev pub No-line-lacks-room : Type 0
 No-line-lacks-room =
-    (x : Lent) (l out : List ℕ) → Reached x → length l ≤ input-limit → printing-room ≤ length out → has-room (x .counts) l out ≡ true
+    (s : List ℕ) (x : Lent) (l out : List ℕ) → Reached s x → length l ≤ input-limit → printing-room ≤ length out → has-room (x .counts) l out ≡ true
 
 -- ---- what the desk's input leaves in its buffers: the text's opening, and the lines of commands where it is not refused
-abbrev pub behind-opening : Buffers → Opening → List (List ℕ) → Buffers
-behind-opening b (opens w) ls = lines-lent (lent-opening b (opens w)) ls .buffers
-behind-opening b (declined n p) ls = left b (declined n p)
+abbrev pub behind-opening : List ℕ → Buffers → Opening → List (List ℕ) → Buffers
+behind-opening s b (opens w) ls = lines-lent s (lent-opening b (opens w)) ls .buffers
+behind-opening s b (declined n p) ls = left b (declined n p)
 
 unfoldable pub desk-left : How → Buffers → List ℕ → List ℕ → Buffers
-desk-left how b s commands = behind-opening b (opening how b s) (lines-in [] commands)
+desk-left how b s commands = behind-opening s b (opening how b s) (lines-in [] commands)

@@ -1,5 +1,5 @@
--- The text before the mark, and a line of commands, lie within the input. Assumes nothing.
-use Prim.Native.Nat.{ℕ, _<_, _≤_}
+-- The text before the mark lies within the input. Assumes nothing.
+use Prim.Native.Nat.{ℕ, _<_}
 use mathlib.Core.Path.{_≡_, sym, _∙_}
 use mathlib.Core.List.{List}
 use native.Mathlib.Omega.{arith}
@@ -9,8 +9,6 @@ use Rattle.linker_script.specs.declared.Found.{Found}
 use Rattle.linker_script.specs.declared.Found.the-variants.{Here}
 use Rattle.input.specs.Splitting.{mark}
 use Rattle.input.proofs.Marks.{mark-within}
-use Rattle.desk_commands.specs.Parts.{line-end}
-use Rattle.desk_commands.proofs.Ends.{end-within}
 
 module _ (s : List ℕ) (x : Found) (e : x ≡ mark s) (p : ℕ) (f : x ≡ Here p) where
   pub text-within : p < length s
@@ -18,6 +16,3 @@ module _ (s : List ℕ) (x : Found) (e : x ≡ mark s) (p : ℕ) (f : x ≡ Here
 
   pub text-count : p ≡ length (take p s)
   text-count = sym (length-take-le p s (omega (arith, text-within)))
-
-pub line-within : (s : List ℕ) (at end : ℕ) → at < length s → end ≡ line-end s at → (at ≤ end) × (end ≤ length s)
-line-within s at end h e = rw e (end-within s at (omega arith))

@@ -61,7 +61,9 @@ fn say_known() {
     say(
         b"trial_desk: known are add NODE SECTION LANGUAGE TOKEN, strike LINE, undo, settle, symbol TEXT, symbol! TEXT, ",
     );
-    say(b"ask NAME[@VERSION], counts, lines and dump\n");
+    say(
+        b"ask NAME[@VERSION][<TAB>DEMANGLED], why NAME[@VERSION][<TAB>DEMANGLED], counts, lines and dump\n",
+    );
 }
 
 // What a line prints, and what a person is told of it.
@@ -73,7 +75,7 @@ fn tell(printed: &[u8], known: bool) {
     explain(printed);
 }
 
-// A command's line, which has room for what it prints; the counts behind it.
+// A command's line, which has room for what it prints; the counts behind it. The text is what was opened.
 fn run_command(
     c: Counts,
     nodes: &[u32],
@@ -81,15 +83,17 @@ fn run_command(
     lines: &mut [u32],
     pool: &mut [u8],
     journal: &mut [u32],
+    text: &[u8],
     line: &[u8],
     out: &mut [u8; 1048576],
 ) -> Counts
-    requires { ⌜ Reached (with-counts c (five (now nodes) (now names) (now lines) (now pool) (now journal))) × (length (now line) ≤ input-limit) ⌝ }
+    requires { ⌜ Reached (now text) (with-counts c (five (now nodes) (now names) (now lines) (now pool) (now journal)))
+        × (length (now line) ≤ input-limit) ⌝ }
     ensures { λ r. ⌜ with-counts r (five (now (nodes .entry)) (now (names .entry)) (now (lines .exit)) (now (pool .exit)) (now (journal .exit)))
-        ≡ line-lent (with-counts c (five (now (nodes .entry)) (now (names .entry)) (now (lines .entry)) (now (pool .entry)) (now (journal .entry))))
-        (now (line .entry)) ⌝ }
+        ≡ line-lent (now (text .entry))
+        (with-counts c (five (now (nodes .entry)) (now (names .entry)) (now (lines .entry)) (now (pool .entry)) (now (journal .entry)))) (now (line .entry)) ⌝ }
 {
-    let ran = run_line(c, nodes, names, lines, pool, journal, line, out);
+    let ran = run_line(c, nodes, names, lines, pool, journal, text, line, out);
     tell(front(out, ran.length), ran.known);
     ran.counts
 }
@@ -102,12 +106,15 @@ fn run_commands(
     lines: &mut [u32],
     pool: &mut [u8],
     journal: &mut [u32],
+    text: &[u8],
     commands: &[u8],
     out: &mut [u8; 1048576],
 ) -> Counts
-    requires { ⌜ Reached (with-counts opened (five (now nodes) (now names) (now lines) (now pool) (now journal))) × (length (now commands) ≤ input-limit) ⌝ }
+    requires { ⌜ Reached (now text) (with-counts opened (five (now nodes) (now names) (now lines) (now pool) (now journal)))
+        × (length (now commands) ≤ input-limit) ⌝ }
     ensures { λ r. ⌜ with-counts r (five (now (nodes .entry)) (now (names .entry)) (now (lines .exit)) (now (pool .exit)) (now (journal .exit)))
-        ≡ lines-lent (with-counts opened (five (now (nodes .entry)) (now (names .entry)) (now (lines .entry)) (now (pool .entry)) (now (journal .entry))))
+        ≡ lines-lent (now (text .entry))
+        (with-counts opened (five (now (nodes .entry)) (now (names .entry)) (now (lines .entry)) (now (pool .entry)) (now (journal .entry))))
         (lines-in [] (now (commands .entry))) ⌝ }
 {
     let mut c = opened;
@@ -121,6 +128,7 @@ fn run_commands(
             lines,
             pool,
             journal,
+            text,
             &commands[at..end],
             out,
         );
@@ -168,6 +176,7 @@ fn work(
         lines,
         pool,
         journal,
+        text,
         commands,
         out,
     );

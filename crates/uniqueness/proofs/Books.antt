@@ -1,5 +1,5 @@
 -- What checks a book, opens a text into one and asks it leaves one answer and one end state: book, book_check, book_building, book_opening, version_script,
--- ranking, lookups, counting, export_list. Assumes nothing.
+-- ranking, lookups, counting, export_list, reasons. Assumes nothing.
 use Prim.Native.Nat.{ℕ}
 use mathlib.Core.Path.{refl}
 use mathlib.Core.List.{List}
@@ -33,6 +33,7 @@ use Rattle.book_opening.proofs.open as opening-open
 use Rattle.ranking.proofs.rank_of
 use Rattle.ranking.proofs.finding.find_match
 use Rattle.ranking.proofs.names.name_refusal
+use Rattle.lookups.proofs.version_lookup.is_long
 use Rattle.lookups.proofs.version_lookup.version_in_book
 use Rattle.lookups.proofs.version_lookup.version_for_symbol
 use Rattle.lookups.proofs.locality_lookup.locality_in_book
@@ -46,6 +47,10 @@ use Rattle.counting.proofs.parent_count
 use Rattle.counting.proofs.version_node
 use Rattle.export_list.proofs.open as export-list-open
 use Rattle.export_list.proofs.lookups.contains
+use Rattle.reasons.proofs.telling.rust_why
+use Rattle.reasons.proofs.telling.ranked_why
+use Rattle.reasons.proofs.asking.why_in_book
+use Rattle.reasons.proofs.asking.why
 
 -- ---- book
 pub code-of-unique : Unique code_of.ended code_of.Reads.Post
@@ -154,6 +159,9 @@ wanted-version-unique κs a x y v w p q = (same p q, refl)
 pub version-in-book-unique : Unique version_in_book.ended version_in_book.Reads.Post
 version-in-book-unique κs a x y v w p q = (same p q, refl)
 
+pub is-long-unique : Unique is_long.ended is_long.Reads.Post
+is-long-unique κs a x y v w p q = (same p q, refl)
+
 pub version-for-symbol-unique : Unique version_for_symbol.ended version_for_symbol.Reads.Post
 version-for-symbol-unique κs a x y v w p q = (same p q, refl)
 
@@ -188,3 +196,16 @@ export-list-open-unique κs a x y v w p q =
 
 pub contains-unique : Unique contains.ended contains.Reads.Post
 contains-unique κs a x y v w p q = (same p q, refl)
+
+-- ---- reasons
+pub rust-why-unique : Unique rust_why.ended rust_why.Reads.Post
+rust-why-unique κs a x y v w p q = (same p q, refl)
+
+pub ranked-why-unique : Unique ranked_why.ended ranked_why.Reads.Post
+ranked-why-unique κs a x y v w p q = (same p q, refl)
+
+pub why-in-book-unique : Unique why_in_book.ended why_in_book.Reads.Post
+why-in-book-unique κs a x y v w p q = (same p q, refl)
+
+pub why-unique : Unique why.ended why.Reads.Post
+why-unique κs a x y v w p q = (same p q, refl)

@@ -1,5 +1,5 @@
 -- What a C, C++ or Rust program calls leaves one answer and one end state: c_api. Assumes nothing.
-use Rattle.c_lending.specs.Calls.{Edits, Opens, Replies}
+use Rattle.c_lending.specs.Calls.{Edits, Opens, Replies, Replies-with}
 use Rattle.uniqueness.specs.Unique.{Unique}
 use Rattle.uniqueness.proofs.Same.{_▹_, same}
 use Rattle.c_api.proofs.edits.tuno_add
@@ -12,6 +12,7 @@ use Rattle.c_api.proofs.openings.tuno_open_export_list
 use Rattle.c_api.proofs.questions.tuno_version_count
 use Rattle.c_api.proofs.questions.tuno_parent_count
 use Rattle.c_api.proofs.questions.tuno_version_for_symbol
+use Rattle.c_api.proofs.questions.tuno_why
 use Rattle.c_api.proofs.questions.tuno_locality
 use Rattle.c_api.proofs.questions.tuno_contains
 
@@ -69,6 +70,10 @@ tuno-parent-count-unique κs a x y v w p q = (same (p .0) (q .0), λ i. tt ▹ t
 pub tuno-version-for-symbol-unique : Unique tuno_version_for_symbol.ended tuno_version_for_symbol.Reads.Post
 unfolding Replies
 tuno-version-for-symbol-unique κs a x y v w p q = (same (p .0) (q .0), λ i. tt ▹ tt ▹ tt ▹ tt ▹ tt ▹ tt ▹ tt ▹ tt ▹ tt ▹ tt ▹ same (p .1) (q .1) i ▹ tt)
+
+pub tuno-why-unique : Unique tuno_why.ended tuno_why.Reads.Post
+unfolding Replies-with
+tuno-why-unique κs a x y v w p q = (same (p .0) (q .0), λ i. tt ▹ tt ▹ tt ▹ tt ▹ tt ▹ tt ▹ tt ▹ tt ▹ tt ▹ tt ▹ same (p .1) (q .1) i ▹ tt)
 
 pub tuno-locality-unique : Unique tuno_locality.ended tuno_locality.Reads.Post
 unfolding Replies

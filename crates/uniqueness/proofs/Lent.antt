@@ -1,6 +1,6 @@
 -- What answers for a lent book leaves one answer and one end state: c_lending, c_api. Assumes nothing.
 use mathlib.Core.Path.{refl}
-use Rattle.c_lending.specs.Calls.{Edits, Opens, Replies}
+use Rattle.c_lending.specs.Calls.{Edits, Opens, Replies, Replies-with}
 use Rattle.uniqueness.specs.Unique.{Unique}
 use Rattle.uniqueness.proofs.Same.{_▹_, same}
 use Rattle.c_lending.proofs.counts_of
@@ -11,6 +11,7 @@ use Rattle.c_api.proofs.lent_openings.open_lent
 use Rattle.c_api.proofs.lent_questions.version_count
 use Rattle.c_api.proofs.lent_questions.parent_count
 use Rattle.c_api.proofs.lent_questions.version_for_symbol
+use Rattle.c_api.proofs.lent_why.why
 use Rattle.c_api.proofs.lent_questions.locality
 use Rattle.c_api.proofs.lent_questions.contains
 use Rattle.c_api.proofs.lent_additions.add
@@ -59,6 +60,11 @@ locality-unique κs a x y v w p q = (same (p .0) (q .0), λ i. tt ▹ tt ▹ tt 
 pub contains-unique : Unique contains.ended contains.Reads.Post
 unfolding Replies
 contains-unique κs a x y v w p q = (same (p .0) (q .0), λ i. tt ▹ tt ▹ tt ▹ tt ▹ tt ▹ tt ▹ tt ▹ tt ▹ same (p .1) (q .1) i ▹ tt)
+
+-- ---- c_api: lent_why
+pub why-unique : Unique why.ended why.Reads.Post
+unfolding Replies-with
+why-unique κs a x y v w p q = (same (p .0) (q .0), λ i. tt ▹ tt ▹ tt ▹ tt ▹ tt ▹ tt ▹ tt ▹ tt ▹ tt ▹ tt ▹ same (p .1) (q .1) i ▹ tt)
 
 -- ---- c_api: lent_additions
 pub add-unique : Unique add.ended add.Reads.Post

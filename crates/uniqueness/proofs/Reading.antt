@@ -47,6 +47,8 @@ use Rattle.reading_rows.proofs.reading_events
 use Rattle.input.proofs.positions.position_of
 use Rattle.input.proofs.splitting.find_mark
 use Rattle.input.proofs.splitting.find_at
+use Rattle.input.proofs.splitting.part_before
+use Rattle.input.proofs.splitting.part_behind
 use Rattle.desk_commands.proofs.parts.number_at
 use Rattle.desk_commands.proofs.parts.tail
 use Rattle.desk_commands.proofs.parts.line_end
@@ -179,6 +181,12 @@ find-mark-unique κs a x y v w p q = (same p q, refl)
 
 pub find-at-unique : Unique find_at.ended find_at.Reads.Post
 find-at-unique κs a x y v w p q = (same p q, refl)
+
+pub part-before-unique : Unique-as part_before.ended (λ κs. List ℕ) (λ κs r. now r) part_before.Reads.Post
+part-before-unique κs a x y v w p q = (same p q, refl)
+
+pub part-behind-unique : Unique-as part_behind.ended (λ κs. List ℕ) (λ κs r. now r) part_behind.Reads.Post
+part-behind-unique κs a x y v w p q = (same p q, refl)
 
 -- ---- desk_commands: parts
 pub number-at-unique : Unique number_at.ended number_at.Reads.Post

@@ -14,7 +14,7 @@ use Rattle.desk.proofs.run_line.Tie as tie
 
 -- the entry, from where room is asked for
 abbrev entry : tie.After-has-room → tie.Start
-entry c = c .before .before .before .before .before .before .before .before
+entry c = c .before .before .before .before .before .before .before .before .before
 
 abbrev lent : tie.Start → Buffers
 lent s = let a = s .args in five (a .nodes .now) (a .names .now) (a .lines .now) (a .pool .now) (a .journal .now)
@@ -44,7 +44,7 @@ returns-2 c =
     let i = at-command-of .before in
     let s = entry (i .before) in
     let a = s .args in
-    edit-answered (a .c) (a .line .now) (a .out .now) (roomy i) (lent s) _ (at-command-of .command-of .ensures) _ _
+    edit-answered (a .text .now) (a .c) (a .line .now) (a .out .now) (roomy i) (lent s) _ (at-command-of .command-of .ensures) _ _
     (five _ _ _ _ _) _ (at-e .e .given .1) (at-run-edit .run-edit .ensures)
 
 returns-3 : tie.Need-returns-3
@@ -55,7 +55,7 @@ returns-3 c =
     let i = at-command-of .before in
     let s = entry (i .before) in
     let a = s .args in
-    question-answered (a .c) (a .line .now) (a .out .now) (roomy i) (lent s) _
+    question-answered (a .text .now) (a .c) (a .line .now) (a .out .now) (roomy i) (lent s) _
     (at-command-of .command-of .ensures) _ _ (lent s) _ (at-q .q .given .1) (at-run-question .run-question .ensures) refl
 
 returns-4 : tie.Need-returns-4
@@ -66,7 +66,7 @@ returns-4 c =
     let i = at-command-of .before in
     let s = entry (i .before) in
     let a = s .args in
-    unknown-answered (a .c) (a .line .now) (a .out .now) (roomy i) (lent s) _
+    unknown-answered (a .text .now) (a .c) (a .line .now) (a .out .now) (roomy i) (lent s) _
     (at-command-of .command-of .ensures) _ _ (lent s) (at-enum-told .enum-told .given .1) (at-run-unknown .run-unknown .ensures) refl
 
 pub run-line-spec : {M : Type 1} → statement M
@@ -75,7 +75,7 @@ run-line-spec =
     (tie.spec
     (λ c κs. search needs)
     (λ c. let s = entry (c .before) in
-    not-answered (s .args .c) (lent s) (s .args .line .now) (s .args .out .now)
+    not-answered (s .args .text .now) (s .args .c) (lent s) (s .args .line .now) (s .args .out .now)
     (leb-false _ _ (sym (c .before .has-room .ensures) ∙ not-true _ (c .if1 .taken))))
     (λ c κs. search needs) (λ c. search needs)
     run-edit-requires

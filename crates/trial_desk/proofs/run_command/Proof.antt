@@ -14,12 +14,11 @@ same-length c = c .before .before .before .before .before .before .before .befor
 returns : tie.Need-returns
 returns c =
     let at-run-line = c .before .before .before .before .before .before .before .before .before .before .before in
-    let at-args = at-run-line .before .before .before .before .before .before .before .before .before .before .before in
+    let at-args = at-run-line .before .before .before .before .before .before .before .before .before .before .before .before in
     let a = at-args .args in
-    let g = at-args .good in
     let w = at-run-line .run-line in
-    let room : printing-room ≤ length (a .out .now) = omega arith in
-    line-runs (a .c) (five (a .nodes .now) (a .names .now) (a .lines .now) (a .pool .now) (a .journal .now)) (a .line .now) (a .out .now)
+    let room : printing-room ≤ length (a .out .now) = omega (arith, at-run-line .before .run-line-arg4 .given) in
+    line-runs (a .text .now) (a .c) (five (a .nodes .now) (a .names .now) (a .lines .now) (a .pool .now) (a .journal .now)) (a .line .now) (a .out .now)
     (at-args .pre .0) (at-args .pre .1) room (w .result) (w .ensures .0) _ (w .ensures .2)
 
 pub run-command-spec : {M : Type 1} → statement M

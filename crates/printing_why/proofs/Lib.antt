@@ -1,0 +1,6 @@
+mod Words
+mod Spots
+mod Told
+mod NamedNodes
+mod WhyExits
+pub mod SplitLines

@@ -1,0 +1,3 @@
+pub mod WhyLine
+pub mod Splits
+pub mod Whys

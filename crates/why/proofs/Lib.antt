@@ -1,0 +1,3 @@
+mod Turns
+mod Scripts
+mod Inputs
