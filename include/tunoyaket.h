@@ -68,7 +68,7 @@ extern "C" {
 /* Undo with no edit. */
 #define TUNO_NOTHING_TO_UNDO 12u
 /* Export query or `add_symbol` on a version book; version, locality or count query on an export
- * list; add or strike on the Rust kind. */
+ * list, or tuno_why with a wanted version; add or strike on the Rust kind. */
 #define TUNO_WRONG_KIND 13u
 /* Counts and buffers that are not laid out as a book. */
 #define TUNO_NO_BOOK 14u
@@ -115,8 +115,8 @@ extern "C" {
 #define TUNO_LINE_LENGTH 3u
 /* Where the line came from: the place of its token in the opened text, in bytes from 0, plus one; of
  * a token in quotes that of the opening quote. 0 for a line that tuno_add or tuno_add_symbol added.
- * A line keeps it through strike, undo and settle, though a settle may renumber the line. No
- * question looks at it. A lent book with one over TUNO_SCRIPT_LIMIT is refused with 14. */
+ * A line keeps it through strike, undo and settle, though a settle may renumber the line. No answer
+ * goes by it; tuno_why tells it. A lent book with one over TUNO_SCRIPT_LIMIT is refused with 14. */
 #define TUNO_LINE_OFFSET 4u
 
 /* A line's code is class * 4 + section * 2 + language, and 32 more where the line is struck. */
@@ -155,6 +155,25 @@ extern "C" {
 #define TUNO_LOCALITY_NOTHING 0u
 #define TUNO_LOCALITY_GLOBAL 1u
 #define TUNO_LOCALITY_LOCAL 2u
+
+/* ---- Answers of tuno_why into `out`. */
+
+/* How many numbers they are, and where each stands. Those behind the first are the number of the
+ * line that is named and what its row says; all six are 0 where none is named. An added line's
+ * offset is 0, too. */
+#define TUNO_WHY 7u
+#define TUNO_WHY_WHAT 0u
+#define TUNO_WHY_NUMBER 1u
+#define TUNO_WHY_CLASS 2u
+#define TUNO_WHY_NODE 3u
+#define TUNO_WHY_SECTION 4u
+#define TUNO_WHY_LANGUAGE 5u
+#define TUNO_WHY_OFFSET 6u
+
+/* The first: no line matches, a line is named, or the wanted version decides. */
+#define TUNO_WHY_NO_LINE 0u
+#define TUNO_WHY_LINE 1u
+#define TUNO_WHY_WANTED 2u
 
 /* ---- Limits, last accepted. One more is refused with 1, or with 8 for nodes, lines, pool and
  * edits. */
@@ -219,8 +238,9 @@ uint64_t tuno_open_export_list(
     uint8_t *pool, size_t pool_length,
     uint32_t *journal, size_t journal_length);
 
-/* ---- Questions. Where nothing is refused the answer is written to out[0], and nothing else is; an
- * `out` of length 0 is refused with 8, last. */
+/* ---- Questions. Where nothing is refused the answer is written to out[0], that of tuno_why to the
+ * first seven numbers of `out`, and nothing else is; an `out` without room for it is refused with
+ * 8, last. */
 
 /* How many versions a script defines: 0 where it has no named node, as the Rust kind has none, else
  * the number of its nodes, node 0 included. Refusals: 14, 13 (export list), 8. */
@@ -287,6 +307,27 @@ uint32_t tuno_contains(
     const uint32_t *journal, size_t journal_length,
     const uint8_t *raw, size_t raw_length,
     const uint8_t *demangled, size_t demangled_length,
+    uint32_t *out, size_t out_length);
+
+/* Why a symbol has its version, is global or local, or is in an export list: the line that decides.
+ * Of the lines that match it is the first in the ranking (docs/GUIDE.md, 'Classes and ranking'), at
+ * equal rank the one with the lowest number. Where `has_wanted` is 0, `wanted` is not looked at.
+ * Where it is not 0, `wanted` is the version that the symbol asks for. It decides, also where it is
+ * empty, and no line is named; the locality still goes by the line that is named without it. Of the
+ * Rust kind a line is named with a wanted version too, and 10 is not given: the first global one
+ * with the bytes of the raw name, else the first local one of class All that is not C++. Refusals:
+ * 14, 13 (a wanted version of an export list), 1 (a name or `wanted`), 9, 10, 8. */
+uint32_t tuno_why(
+    const uint32_t *counts, size_t counts_length,
+    const uint32_t *nodes, size_t nodes_length,
+    const uint8_t *names, size_t names_length,
+    const uint32_t *lines, size_t lines_length,
+    const uint8_t *pool, size_t pool_length,
+    const uint32_t *journal, size_t journal_length,
+    const uint8_t *raw, size_t raw_length,
+    const uint8_t *demangled, size_t demangled_length,
+    uint32_t has_wanted,
+    const uint8_t *wanted, size_t wanted_length,
     uint32_t *out, size_t out_length);
 
 /* ---- Edits. Where nothing is refused the counts and the buffers without `const` are those of the

@@ -22,13 +22,15 @@ static int check(int holds, const char *what, int line) {
 
 #define CHECK(holds) check((holds) != 0, #holds, __LINE__)
 
-enum { SCRIPT, LIST, VERSIONS, PARENTS, VERSION, LOCALITY, CONTAINS, ADD, STRIKE, UNDO, SETTLE, SYMBOL, FUNCTIONS };
+enum {
+    SCRIPT, LIST, VERSIONS, PARENTS, VERSION, LOCALITY, CONTAINS, WHY, ADD, STRIKE, UNDO, SETTLE, SYMBOL, FUNCTIONS
+};
 
 /* What each function can be refused with, in the header's words, and what it was: bit n for number n, 0 for done. */
 static const char *const refusals[FUNCTIONS] = {
-    "1 2 3 4 5 6 7 8", "1 2 3 4 5 6 8",                                            /* openings */
-    "14 13 8", "14 13 8", "14 13 1 9 10 8", "14 13 1 9 8", "14 13 1 9 8",          /* questions */
-    "14 13 11 1 5 6 8", "14 13 11 8", "14 12", "14", "14 13 1 2 3 4 5 6 8"};       /* edits */
+    "1 2 3 4 5 6 7 8", "1 2 3 4 5 6 8",                                                     /* openings */
+    "14 13 8", "14 13 8", "14 13 1 9 10 8", "14 13 1 9 8", "14 13 1 9 8", "14 13 1 9 10 8", /* questions */
+    "14 13 11 1 5 6 8", "14 13 11 8", "14 12", "14", "14 13 1 2 3 4 5 6 8"};                /* edits */
 static unsigned met[FUNCTIONS];
 
 static unsigned declared(int function) {
@@ -117,7 +119,7 @@ static uint32_t count(unsigned which) { return b.counts[1 + which]; }
 
 static const uint8_t *bytes(const char *string) { return (const uint8_t *)string; }
 
-/* ---- the twelve calls, on `b` */
+/* ---- the thirteen calls, on `b` */
 
 #define BOOK                                                                                                   \
     b.counts + 1, b.rooms.counts, b.nodes + 1, b.rooms.nodes, b.names + 1, b.rooms.names, b.lines + 1,         \
@@ -166,6 +168,8 @@ struct name {
     size_t demangled_length;
 };
 
+#define NAME(n) (n).raw, (n).raw_length, (n).demangled, (n).demangled_length
+
 static struct name both(const char *raw, const char *demangled) {
     struct name name;
     name.raw = bytes(raw);
@@ -180,8 +184,7 @@ static struct name plain(const char *raw) { return both(raw, raw); }
 
 static uint32_t version_bytes(struct name n, uint32_t has_wanted, const uint8_t *wanted, size_t wanted_length, size_t room) {
     uint32_t out[2] = {NUMBER_NOISE, NUMBER_NOISE};
-    uint32_t number = tuno_version_for_symbol(
-        BOOK, n.raw, n.raw_length, n.demangled, n.demangled_length, has_wanted, wanted, wanted_length, out, room);
+    uint32_t number = tuno_version_for_symbol(BOOK, NAME(n), has_wanted, wanted, wanted_length, out, room);
     return answered(VERSION, number, out);
 }
 
@@ -193,7 +196,7 @@ static uint32_t version_wanted(const char *raw, const char *wanted) {
 
 static uint32_t locality_of(struct name n, size_t room) {
     uint32_t out[2] = {NUMBER_NOISE, NUMBER_NOISE};
-    uint32_t number = tuno_locality(BOOK, n.raw, n.raw_length, n.demangled, n.demangled_length, out, room);
+    uint32_t number = tuno_locality(BOOK, NAME(n), out, room);
     return answered(LOCALITY, number, out);
 }
 
@@ -201,11 +204,34 @@ static uint32_t locality(const char *raw) { return locality_of(plain(raw), 1); }
 
 static uint32_t contains_of(struct name n, size_t room) {
     uint32_t out[2] = {NUMBER_NOISE, NUMBER_NOISE};
-    uint32_t number = tuno_contains(BOOK, n.raw, n.raw_length, n.demangled, n.demangled_length, out, room);
+    uint32_t number = tuno_contains(BOOK, NAME(n), out, room);
     return answered(CONTAINS, number, out);
 }
 
 static uint32_t contains(const char *raw) { return contains_of(plain(raw), 1); }
+
+/* What was told by the latest `why`. Seven numbers are written alone, and of a refused one none is. */
+static uint32_t told[TUNO_WHY];
+
+static uint32_t why_bytes(
+    struct name n, uint32_t has_wanted, const uint8_t *wanted, size_t wanted_length, size_t room) {
+    uint32_t out[TUNO_WHY + 2], noise[TUNO_WHY + 2], number;
+    memset(out, BYTE_NOISE, sizeof out);
+    memset(noise, BYTE_NOISE, sizeof noise);
+    number = tuno_why(BOOK, NAME(n), has_wanted, wanted, wanted_length, out, room);
+    noted(WHY, number);
+    CHECK(memcmp(out + TUNO_WHY, noise, 2 * sizeof out[0]) == 0);
+    CHECK(number == 0 || memcmp(out, noise, sizeof out) == 0);
+    memcpy(told, out, sizeof told);
+    return number;
+}
+
+static uint32_t why_of(struct name n) { return why_bytes(n, 0, bytes(""), 0, TUNO_WHY); }
+static uint32_t why(const char *raw) { return why_of(plain(raw)); }
+
+static uint32_t why_wanted(const char *raw, const char *wanted) {
+    return why_bytes(plain(raw), 1, bytes(wanted), strlen(wanted), TUNO_WHY);
+}
 
 static uint32_t add_bytes(uint32_t node, uint32_t section, uint32_t language, const uint8_t *token, size_t length) {
     return noted(ADD, tuno_add(BOOK, node, section, language, token, length));
@@ -254,6 +280,27 @@ static int offsets_are(const char *expected) {
         if (strtoul(expected, &end, 10) != *offset(line) || end == expected) return 0;
     }
     return *expected == 0;
+}
+
+/* Whether a line was told of, by these numbers. */
+static int told_is(
+    uint32_t line, uint32_t class_number, uint32_t node, uint32_t section, uint32_t language, uint32_t place) {
+    return told[TUNO_WHY_WHAT] == TUNO_WHY_LINE && told[TUNO_WHY_NUMBER] == line &&
+        told[TUNO_WHY_CLASS] == class_number && told[TUNO_WHY_NODE] == node && told[TUNO_WHY_SECTION] == section &&
+        told[TUNO_WHY_LANGUAGE] == language && told[TUNO_WHY_OFFSET] == place;
+}
+
+/* Whether this line was told of, by what its row says. */
+static int told_line(uint32_t line) {
+    const uint32_t *row = b.lines + 1 + TUNO_LINE_WIDTH * line;
+    uint32_t code = row[TUNO_LINE_CODE];
+    return told_is(line, TUNO_CODE_CLASS(code), row[TUNO_LINE_NODE], TUNO_CODE_SECTION(code), TUNO_CODE_LANGUAGE(code),
+        row[TUNO_LINE_OFFSET]);
+}
+
+/* Whether this was told, and of no line. */
+static int told_only(uint32_t what) {
+    return told[TUNO_WHY_WHAT] == what && zero(told + TUNO_WHY_NUMBER, sizeof told - sizeof told[0]);
 }
 
 static int edit_is(uint32_t edit, uint32_t what, uint32_t line) {
@@ -613,8 +660,10 @@ static int no_book(void) {
     int refused;
     keep();
     refused = versions(1) == TUNO_NO_BOOK && parents(0) == TUNO_NO_BOOK && version("f") == TUNO_NO_BOOK && locality("\xff") == TUNO_NO_BOOK &&
-        contains("f") == TUNO_NO_BOOK && add(9, 9, 9, "[") == TUNO_NO_BOOK && strike(0) == TUNO_NO_BOOK && undo() == TUNO_NO_BOOK &&
-        settle() == TUNO_NO_BOOK && symbol("[;", 0) == TUNO_NO_BOOK;
+        contains("f") == TUNO_NO_BOOK && why("f") == TUNO_NO_BOOK &&
+        why_bytes(plain("\xff"), 1, bytes("V"), 1, 0) == TUNO_NO_BOOK && add(9, 9, 9, "[") == TUNO_NO_BOOK &&
+        strike(0) == TUNO_NO_BOOK && undo() == TUNO_NO_BOOK && settle() == TUNO_NO_BOOK &&
+        symbol("[;", 0) == TUNO_NO_BOOK;
     return refused && as_before();
 }
 
@@ -1056,7 +1105,7 @@ static void test_lent_offsets(void) {
     *offset(2) = TUNO_SCRIPT_LIMIT + 1;
     CHECK(no_book());
 
-    /* no question looks at it */
+    /* no question looks at it; it is only told */
     CHECK(opened_fresh(SCRIPT, haze) == 0);
     *offset(0) = 56;
     *offset(1) = 0;
@@ -1068,7 +1117,336 @@ static void test_lent_offsets(void) {
     CHECK(version("haze_day") == 0 && value == 2);
     CHECK(locality("haze_day") == 0 && value == TUNO_LOCALITY_GLOBAL);
     CHECK(locality("main") == 0 && value == TUNO_LOCALITY_LOCAL);
+    CHECK(why("haze_day") == 0 && told_is(0, TUNO_CLASS_STAR, 1, TUNO_SECTION_GLOBAL, TUNO_LANGUAGE_GENERAL, 56));
+    CHECK(why("main") == 0 && told_is(1, TUNO_CLASS_ALL, 1, TUNO_SECTION_LOCAL, TUNO_LANGUAGE_GENERAL, 0));
     CHECK(as_before());
+}
+
+/* ---- why: the line that decides */
+
+static void test_ranked_why(void) {
+    CHECK(opened_fresh(SCRIPT, haze) == 0);
+    keep();
+    CHECK(why("haze_month") == 0 && told_is(2, TUNO_CLASS_EXACT, 2, TUNO_SECTION_GLOBAL, TUNO_LANGUAGE_GENERAL, 56));
+    CHECK(why("haze_day") == 0 && told_is(0, TUNO_CLASS_STAR, 1, TUNO_SECTION_GLOBAL, TUNO_LANGUAGE_GENERAL, 18));
+    CHECK(why("main") == 0 && told_is(1, TUNO_CLASS_ALL, 1, TUNO_SECTION_LOCAL, TUNO_LANGUAGE_GENERAL, 33));
+    CHECK(as_before());
+
+    /* at equal rank the lowest number; exact and escaped lines are of one rank */
+    CHECK(opened_fresh(SCRIPT, "A { f; f; };") == 0);
+    CHECK(why("f") == 0 && told_is(0, TUNO_CLASS_EXACT, 1, 0, 0, 5));
+    CHECK(opened_fresh(SCRIPT, "V { foo*; foo_b*; };") == 0);
+    CHECK(why("foo_bar") == 0 && told_is(0, TUNO_CLASS_STAR, 1, 0, 0, 5));
+    CHECK(opened_fresh(SCRIPT, "A { \\f; f; };") == 0);
+    CHECK(why("f") == 0 && told_is(0, TUNO_CLASS_ESCAPED, 1, 0, 0, 5));
+    CHECK(opened_fresh(SCRIPT, "A { local: f; global: f; f; };") == 0);
+    CHECK(why("f") == 0 && told_is(1, TUNO_CLASS_EXACT, 1, 0, 0, 23));
+
+    /* nodes upward of names, downward of patterns; patterns without a star first, a lone star last */
+    CHECK(opened_fresh(SCRIPT, "A { local: *; }; B { f; };") == 0);
+    CHECK(why("f") == 0 && told_is(1, TUNO_CLASS_EXACT, 2, TUNO_SECTION_GLOBAL, 0, 22));
+    CHECK(why("g") == 0 && told_is(0, TUNO_CLASS_ALL, 1, TUNO_SECTION_LOCAL, 0, 12));
+    CHECK(opened_fresh(SCRIPT, "A { local: f; }; B { f; };") == 0);
+    CHECK(why("f") == 0 && told_is(0, TUNO_CLASS_EXACT, 1, TUNO_SECTION_LOCAL, 0, 12));
+    CHECK(opened_fresh(SCRIPT, "A { f*; }; B { local: f?; }; C { f*; };") == 0);
+    CHECK(why("fx") == 0 && told_is(1, TUNO_CLASS_NON_STAR, 2, TUNO_SECTION_LOCAL, 0, 23));
+    CHECK(why("fxy") == 0 && told_is(2, TUNO_CLASS_STAR, 3, TUNO_SECTION_GLOBAL, 0, 34));
+    CHECK(opened_fresh(SCRIPT, "A { *; }; B { local: *; }; C { extern \"C++\" { *; }; };") == 0);
+    CHECK(why("f") == 0 && told_is(2, TUNO_CLASS_ALL, 3, TUNO_SECTION_GLOBAL, TUNO_LANGUAGE_CXX, 47));
+
+    /* C++ lines see the demangled name; among names they come behind the others of their node, among patterns not */
+    CHECK(opened_fresh(SCRIPT, "V { extern \"C++\" { f; }; local: f; };") == 0);
+    CHECK(why("f") == 0 && told_is(1, TUNO_CLASS_EXACT, 1, TUNO_SECTION_LOCAL, TUNO_LANGUAGE_GENERAL, 33));
+    CHECK(why_of(both("_Zf", "f")) == 0 && told_is(0, TUNO_CLASS_EXACT, 1, TUNO_SECTION_GLOBAL, TUNO_LANGUAGE_CXX, 20));
+    CHECK(why_of(both("f", "g")) == 0 && told_line(1));
+    CHECK(why_of(both("_Zf", "g")) == 0 && told_only(TUNO_WHY_NO_LINE));
+    CHECK(opened_fresh(SCRIPT, "V { extern \"C++\" { f*; }; f*; };") == 0);
+    CHECK(why("fx") == 0 && told_line(0));
+    CHECK(why_of(both("fx", "g")) == 0 && told_line(1));
+    CHECK(why_of(both("_Z", "f()")) == 0 && told_is(0, TUNO_CLASS_STAR, 1, TUNO_SECTION_GLOBAL, TUNO_LANGUAGE_CXX, 20));
+
+    /* node 0 of one body; no line */
+    CHECK(opened_fresh(SCRIPT, "{ \"a b\"; f*; };") == 0);
+    CHECK(why("a b") == 0 && told_is(0, TUNO_CLASS_EXACT, 0, 0, 0, 3));
+    CHECK(why("f") == 0 && told_is(1, TUNO_CLASS_STAR, 0, 0, 0, 10));
+    CHECK(why("g") == 0 && told_only(TUNO_WHY_NO_LINE));
+    CHECK(why("") == 0 && told_only(TUNO_WHY_NO_LINE));
+    CHECK(opened_fresh(SCRIPT, "") == 0);
+    CHECK(why("f") == 0 && told_only(TUNO_WHY_NO_LINE));
+}
+
+static void test_wanted_why(void) {
+    CHECK(opened_fresh(SCRIPT, "A {}; B { f; }; A {}; C {} A;") == 0);
+    keep();
+    CHECK(why_wanted("f", "A") == 0 && told_only(TUNO_WHY_WANTED));
+    CHECK(why_wanted("f", "B") == 0 && told_only(TUNO_WHY_WANTED));
+    CHECK(why_wanted("f", "") == 0 && told_only(TUNO_WHY_WANTED));
+    CHECK(why_wanted("g", "C") == 0 && told_only(TUNO_WHY_WANTED));
+    CHECK(why_wanted("f", "D") == TUNO_UNKNOWN_VERSION);
+    CHECK(why("f") == 0 && told_line(0));
+    /* a flag that is not 0 means yes, and 0 leaves `wanted` unread */
+    CHECK(why_bytes(plain("f"), 2, bytes("B"), 1, TUNO_WHY) == 0 && told_only(TUNO_WHY_WANTED));
+    CHECK(why_bytes(plain("f"), 0xffffffffu, bytes("D"), 1, TUNO_WHY) == TUNO_UNKNOWN_VERSION);
+    CHECK(why_bytes(plain("f"), 0, bytes("D"), 1, TUNO_WHY) == 0 && told_line(0));
+    memset(text, 'D', sizeof text);
+    CHECK(why_bytes(plain("f"), 0, text, sizeof text, TUNO_WHY) == 0 && told_line(0));
+    CHECK(as_before());
+
+    /* one body has no version to ask for but the empty one */
+    CHECK(opened_fresh(SCRIPT, "{ f*; };") == 0);
+    CHECK(why_wanted("f", "") == 0 && told_only(TUNO_WHY_WANTED));
+    CHECK(why_wanted("f", "A") == TUNO_UNKNOWN_VERSION);
+}
+
+/* The first global line that is the raw name, else the first general `*` of the locals. */
+static void test_rust_why(void) {
+    static const char *const wanted[] = {"", "V"};
+    size_t i;
+    CHECK(opened_fresh(SCRIPT, "{ f; local: extern \"C++\" { *; }; *; };") == 0);
+    CHECK(count(TUNO_COUNT_KIND) == TUNO_KIND_RUST);
+    keep();
+    CHECK(why("f") == 0 && told_is(0, TUNO_CLASS_EXACT, 0, TUNO_SECTION_GLOBAL, TUNO_LANGUAGE_GENERAL, 3));
+    CHECK(why("g") == 0 && told_is(2, TUNO_CLASS_ALL, 0, TUNO_SECTION_LOCAL, TUNO_LANGUAGE_GENERAL, 34));
+    /* a wanted version decides nothing */
+    for (i = 0; i < 2; i++) {
+        CHECK(why_wanted("f", wanted[i]) == 0 && told_line(0));
+        CHECK(why_wanted("g", wanted[i]) == 0 && told_line(2));
+    }
+    CHECK(why_of(both("f", "g")) == 0 && told_line(0));
+    CHECK(why_of(both("g", "f")) == 0 && told_line(2));
+    CHECK(as_before());
+
+    CHECK(opened_fresh(SCRIPT, "{ g; \"f\"; f; local: f; f*; *; *; };") == 0);
+    CHECK(count(TUNO_COUNT_KIND) == TUNO_KIND_RUST);
+    CHECK(why("f") == 0 && told_is(1, TUNO_CLASS_EXACT, 0, TUNO_SECTION_GLOBAL, TUNO_LANGUAGE_GENERAL, 6));
+    CHECK(why("fx") == 0 && told_is(5, TUNO_CLASS_ALL, 0, TUNO_SECTION_LOCAL, TUNO_LANGUAGE_GENERAL, 28));
+
+    /* a local name is not listed, and `*` of an extern "C" block is as general as one outside */
+    CHECK(opened_fresh(SCRIPT, "{ local: f; extern \"C\" { *; }; *; };") == 0);
+    CHECK(count(TUNO_COUNT_KIND) == TUNO_KIND_RUST);
+    CHECK(why("f") == 0 && told_is(1, TUNO_CLASS_ALL, 0, TUNO_SECTION_LOCAL, TUNO_LANGUAGE_GENERAL, 26));
+
+    /* the same body with a name is Regular */
+    CHECK(opened_fresh(SCRIPT, "V { f; local: extern \"C++\" { *; }; *; };") == 0);
+    CHECK(why("g") == 0 && told_is(1, TUNO_CLASS_ALL, 1, TUNO_SECTION_LOCAL, TUNO_LANGUAGE_CXX, 30));
+    CHECK(why_wanted("g", "V") == 0 && told_only(TUNO_WHY_WANTED));
+    CHECK(why_wanted("g", "W") == TUNO_UNKNOWN_VERSION);
+}
+
+static void test_list_why(void) {
+    CHECK(opened_fresh(LIST, "{ *_b; foo*; extern \"C++\" { \"f()\"; }; foo; foo_?; };") == 0);
+    keep();
+    CHECK(why("foo") == 0 && told_is(3, TUNO_CLASS_EXACT, 0, TUNO_SECTION_GLOBAL, TUNO_LANGUAGE_GENERAL, 39));
+    CHECK(why("foo_b") == 0 && told_is(4, TUNO_CLASS_NON_STAR, 0, TUNO_SECTION_GLOBAL, TUNO_LANGUAGE_GENERAL, 44));
+    CHECK(why("foo_bar_b") == 0 && told_is(0, TUNO_CLASS_STAR, 0, TUNO_SECTION_GLOBAL, TUNO_LANGUAGE_GENERAL, 3));
+    CHECK(why("foo_bar") == 0 && told_line(1));
+    CHECK(why_of(both("_Zf", "f()")) == 0 && told_is(2, TUNO_CLASS_EXACT, 0, 0, TUNO_LANGUAGE_CXX, 29));
+    CHECK(why_of(both("f()", "f")) == 0 && told_only(TUNO_WHY_NO_LINE));
+    CHECK(why_wanted("foo", "") == TUNO_WRONG_KIND);
+    CHECK(why_wanted("foo", "V") == TUNO_WRONG_KIND);
+    CHECK(as_before());
+    CHECK(symbol("extern \"C++\" { g; };", 0) == 0);
+    CHECK(why("g") == 0 && told_is(5, TUNO_CLASS_EXACT, 0, TUNO_SECTION_GLOBAL, TUNO_LANGUAGE_CXX, 0));
+    CHECK(undo() == 0 && why("g") == 0 && told_only(TUNO_WHY_NO_LINE));
+}
+
+/* Struck lines match nothing, added ones have no offset, and a settle renumbers. */
+static void test_edited_why(void) {
+    CHECK(opened_fresh(SCRIPT, "A { f; f; };") == 0);
+    CHECK(why("f") == 0 && told_line(0));
+    CHECK(strike(0) == 0 && why("f") == 0 && told_is(1, TUNO_CLASS_EXACT, 1, 0, 0, 8));
+    CHECK(strike(1) == 0 && why("f") == 0 && told_only(TUNO_WHY_NO_LINE));
+    CHECK(undo() == 0 && why("f") == 0 && told_line(1));
+    CHECK(undo() == 0 && why("f") == 0 && told_line(0));
+
+    CHECK(opened_fresh(SCRIPT, haze) == 0);
+    CHECK(add(2, TUNO_SECTION_LOCAL, TUNO_LANGUAGE_CXX, "\"haze::day()\"") == 0);
+    CHECK(why_of(both("haze_d", "haze::day()")) == 0);
+    CHECK(told_is(3, TUNO_CLASS_EXACT, 2, TUNO_SECTION_LOCAL, TUNO_LANGUAGE_CXX, 0));
+    CHECK(add(0, 0, 0, "haze_month") == 0);
+    CHECK(why("haze_month") == 0 && told_is(4, TUNO_CLASS_EXACT, 0, TUNO_SECTION_GLOBAL, TUNO_LANGUAGE_GENERAL, 0));
+    CHECK(strike(4) == 0 && strike(0) == 0);
+    CHECK(why("haze_month") == 0 && told_is(2, TUNO_CLASS_EXACT, 2, TUNO_SECTION_GLOBAL, TUNO_LANGUAGE_GENERAL, 56));
+    CHECK(why("haze_day") == 0 && told_is(1, TUNO_CLASS_ALL, 1, TUNO_SECTION_LOCAL, TUNO_LANGUAGE_GENERAL, 33));
+    CHECK(settle() == 0);
+    CHECK(why("haze_month") == 0 && told_is(1, TUNO_CLASS_EXACT, 2, TUNO_SECTION_GLOBAL, TUNO_LANGUAGE_GENERAL, 56));
+    CHECK(why("haze_day") == 0 && told_is(0, TUNO_CLASS_ALL, 1, TUNO_SECTION_LOCAL, TUNO_LANGUAGE_GENERAL, 33));
+}
+
+/* An `out` that is too short is refused last. */
+static void test_refused_why(void) {
+    static const char *const scripts[] = {"{ f*; };", "{ f; local: *; };", "{ f*; };"};
+    struct name name;
+    size_t room, length;
+    uint32_t kind;
+
+    for (kind = TUNO_KIND_REGULAR; kind <= TUNO_KIND_EXPORT_LIST; kind++) {
+        int list = kind == TUNO_KIND_EXPORT_LIST;
+        CHECK(opened_fresh(list ? LIST : SCRIPT, scripts[kind]) == 0);
+        CHECK(count(TUNO_COUNT_KIND) == kind);
+        keep();
+        for (room = 0; room < TUNO_WHY; room++) {
+            CHECK(why_bytes(plain("f"), 0, bytes(""), 0, room) == TUNO_NO_ROOM);
+            CHECK(why_bytes(plain("g"), 0, bytes(""), 0, room) == TUNO_NO_ROOM);
+            CHECK(why_bytes(plain("f"), 1, bytes(""), 0, room) == (list ? TUNO_WRONG_KIND : TUNO_NO_ROOM));
+        }
+        for (; room <= TUNO_WHY + 2; room++) CHECK(why_bytes(plain("f"), 0, bytes(""), 0, room) == 0 && told_line(0));
+
+        memset(text, 'f', sizeof text);
+        for (room = TUNO_WHY - 1; room <= TUNO_WHY; room++) {
+            uint32_t done = room < TUNO_WHY ? TUNO_NO_ROOM : 0;
+            name.raw = name.demangled = text;
+            name.raw_length = TUNO_RAW_NAME_LIMIT;
+            name.demangled_length = TUNO_DEMANGLED_NAME_LIMIT;
+            CHECK(why_bytes(name, 0, text, 0, room) == done);
+            name.raw_length++;
+            CHECK(why_bytes(name, 0, text, 0, room) == TUNO_TOO_LONG);
+            name.raw_length = 1;
+            name.demangled_length++;
+            CHECK(why_bytes(name, 0, text, 0, room) == TUNO_TOO_LONG);
+            CHECK(why_bytes(both("f", "\xff"), 0, text, 0, room) == TUNO_NAME_NOT_UTF8);
+            CHECK(why_bytes(both("\xc3", "f"), 0, text, 0, room) == TUNO_NAME_NOT_UTF8);
+
+            /* with a wanted version 13 comes before 1, 1 before 9, 9 before 10 and 10 before 8 */
+            CHECK(why_bytes(name, 1, text, 1, room) == (list ? TUNO_WRONG_KIND : TUNO_TOO_LONG));
+            name = plain("\xff");
+            CHECK(why_bytes(name, 1, text, sizeof text, room) == (list ? TUNO_WRONG_KIND : TUNO_TOO_LONG));
+            CHECK(why_bytes(name, 1, text, 1, room) == (list ? TUNO_WRONG_KIND : TUNO_NAME_NOT_UTF8));
+            name = plain("f");
+            length = TUNO_WANTED_VERSION_LIMIT;
+            CHECK(why_bytes(name, 1, text, length + 1, room) == (list ? TUNO_WRONG_KIND : TUNO_TOO_LONG));
+            if (kind == TUNO_KIND_REGULAR) done = TUNO_UNKNOWN_VERSION;
+            if (list) done = TUNO_WRONG_KIND;
+            CHECK(why_bytes(name, 1, text, length, room) == done);
+        }
+        CHECK(as_before());
+    }
+}
+
+/* The line that decides, told without the library: of every two lines of these tokens in every place, and of scripts of
+ * the Rust kind. The other questions answer what this line's node and section give. */
+
+struct placed {
+    const char *token;
+    uint32_t class_number, node, section, language;
+};
+
+static const char *const tokens[] = {"a", "\\a", "?", "a*", "*", "b"};
+static const uint32_t classes[] = {
+    TUNO_CLASS_EXACT, TUNO_CLASS_ESCAPED, TUNO_CLASS_NON_STAR, TUNO_CLASS_STAR, TUNO_CLASS_ALL, TUNO_CLASS_EXACT};
+static const char *const asked[][2] = {{"a", "a"}, {"a", "b"}, {"b", "a"}, {"ab", "c"}, {"bc", "ab"}, {"", "bc"}};
+
+#define TOKENS ((unsigned)(sizeof tokens / sizeof tokens[0]))
+#define ASKED ((unsigned)(sizeof asked / sizeof asked[0]))
+#define LAST_NODE 2u
+#define PLACES (TOKENS * 2 * 2 * (LAST_NODE + 1))
+#define LIST_PLACES (TOKENS * 2)
+
+/* Those of an export list are the first ones. */
+static struct placed place_of(unsigned i) {
+    struct placed x;
+    x.token = tokens[i % TOKENS];
+    x.class_number = classes[i % TOKENS];
+    x.language = i / TOKENS % 2;
+    x.section = i / TOKENS / 2 % 2;
+    x.node = i / TOKENS / 2 / 2;
+    return x;
+}
+
+static int matches(const struct placed *x, const char *raw, const char *demangled) {
+    const char *name = x->language == TUNO_LANGUAGE_CXX ? demangled : raw;
+    switch (x->class_number) {
+    case TUNO_CLASS_EXACT: return strcmp(name, x->token) == 0;
+    case TUNO_CLASS_ESCAPED: return strcmp(name, x->token + 1) == 0;
+    case TUNO_CLASS_NON_STAR: return strlen(name) == 1;
+    case TUNO_CLASS_STAR: return name[0] == 'a';
+    default: return 1;
+    }
+}
+
+/* Names: nodes upward, in a node general global, general local, C++ global, C++ local. Then NonStar, Star and All, of
+ * each nodes downward, in a node global, local. */
+static unsigned rank(const struct placed *x) {
+    if (x->class_number <= TUNO_CLASS_ESCAPED) return 4 * x->node + 2 * x->language + x->section;
+    return 4 * (LAST_NODE + 1) * x->class_number + 2 * (LAST_NODE - x->node) + x->section;
+}
+
+/* Whether this line is named, none where it is the number of lines, and the other questions answer what it gives. */
+static unsigned explained(const char *raw, const char *demangled, uint32_t line) {
+    struct name n = both(raw, demangled);
+    int none = line == count(TUNO_COUNT_LINES);
+    uint32_t index = TUNO_VERSION_NONE, section = TUNO_LOCALITY_NOTHING;
+    if (tuno_why(BOOK, NAME(n), 0, n.raw, 0, told, TUNO_WHY) != 0) return 0;
+    if (!(none ? told_only(TUNO_WHY_NO_LINE) : told_line(line))) return 0;
+    if (count(TUNO_COUNT_KIND) == TUNO_KIND_EXPORT_LIST) {
+        return tuno_contains(BOOK, NAME(n), &value, 1) == 0 && value == (none ? 0u : 1u);
+    }
+    if (!none) {
+        section = told[TUNO_WHY_SECTION] == TUNO_SECTION_GLOBAL ? TUNO_LOCALITY_GLOBAL : TUNO_LOCALITY_LOCAL;
+        if (told[TUNO_WHY_NODE] != 0) index = TUNO_VERSION_OF_NODE(told[TUNO_WHY_NODE]);
+    }
+    return tuno_version_for_symbol(BOOK, NAME(n), 0, n.raw, 0, &value, 1) == 0 && value == index &&
+        tuno_locality(BOOK, NAME(n), &value, 1) == 0 && value == section;
+}
+
+static unsigned explained_by_two(unsigned first, unsigned second) {
+    struct placed x = place_of(first), y = place_of(second);
+    unsigned i, names = 0;
+    if (add(x.node, x.section, x.language, x.token) != 0 || add(y.node, y.section, y.language, y.token) != 0) return 0;
+    for (i = 0; i < ASKED; i++) {
+        uint32_t line = 2;
+        if (matches(&y, asked[i][0], asked[i][1])) line = 1;
+        if (matches(&x, asked[i][0], asked[i][1]) && (line == 2 || rank(&x) <= rank(&y))) line = 0;
+        names += explained(asked[i][0], asked[i][1], line);
+    }
+    return undo() == 0 && undo() == 0 ? names : 0;
+}
+
+/* The globals are names of one byte. */
+static unsigned explained_by_rust(const char *globals, const char *first, const char *second) {
+    static const uint32_t star = 4 * TUNO_CLASS_ALL + 2 * TUNO_SECTION_LOCAL + TUNO_LANGUAGE_GENERAL;
+    char script[128];
+    unsigned i, names = 0;
+    snprintf(script, sizeof script, "{%slocal:%s%s*;};", globals, first, second);
+    if (opened(SCRIPT, script) != 0 || count(TUNO_COUNT_KIND) != TUNO_KIND_RUST) return 0;
+    for (i = 0; i < ASKED; i++) {
+        const char *name = asked[i][0], *listed = globals;
+        uint32_t line;
+        while (*listed != 0 && (name[0] != *listed || name[1] != 0)) listed += strlen("a;");
+        line = (uint32_t)((listed - globals) / 2);
+        if (*listed == 0) {
+            while (b.lines[1 + TUNO_LINE_WIDTH * line + TUNO_LINE_CODE] != star) line++;
+        }
+        names += explained(asked[i][0], asked[i][1], line);
+    }
+    return names;
+}
+
+static void test_every_why(void) {
+    static const char *const globals[] = {"", "a;", "b;", "a;a;", "b;a;", "a;b;a;"};
+    static const char *const locals[] = {"", "a;", "a*;", "*;", "extern \"C++\"{*;};", "extern \"C\"{*;};"};
+    unsigned names = 0, tried = 0, i, j, k;
+
+    lend(some_rooms);
+    CHECK(opened(SCRIPT, "A{};B{};") == 0);
+    for (i = 0; i < PLACES; i++) {
+        for (j = 0; j < PLACES; j++, tried += ASKED) names += explained_by_two(i, j);
+    }
+    CHECK(names == tried);
+    CHECK(opened(LIST, "{};") == 0);
+    for (i = 0; i < LIST_PLACES; i++) {
+        for (j = 0; j < LIST_PLACES; j++, tried += ASKED) names += explained_by_two(i, j);
+    }
+    CHECK(names == tried);
+    for (i = 0; i < sizeof globals / sizeof globals[0]; i++) {
+        for (j = 0; j < sizeof locals / sizeof locals[0]; j++) {
+            for (k = 0; k < sizeof locals / sizeof locals[0]; k++, tried += ASKED) {
+                names += explained_by_rust(globals[i], locals[j], locals[k]);
+            }
+        }
+    }
+    CHECK(names == tried);
+    CHECK(untouched_beside());
 }
 
 /* ---- a book in larger rooms: the same contents with zeros behind */
@@ -1111,6 +1489,13 @@ int main(int argc, char **argv) {
     test_opened_offsets();
     test_edited_offsets();
     test_lent_offsets();
+    test_ranked_why();
+    test_wanted_why();
+    test_rust_why();
+    test_list_why();
+    test_edited_why();
+    test_refused_why();
+    test_every_why();
     test_larger_rooms();
     for (function = 0; function < FUNCTIONS; function++) CHECK(met[function] == declared(function));
     printf("%u passed, %u failed\n", passed, failed);

@@ -1,7 +1,7 @@
 //! The book.
 
 use crate::calls::Buffers;
-use crate::parts::{Kind, Language, Line, Node, NodeNumber, Section, VersionIndex};
+use crate::parts::{Kind, Language, Line, Node, NodeNumber, Section, VersionIndex, Why};
 use crate::place::Place;
 use crate::refusal::Refusal;
 use crate::rooms::{Needs, Rooms, LINE_WIDTH, NODE_WIDTH};
@@ -205,6 +205,56 @@ impl Book {
     pub fn contains(&self, raw: &[u8], demangled: &[u8]) -> Result<bool, Refusal> {
         let within = self.buffers.contains(raw, demangled).map_err(refused)?;
         Ok(within != 0)
+    }
+
+    /// Why a symbol has its version, is global or local, or is in an export list: the line that
+    /// decides, by the names of the symbol and the version that it wants, as for
+    /// [`version`](Book::version).
+    ///
+    /// Of the lines that match it is the first in the ranking, at equal rank the one with the lowest
+    /// number. Where a version is wanted, an empty one too, that decides, and no line is named; the
+    /// locality still goes by the line that is named without it. Of the Rust kind a wanted version
+    /// is not looked up, and a line always decides: the first global one that is the raw name, else
+    /// the first local `*` that is not C++.
+    ///
+    /// # Errors
+    ///
+    /// [`Refusal::WrongKind`] on an export list, where a version is wanted; [`Refusal::TooLong`],
+    /// [`Refusal::NameNotUtf8`] and [`Refusal::UnknownVersion`], as for [`version`](Book::version).
+    ///
+    /// ```
+    /// use tunoyaket::{Book, Class, Language, NodeNumber, Reason, Refusal, Section, Why};
+    ///
+    /// let mut book = Book::version_script(b"V1 { f; f*; }; V2 { f*; };")?;
+    /// let first = Reason {
+    ///     line: 0,
+    ///     class: Class::Exact,
+    ///     node: NodeNumber(1),
+    ///     section: Section::Global,
+    ///     language: Language::General,
+    ///     offset: Some(5),
+    /// };
+    /// assert_eq!(book.why(b"f", b"f", None)?, Why::Line(first));
+    /// assert_eq!(book.why(b"g", b"g", None)?, Why::NoLine);
+    /// assert_eq!(book.why(b"f", b"f", Some(b"V2"))?, Why::Wanted);
+    /// assert_eq!(book.why(b"f", b"f", Some(b"V3")), Err(Refusal::UnknownVersion));
+    ///
+    /// book.strike(0)?;
+    /// let last = Reason {
+    ///     line: 2,
+    ///     class: Class::Star,
+    ///     node: NodeNumber(2),
+    ///     offset: Some(20),
+    ///     ..first
+    /// };
+    /// assert_eq!(book.why(b"f", b"f", None)?, Why::Line(last));
+    /// # Ok::<(), Refusal>(())
+    /// ```
+    pub fn why(&self, raw: &[u8], demangled: &[u8], wanted: Option<&[u8]>) -> Result<Why, Refusal> {
+        self.buffers
+            .why(raw, demangled, wanted)
+            .map(Why::told)
+            .map_err(refused)
     }
 
     /// Adds a line and tells its number. The token is trimmed at its end and classed as in a

@@ -94,6 +94,20 @@ extern "C" {
         out: *mut u32, out_length: usize,
     ) -> u32;
 
+    fn tuno_why(
+        counts: *const u32, counts_length: usize,
+        nodes: *const u32, nodes_length: usize,
+        names: *const u8, names_length: usize,
+        lines: *const u32, lines_length: usize,
+        pool: *const u8, pool_length: usize,
+        journal: *const u32, journal_length: usize,
+        raw: *const u8, raw_length: usize,
+        demangled: *const u8, demangled_length: usize,
+        has_wanted: u32,
+        wanted: *const u8, wanted_length: usize,
+        out: *mut u32, out_length: usize,
+    ) -> u32;
+
     fn tuno_add(
         counts: *mut u32, counts_length: usize,
         nodes: *const u32, nodes_length: usize,
@@ -174,11 +188,11 @@ macro_rules! open {
     };
 }
 
-/// The value that a function answers of a book and of what is given besides, or the refusal's
-/// number.
-macro_rules! ask {
-    ($call:ident, $book:ident $(, $given:expr)*) => {{
-        let mut out = [0];
+/// The values that a function answers of a book and of what is given besides, written over those
+/// that are handed in, or the refusal's number.
+macro_rules! ask_into {
+    ($out:expr, $call:ident, $book:ident $(, $given:expr)*) => {{
+        let mut out = $out;
         // SAFETY: the pointers and lengths are those of slices, as at an opening. Only `out` is
         // written, and it is this block's own; what is given besides is a number, or the pointer
         // and the length of a slice that the caller borrows.
@@ -202,10 +216,17 @@ macro_rules! ask {
             )
         };
         match number {
-            0 => Ok(out[0]),
+            0 => Ok(out),
             number => Err(number),
         }
     }};
+}
+
+/// The one value that a function answers, or the refusal's number.
+macro_rules! ask {
+    ($call:ident, $book:ident $(, $given:expr)*) => {
+        ask_into!([0], $call, $book $(, $given)*).map(|[value]| value)
+    };
 }
 
 /// An edit of a book by what is given besides: 0, or the refusal's number.
@@ -294,6 +315,28 @@ impl Buffers {
         )
     }
 
+    pub(crate) fn why(
+        &self,
+        raw: &[u8],
+        demangled: &[u8],
+        wanted: Option<&[u8]>,
+    ) -> Result<[u32; 7], u32> {
+        let has_wanted = u32::from(wanted.is_some());
+        let wanted = wanted.unwrap_or_default();
+        ask_into!(
+            [0; 7],
+            tuno_why,
+            self,
+            raw.as_ptr(),
+            raw.len(),
+            demangled.as_ptr(),
+            demangled.len(),
+            has_wanted,
+            wanted.as_ptr(),
+            wanted.len()
+        )
+    }
+
     pub(crate) fn add(&mut self, node: u32, section: u32, language: u32, token: &[u8]) -> u32 {
         edit!(
             tuno_add,
@@ -344,6 +387,8 @@ mod tests {
             buffers.version_for_symbol(name, name, None).unwrap_err(),
             buffers.locality(name, name).unwrap_err(),
             buffers.contains(name, name).unwrap_err(),
+            buffers.why(name, name, None).unwrap_err(),
+            buffers.why(name, name, Some(name)).unwrap_err(),
             buffers.add(0, 0, 0, name),
             buffers.strike(0),
             buffers.undo(),

@@ -5,11 +5,11 @@
 //! says, on every input; this crate lends it memory. Every call ends with an answer or a numbered
 //! [`Refusal`], whatever the bytes.
 //!
-//! What version has `haze_month`, what would the library export without the wildcard line, and where
-//! in the script does that line stand?
+//! What version has `haze_month`, what would the library export without the wildcard line, which
+//! line exports `haze_day`, and where in the script does that line stand?
 //!
 //! ```
-//! use tunoyaket::{Book, Section};
+//! use tunoyaket::{Book, Section, Why};
 //!
 //! let script = b"HAZE_1 { global: haze_*; local: *; };
 //!                HAZE_2 { global: haze_month; } HAZE_1;";
@@ -25,8 +25,11 @@
 //! book.undo()?;
 //! assert_eq!(book.locality(b"haze_day", b"haze_day")?, Some(Section::Global));
 //!
-//! let wildcard = book.lines().next().unwrap();
-//! assert_eq!(wildcard.place_in(script).unwrap().to_string(), "line 1, column 18");
+//! let Why::Line(reason) = book.why(b"haze_day", b"haze_day", None)? else {
+//!     panic!("no line matches haze_day");
+//! };
+//! assert_eq!((reason.line, reason.node.0), (0, 1));
+//! assert_eq!(reason.place_in(script).unwrap().to_string(), "line 1, column 18");
 //! # Ok::<(), tunoyaket::Refusal>(())
 //! ```
 //!
@@ -49,6 +52,8 @@ mod refusal;
 mod rooms;
 
 pub use book::Book;
-pub use parts::{Class, Kind, Language, Line, Node, NodeNumber, Section, VersionIndex};
+pub use parts::{
+    Class, Kind, Language, Line, Node, NodeNumber, Reason, Section, VersionIndex, Why,
+};
 pub use place::Place;
 pub use refusal::Refusal;

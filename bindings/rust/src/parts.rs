@@ -31,6 +31,20 @@ pub enum Class {
     All,
 }
 
+impl Class {
+    /// A class that the library told.
+    fn told(class: u32) -> Class {
+        match class {
+            0 => Class::Exact,
+            1 => Class::Escaped,
+            2 => Class::NonStar,
+            3 => Class::Star,
+            4 => Class::All,
+            class => unreachable!("no line has the class {class}"),
+        }
+    }
+}
+
 /// Whether a line exports or hides.
 #[derive(Clone, Copy, Debug, PartialEq, Eq, Hash)]
 pub enum Section {
@@ -40,6 +54,17 @@ pub enum Section {
     Local,
 }
 
+impl Section {
+    /// A section that the library told.
+    fn told(section: u32) -> Section {
+        match section {
+            0 => Section::Global,
+            1 => Section::Local,
+            section => unreachable!("no line has the section {section}"),
+        }
+    }
+}
+
 /// Which name of a symbol a line sees.
 #[derive(Clone, Copy, Debug, PartialEq, Eq, Hash)]
 pub enum Language {
@@ -47,6 +72,17 @@ pub enum Language {
     General,
     /// The demangled name: `extern "C++"`.
     Cxx,
+}
+
+impl Language {
+    /// A language that the library told.
+    fn told(language: u32) -> Language {
+        match language {
+            0 => Language::General,
+            1 => Language::Cxx,
+            language => unreachable!("no line has the language {language}"),
+        }
+    }
 }
 
 /// A node by its number in the script. It is no version index: see [`VersionIndex`].
@@ -165,26 +201,12 @@ impl<'b> Line<'b> {
         Line {
             number: number as u32,
             node: NodeNumber(row[0]),
-            class: match code % 32 / 4 {
-                0 => Class::Exact,
-                1 => Class::Escaped,
-                2 => Class::NonStar,
-                3 => Class::Star,
-                4 => Class::All,
-                class => unreachable!("no line has the class {class}"),
-            },
-            section: match code % 4 / 2 {
-                0 => Section::Global,
-                _ => Section::Local,
-            },
-            language: match code % 2 {
-                0 => Language::General,
-                _ => Language::Cxx,
-            },
+            class: Class::told(code % 32 / 4),
+            section: Section::told(code % 4 / 2),
+            language: Language::told(code % 2),
             struck: code / 32 != 0,
             bytes: &pool[row[2] as usize..][..row[3] as usize],
-            // the row has one more, and 0 for none
-            offset: (row[4] as usize).checked_sub(1),
+            offset: offset_told(row[4]),
         }
     }
 
@@ -217,8 +239,92 @@ impl<'b> Line<'b> {
     /// # Ok::<(), tunoyaket::Refusal>(())
     /// ```
     pub fn place_in(&self, text: &[u8]) -> Option<Place> {
-        let offset = self.offset.filter(|&offset| offset < text.len())?;
-        Some(Place::of(text, offset))
+        Place::of_line(text, self.offset)
+    }
+}
+
+/// A line's offset as the library has it: one more, and 0 for none.
+fn offset_told(offset: u32) -> Option<usize> {
+    (offset as usize).checked_sub(1)
+}
+
+/// Why a symbol has its version, is global or local, or is in an export list: what
+/// [`Book::why`](crate::Book::why) tells.
+#[derive(Clone, Copy, Debug, PartialEq, Eq, Hash)]
+pub enum Why {
+    /// No line matches.
+    NoLine,
+    /// This line decides.
+    Line(Reason),
+    /// The wanted version decides.
+    Wanted,
+}
+
+impl Why {
+    /// What the library told: which of the three it is, then the line's numbers.
+    pub(crate) fn told([what, line, class, node, section, language, offset]: [u32; 7]) -> Why {
+        match what {
+            0 => Why::NoLine,
+            1 => Why::Line(Reason {
+                line,
+                class: Class::told(class),
+                node: NodeNumber(node),
+                section: Section::told(section),
+                language: Language::told(language),
+                offset: offset_told(offset),
+            }),
+            2 => Why::Wanted,
+            what => unreachable!("{what} is no reason"),
+        }
+    }
+}
+
+/// The line that decides on a symbol. Its bytes are those of the [`Line`] with its number.
+#[derive(Clone, Copy, Debug, PartialEq, Eq, Hash)]
+pub struct Reason {
+    /// The line's [`number`](Line::number) in the book, which is not that of a line of the text:
+    /// [`place_in`](Reason::place_in) tells that.
+    pub line: u32,
+    /// How its bytes are held against a name.
+    pub class: Class,
+    /// The node in which it stands. Its version is the symbol's, and node 0 gives none.
+    pub node: NodeNumber,
+    /// Its section, which is the symbol's locality.
+    pub section: Section,
+    /// Its language: which of the symbol's names it matches.
+    pub language: Language,
+    /// Where its token starts in the text that was opened, in bytes from 0 on; `None` for a line
+    /// that was added. It is the line's [`offset`](Line::offset).
+    pub offset: Option<usize>,
+}
+
+impl Reason {
+    /// Where the line's token starts, by line and column, in the text that was opened: as
+    /// [`Line::place_in`].
+    ///
+    /// ```
+    /// use tunoyaket::{Book, Language, NodeNumber, Refusal, Section, Why};
+    ///
+    /// let text = b"V1 {\n    haze_*;\n    local: *;\n};\nV2 { \"haze_month\"; } V1;\n";
+    /// let mut book = Book::version_script(text)?;
+    /// let place = |book: &Book, name: &[u8]| -> Result<String, Refusal> {
+    ///     Ok(match book.why(name, name, None)? {
+    ///         Why::Line(reason) => match reason.place_in(text) {
+    ///             Some(place) => place.to_string(),
+    ///             None => format!("line {} of the book, an added one", reason.line),
+    ///         },
+    ///         Why::NoLine | Why::Wanted => "no line".to_string(),
+    ///     })
+    /// };
+    /// assert_eq!(place(&book, b"haze_month")?, "line 5, column 6");
+    /// assert_eq!(place(&book, b"haze_day")?, "line 2, column 5");
+    ///
+    /// book.add(NodeNumber(2), Section::Global, Language::General, b"haze_day")?;
+    /// assert_eq!(place(&book, b"haze_day")?, "line 3 of the book, an added one");
+    /// # Ok::<(), Refusal>(())
+    /// ```
+    pub fn place_in(&self, text: &[u8]) -> Option<Place> {
+        Place::of_line(text, self.offset)
     }
 }
 
@@ -242,5 +348,29 @@ mod tests {
             VersionIndex::GLOBAL
         );
         assert_eq!(VersionIndex::told(0), None);
+    }
+
+    /// The seven numbers each have a place of their own.
+    #[test]
+    fn reasons_by_their_numbers() {
+        let reason = Reason {
+            line: 9,
+            class: Class::Star,
+            node: NodeNumber(7),
+            section: Section::Local,
+            language: Language::General,
+            offset: Some(41),
+        };
+        assert_eq!(Why::told([1, 9, 3, 7, 1, 0, 42]), Why::Line(reason));
+        let reason = Reason {
+            class: Class::Escaped,
+            section: Section::Global,
+            language: Language::Cxx,
+            offset: None,
+            ..reason
+        };
+        assert_eq!(Why::told([1, 9, 1, 7, 0, 1, 0]), Why::Line(reason));
+        assert_eq!(Why::told([0; 7]), Why::NoLine);
+        assert_eq!(Why::told([2, 0, 0, 0, 0, 0, 0]), Why::Wanted);
     }
 }

@@ -4,7 +4,7 @@ use std::fmt;
 
 /// A place in a text: where an opening was refused, which is the byte at which the rule that failed
 /// began ([`Refusal::place`](crate::Refusal::place)), or where the token of a line starts
-/// ([`Line::place_in`](crate::Line::place_in)).
+/// ([`Line::place_in`](crate::Line::place_in), [`Reason::place_in`](crate::Reason::place_in)).
 ///
 /// Lines and columns count from 1 on, columns in bytes. Only a line feed ends a line.
 #[derive(Clone, Copy, Debug, PartialEq, Eq, Hash)]
@@ -30,6 +30,12 @@ impl Place {
             line: 1 + before.iter().filter(|&&byte| byte == b'\n').count(),
             column: 1 + offset - start,
         }
+    }
+
+    /// That of a line's offset, where there is one and the text has a byte there.
+    pub(crate) fn of_line(text: &[u8], offset: Option<usize>) -> Option<Place> {
+        let offset = offset.filter(|&offset| offset < text.len())?;
+        Some(Place::of(text, offset))
     }
 }
 

@@ -50,8 +50,9 @@ pub enum Refusal {
     NothingToUndo,
     /// 13: [`contains`](crate::Book::contains) or [`add_symbol`](crate::Book::add_symbol) on a
     /// version script; the counts, [`version`](crate::Book::version) or
-    /// [`locality`](crate::Book::locality) on an export list; [`add`](crate::Book::add) or
-    /// [`strike`](crate::Book::strike) on a script of the Rust kind.
+    /// [`locality`](crate::Book::locality) on an export list, or [`why`](crate::Book::why) with a
+    /// wanted version; [`add`](crate::Book::add) or [`strike`](crate::Book::strike) on a script of
+    /// the Rust kind.
     WrongKind,
     /// 14: buffers that are no book. No call on a [`Book`](crate::Book) is refused with it, since
     /// only the library writes its buffers.

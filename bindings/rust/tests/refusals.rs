@@ -92,11 +92,26 @@ fn texts_over_their_limit() -> Result<(), Refusal> {
         10,
         UNKNOWN_VERSION,
     );
+    assert!(book.why(name(4_096), name(65_536), None).is_ok());
+    plain(book.why(name(4_097), name(1), None), 1, TOO_LONG);
+    plain(book.why(name(1), name(65_537), None), 1, TOO_LONG);
+    plain(book.why(name(1), name(1), Some(name(4_097))), 1, TOO_LONG);
+    plain(
+        book.why(name(1), name(1), Some(name(4_096))),
+        10,
+        UNKNOWN_VERSION,
+    );
     plain(add(&mut book, name(65_537)), 1, TOO_LONG);
     add(&mut book, name(65_536))?;
 
+    // of the Rust kind a wanted version is not looked up, but has its limit
+    let book = script("{ f; local: *; };")?;
+    assert!(book.why(name(1), name(1), Some(name(4_096))).is_ok());
+    plain(book.why(name(1), name(1), Some(name(4_097))), 1, TOO_LONG);
+
     let mut book = list("{ f*; };")?;
     plain(book.contains(name(4_097), name(1)), 1, TOO_LONG);
+    plain(book.why(name(1), name(65_537), None), 1, TOO_LONG);
     plain(book.add_symbol(name(65_537), true), 1, TOO_LONG);
     assert_eq!(book.add_symbol(name(65_536), true)?, 1..2);
     Ok(())
@@ -224,7 +239,14 @@ fn names() -> Result<(), Refusal> {
     plain(book.version(b"f", b"\xff", Some(b"W")), 9, NAME_NOT_UTF8);
     plain(book.locality(b"\xc3", b"f"), 9, NAME_NOT_UTF8);
     plain(book.version(b"f", b"f", Some(b"W")), 10, UNKNOWN_VERSION);
-    plain(list("{};")?.contains(b"f", b"\xff"), 9, NAME_NOT_UTF8);
+    plain(book.why(b"\xff", b"f", None), 9, NAME_NOT_UTF8);
+    plain(book.why(b"f", b"\xff", Some(b"W")), 9, NAME_NOT_UTF8);
+    plain(book.why(b"f", b"f", Some(b"W")), 10, UNKNOWN_VERSION);
+    let book = list("{};")?;
+    plain(book.contains(b"f", b"\xff"), 9, NAME_NOT_UTF8);
+    plain(book.why(b"f", b"\xff", None), 9, NAME_NOT_UTF8);
+    let book = script("{ local: *; };")?;
+    plain(book.why(b"\xff", b"f", Some(b"W")), 9, NAME_NOT_UTF8);
     Ok(())
 }
 
@@ -265,6 +287,8 @@ fn kinds() -> Result<(), Refusal> {
     plain(book.parent_count(), 13, WRONG_KIND);
     plain(book.version(b"f", b"f", None), 13, WRONG_KIND);
     plain(book.locality(b"f", b"f"), 13, WRONG_KIND);
+    plain(book.why(b"f", b"f", Some(b"")), 13, WRONG_KIND);
+    plain(book.why(b"\xff", b"f", Some(b"V")), 13, WRONG_KIND);
 
     let mut book = script("{ f; local: *; };")?;
     plain(add(&mut book, b"f"), 13, WRONG_KIND);
