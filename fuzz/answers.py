@@ -1,9 +1,11 @@
 """What each program has to print and to say for an input. The output is walked beside the input's lines: a name may hold any byte and is given back as it is,
-so only the input says where an answer ends. How many answers there are, what each gives back, every number that the input alone decides, how many lines a book
-has and where each came from, and all of standard error are asked for exactly. Whether a version, a locality or a match is the right one is not asked: that is
-proved."""
+so only the input says where an answer ends. Where a text is accepted, every line that verlist, why and trial_desk print is asked for exactly, but for the
+refusal of an edit, of which only the number is one of some: deciding.py has the book, and the line that decides over a name. Of matchlist and of the programs
+that replay, how many answers there are, what each gives back and every number that the input alone decides are asked for; whether a match is the right one is
+not: that is proved. All of standard error is asked for exactly, but for the place of what is refused."""
 import re
 
+import deciding
 import places
 
 LIMIT = 65536        # bytes of an input
@@ -26,12 +28,11 @@ MEANINGS = {
     13: b'a book of this kind does not answer that',
 }
 KNOWN_COMMANDS = (b'trial_desk: known are add NODE SECTION LANGUAGE TOKEN, strike LINE, undo, settle, symbol TEXT, symbol! TEXT, '
-                  b'ask NAME[@VERSION], counts, lines and dump\n')
+                  b'ask NAME[@VERSION][<TAB>DEMANGLED], why NAME[@VERSION][<TAB>DEMANGLED], counts, lines and dump\n')
 KNOWN_ARGUMENT = b'trial_desk: the one argument that is known is export, for an export list\n'
 NO_FILE = b'cases.txt: No such file or directory\n'
 
 NUMBER = rb'(\d{1,10})'
-VERSION_AND_LOCALITY = rb'(?:\d{1,10}|-) [GL-]'
 
 
 class Fault(Exception):
@@ -69,6 +70,11 @@ class Printed:
             raise Fault(f'at byte {self.at} of the output {self.whole[self.at:self.at + 60]!r}, in place of an answer for {name[:60]!r}')
         self.line(shape)
 
+    def exactly(self, line):
+        """Goes past this line, which has to come next."""
+        if not self.skip(line + b'\n'):
+            raise Fault(f'at byte {self.at} of the output {self.whole[self.at:self.at + 160]!r}, in place of {line[:160]!r}')
+
     def end(self):
         if self.at < len(self.whole):
             raise Fault(f'behind the last answer, at byte {self.at} of the output, {self.whole[self.at:self.at + 60]!r}')
@@ -92,13 +98,6 @@ def is_utf8(name):
     except UnicodeDecodeError:
         return False
     return True
-
-
-def name_refusal(name, wanted=b''):
-    """The number that refuses a name, 0 where none does. Only 10 depends on the script."""
-    if max(len(name), len(wanted)) > NAME_LIMIT:
-        return 1
-    return 0 if is_utf8(name) else 9
 
 
 def refused(printed, given, numbers):
@@ -143,19 +142,93 @@ def refused_text(program, run, printed, errors):
     return number != 0
 
 
-def symbol(printed, line):
-    """The answer for a symbol's line: the name before any `@`, then version and locality, or the number that refuses them."""
-    name, _, wanted = line.partition(b'@')
-    number = name_refusal(name, wanted)
-    printed.answer(name, b'! %d' % number if number else VERSION_AND_LOCALITY + (b'|! 10' if wanted else b''))
+def taken(read, *given):
+    """What the account reads of what a program has accepted."""
+    try:
+        return read(*given)
+    except places.Unread as wrong:
+        raise Fault(f'it is accepted, and {wrong}') from None
+
+
+class Asked:
+    """What a symbol's line asks of a book. The first `@` splits the name from the wanted version, of which an export list is asked nothing. Before that, where
+    the program knows TABs, the first one splits off the demangled name; without one that is the name again."""
+
+    def __init__(self, book, line, tabs=True):
+        symbol, tab, demangled = line.partition(b'\t') if tabs else (line, b'', b'')
+        self.name, at, wanted = symbol.partition(b'@')
+        self.book = book
+        self.demangled = demangled if tab else self.name
+        self.wanted = wanted if at and book.kind != deciding.EXPORT_LIST else None
+
+    def by_version(self):
+        """Whether the wanted version decides."""
+        return self.wanted is not None and self.book.kind == deciding.REGULAR
+
+    def refusal(self):
+        """The number that refuses it, 0 where none does. No input has a demangled name over its limit."""
+        if max(len(self.name), len(self.wanted or b'')) > NAME_LIMIT:
+            return 1
+        if not is_utf8(self.name) or not is_utf8(self.demangled):
+            return 9
+        return 10 if self.by_version() and self.book.wanted(self.wanted) is None else 0
+
+    def answer(self, fields):
+        """The line that is printed: the name, and the fields or the number that refuses them."""
+        number = self.refusal()
+        return self.name + b' ' + (b'! %d' % number if number else fields())
+
+    def line(self):
+        """The number of the line that decides, and the line; None for both where none matches."""
+        number = self.book.deciding(self.name, self.demangled)
+        return number, None if number is None else self.book.lines[number]
+
+    def version_and_locality(self):
+        _, line = self.line()
+        index = 0 if line is None or line.node == 0 else 1 + line.node
+        if self.by_version():
+            index = self.book.wanted(self.wanted)
+        return (b'%d' % index if index else b'-') + (b' -' if line is None else b' L' if line.section else b' G')
+
+    def membership(self):
+        return b'out' if self.line()[1] is None else b'in'
+
+    def why(self):
+        if self.by_version():
+            return b'wanted version'
+        number, line = self.line()
+        if line is None:
+            return b'no line'
+        told = b'line %d class %s node %d (%s) section %s language %s offset %d' % (
+            number, deciding.CLASSES[line.kind], line.node, self.book.nodes[line.node], b'local' if line.section else b'global',
+            b'C++' if line.language else b'general', line.offset)
+        if line.offset == 0:
+            return told
+        before = self.book.text[:line.offset - 1]
+        return told + b' at %d:%d' % (before.count(b'\n') + 1, len(before) - before.rfind(b'\n'))
 
 
 def verlist(run, printed, errors):
     if refused_text(b'verlist', run, printed, errors):
         return
-    printed.line(b'nodes %s parents %s' % (NUMBER, NUMBER))
-    for line in parts(run.given)[1]:
-        symbol(printed, line)
+    text, lines = parts(run.given)
+    book = taken(deciding.Book, text, False)
+    printed.exactly(b'nodes %d parents %d' % book.versions())
+    for line in lines:
+        asked = Asked(book, line, tabs=False)
+        printed.exactly(asked.answer(asked.version_and_locality))
+    printed.end()
+    say(errors, b'')
+
+
+def why(run, printed, errors):
+    if refused_text(b'why', run, printed, errors):
+        return
+    text, lines = parts(run.given)
+    book = taken(deciding.Book, text, False)
+    for line in lines:
+        asked = Asked(book, line)
+        printed.exactly(asked.answer(asked.why))
     printed.end()
     say(errors, b'')
 
@@ -181,34 +254,13 @@ def number_of(digits):
     return int(digits) if len(digits) <= 10 and int(digits) < 2**32 else None
 
 
-def offsets(text, export):
-    """Of each line of an accepted text its offset."""
-    try:
-        return [place + 1 for place in places.places(text, export)]
-    except places.Unread as wrong:
-        raise Fault(f'the text is accepted, and {wrong}') from None
-
-
 class Desk:
-    """A walk over the commands of trial_desk: what the text and the answers have told of the book, and what was said on standard error."""
+    """A walk over the commands of trial_desk: the book that they leave, and what was said on standard error."""
 
-    ROW = re.compile(rb'%s \d{1,10} [0-4] [01] [01] ([01]) %s %s ' % (NUMBER, NUMBER, NUMBER))
-
-    def __init__(self, text, export, printed):
-        self.export, self.printed, self.said = export, printed, []
-        self.offsets = offsets(text, export)    # one for each line that the book has
-        self.nodes = None      # how many nodes, and bytes of their names, None until an answer tells it; no command changes them
-        self.struck = set()
-        self.edits = []        # those that can be undone: the number of a line that was struck, None for one that was added
-
-    def hold(self, count):
-        if count != len(self.offsets):
-            raise Fault(f'the book has {count} lines, and not {len(self.offsets)}')
-
-    def hold_nodes(self, *nodes):
-        if self.nodes not in (None, nodes):
-            raise Fault(f'nodes and bytes of their names are {nodes}, and were {self.nodes}')
-        self.nodes = nodes
+    def __init__(self, book, printed):
+        self.book, self.printed, self.said = book, printed, []
+        self.export = book.kind == deciding.EXPORT_LIST
+        self.edits = []        # those that can be undone: 1 for an add and 2 for a strike, and the line's number
 
     def refused(self, numbers):
         """Goes past `! N`, with one of these numbers, where it comes next."""
@@ -221,90 +273,82 @@ class Desk:
         if not self.refused(number):
             raise Fault(f'{self.printed.whole[self.printed.at:self.printed.at + 60]!r}, in place of ! {number.decode()}')
 
-    def add(self):
+    def append(self, line):
+        self.edits.append((1, len(self.book.lines)))
+        self.book.lines.append(line)
+
+    def add(self, node, section, language, token):
         if self.refused(b'5|6|8|11|13'):
             return
-        self.hold(int(self.printed.line(b'added ' + NUMBER)[1]))
-        self.offsets.append(0)
-        self.edits.append(None)
+        self.printed.exactly(b'added %d' % len(self.book.lines))
+        token = places.Token(0, places.trimmed(token), node, section, language, False)
+        self.append(taken(deciding.line_of, token, 0))
 
     def strike(self, line):
         if self.refused(b'8|11|13'):
             return
-        self.printed.line(b'struck %d' % line)
-        if line in self.struck or line >= len(self.offsets):
+        self.printed.exactly(b'struck %d' % line)
+        if line >= len(self.book.lines) or self.book.lines[line].struck:
             raise Fault(f'line {line} is struck, which does not stand')
-        self.struck.add(line)
-        self.edits.append(line)
+        self.book.lines[line].struck = True
+        self.edits.append((2, line))
 
     def undo(self):
         if not self.edits:
             return self.must_refuse(b'12')
-        self.printed.line(b'undone')
-        line = self.edits.pop()
-        if line is not None:
-            self.struck.remove(line)
+        self.printed.exactly(b'undone')
+        what, line = self.edits.pop()
+        if what == 2:
+            self.book.lines[line].struck = False
         else:
-            self.offsets.pop()
+            self.book.lines.pop()
 
     def settle(self):
-        left = int(self.printed.line(b'settled ' + NUMBER)[1])
-        self.hold(left + len(self.struck))
-        if self.struck:
-            self.offsets = [offset for i, offset in enumerate(self.offsets) if i not in self.struck]
-            self.struck, self.edits = set(), []
+        standing = [line for line in self.book.lines if not line.struck]
+        self.printed.exactly(b'settled %d' % len(standing))
+        if len(standing) < len(self.book.lines):
+            self.book.lines, self.edits = standing, []
 
-    def symbol(self):
+    def symbol(self, text, without_semicolon):
         if not self.export:
             return self.must_refuse(b'13')
         if self.refused(b'2|3|4|5|6|8'):
             return
-        added = int(self.printed.line(b'added ' + NUMBER)[1])
-        self.edits += [None] * added
-        self.offsets += [0] * added
+        tokens = taken(places.symbol, text, without_semicolon)
+        self.printed.exactly(b'added %d' % len(tokens))
+        for token in tokens:
+            self.append(taken(deciding.line_of, token, 0))
 
     def ask(self, line):
-        if not self.export:
-            return symbol(self.printed, line)
-        name = line.partition(b'@')[0]
-        number = name_refusal(name)
-        self.printed.answer(name, b'! %d' % number if number else b'in|out')
+        asked = Asked(self.book, line)
+        self.printed.exactly(asked.answer(asked.membership if self.export else asked.version_and_locality))
+
+    def why(self, line):
+        asked = Asked(self.book, line)
+        self.printed.exactly(asked.answer(asked.why))
 
     def counts(self):
-        kind = b'2' if self.export else b'[01]'
-        found = self.printed.line(b'kind %s nodes %s names %s lines %s pool %s edits %d' % (kind, NUMBER, NUMBER, NUMBER, NUMBER, len(self.edits)))
-        self.hold_nodes(int(found[1]), int(found[2]))
-        self.hold(int(found[3]))
-
-    def row(self, i):
-        """Goes past the row of line i, where it comes next. Its bytes are as many as it says, and may be line feeds."""
-        found = self.ROW.match(self.printed.whole, self.printed.at)
-        end = found.end() + int(found[3]) if found else 0
-        if not found or int(found[1]) != i or self.printed.whole[end:end + 1] != b'\n':
-            return False
-        if (found[2] == b'1') != (i in self.struck):
-            raise Fault(f'line {i} is shown as {"struck" if found[2] == b"1" else "standing"}')
-        if int(found[4]) != self.offsets[i]:
-            raise Fault(f'line {i} has the offset {int(found[4])}, and not {self.offsets[i]}')
-        self.printed.at = end + 1
-        return True
+        book = self.book
+        self.printed.exactly(b'kind %d nodes %d names %d lines %d pool %d edits %d' % (
+            book.kind, len(book.nodes), len(b''.join(book.nodes)), len(book.lines), sum(len(line.kept) for line in book.lines), len(self.edits)))
 
     def lines(self):
-        rows = 0
-        while rows < len(self.offsets) and self.row(rows):
-            rows += 1
-        self.hold(rows)
+        for k, line in enumerate(self.book.lines):
+            fields = k, line.node, line.kind, line.section, line.language, line.struck, len(line.kept), line.offset, line.kept
+            self.printed.exactly(b'%d %d %d %d %d %d %d %d %s' % fields)
 
     def dump(self):
-        numbers = [self.printed.line(word + rb'((?: \d{1,10})*)')[1].split() for word in (b'nodes', b'names', b'lines', b'pool', b'journal')]
-        used = [len(buffer) for buffer in numbers]
-        if used[0] % 3 or used[2] % 5 or used[4] != 2 * len(self.edits):
-            raise Fault(f'the dump has {used} numbers, with {len(self.edits)} edits')
-        self.hold_nodes(used[0] // 3, used[1])
-        self.hold(used[2] // 5)
-        shown = [int(offset) for offset in numbers[2][4::5]]
-        if shown != self.offsets:
-            raise Fault(f'the dump has the offsets {shown[:20]}, and not {self.offsets[:20]}')
+        """What the buffers hold, each as a line of numbers."""
+        book, nodes, lines, names, pool = self.book, [], [], b'', b''
+        for name, parent in zip(book.nodes, book.parents):
+            nodes += [len(names), len(name), parent]
+            names += name
+        for line in book.lines:
+            lines += [line.node, 4 * line.kind + 2 * line.section + line.language + 32 * line.struck, len(pool), len(line.kept), line.offset]
+            pool += line.kept
+        journal = [number for edit in self.edits for number in edit]
+        for word, numbers in (b'nodes', nodes), (b'names', names), (b'lines', lines), (b'pool', pool), (b'journal', journal):
+            self.printed.exactly(b' '.join([word, *(b'%d' % number for number in numbers)]))
 
     def unknown(self):
         self.printed.line(rb'\?')
@@ -317,13 +361,16 @@ class Desk:
         add = re.match(rb'add (\d+) (\d+) (\d+) ', line)
         strike = re.fullmatch(rb'strike (\d+)', line)
         if add and None not in map(number_of, add.groups()):
-            self.add()
+            self.add(*map(number_of, add.groups()), line[add.end():])
         elif strike and number_of(strike[1]) is not None:
             self.strike(number_of(strike[1]))
         elif line.startswith((b'symbol ', b'symbol! ')):
-            self.symbol()
+            word, _, text = line.partition(b' ')
+            self.symbol(text, word == b'symbol!')
         elif line.startswith(b'ask '):
             self.ask(line[4:])
+        elif line.startswith(b'why '):
+            self.why(line[4:])
         else:
             self.WORDS.get(line, Desk.unknown)(self)
 
@@ -335,7 +382,7 @@ def trial_desk(run, printed, errors):
     if refused_text(b'trial_desk', run, printed, errors):
         return
     text, lines = parts(run.given)
-    desk = Desk(text, bool(run.words), printed)
+    desk = Desk(taken(deciding.Book, text, bool(run.words)), printed)
     for line in lines:
         desk.command(line)
     printed.end()
@@ -414,12 +461,15 @@ def skip_shown(printed, given):
     end = printed.at + SHOWN
     if len(given) > LIMIT + 1 or printed.maybe(b'refused [2-8]' if len(given) <= LIMIT else b'refused 1'):
         return
-    printed.line(b'nodes %s parents %s' % (NUMBER, NUMBER))
-    for line in parts(given)[1]:
+    text, lines = parts(given)
+    book = taken(deciding.Book, text, False)
+    printed.exactly(b'nodes %d parents %d' % book.versions())
+    for line in lines:
         if b'\n' not in printed.whole[printed.at:end]:
             printed.at = end
             return
-        symbol(printed, line)
+        asked = Asked(book, line, tabs=False)
+        printed.exactly(asked.answer(asked.version_and_locality))
 
 
 def replay(program, run, real, printed, errors):

@@ -14,10 +14,12 @@ WORDS = [b'global:', b'local:', b'extern "C++" {', b'extern "C" {', b'extern ', 
          b'\0', b'**', b'-', b'^']
 # matchers and sections that every body may have
 MATCHERS = [b'a;', b'b*;', b'*;', b'c?;', b'"d*";', b'e\\*;', b'[g-h];', b'h**;', b'**;', b'extern "C++" { f; };', b'extern "C" { g; *; };', b'/* c */ x;',
-            b'# c\n y;', b'\xff;', b'a\0;', b'a\n b;']
+            b'# c\n y;', b'\xff;', b'a\0;', b'a\n b;', b'extern "C++" { f(*; "f(int)"; n?::f }; ', b'extern "C++" {};', b'a; a;', b'b?; [b]1;']
 SECTIONS = [b'local: x;', b'local: *;', b'global: z;']
-RUST_KIND = b'{ a; b1; local: *; };\n'
+RUST_KINDS = [b'{ a; b1; local: *; };\n', b'{ x; "a"; a; local: b*; extern "C++" { *; };\n *; *; };\n']
 TOKENS = [b'a', b'b*', b'*', b'c?', b'"d*"', b'e\\*', b'[g-h]', b'[', b'**', b'i**?***', b'[^**]**', b'', b'a ', b'\xff', b'\xff*', b'\0', b'a' * 4097]
+# what stands behind a TAB is a demangled name for some programs, and part of the name for others
+DEMANGLED = [b'\tf', b'\tf(int)', b'\tns::f', b'\t', b'\ta', b'\t\xff', b'\tf@V0', b'\tf\tf', b'\t \r', b'\t' + b'f' * 5000]
 NAMES = [b'a', b'b1', b'a@V0', b'a@V1', b'a@V9', b'a@', b'@', b'@@V0', b'', b'x', b'\xff', b'\xc3\xa9', b'cc', b'd*', b'e*', b'g', b'a\r', b'a\0', b'2 G',
          b'! 9', b'a' * 4096, b'a' * 4097, b'a@' + b'V' * 4096, b'a@' + b'V' * 4097]
 TEXTS = [b'a;', b'a', b'b*; c;', b'j**;', b'extern "C" { d; e; };', b'extern "C++" {};', b'extern "Ada" { d; };', b'[', b'\xff*;', b'#x', b'/*', b'', b' ',
@@ -25,7 +27,7 @@ TEXTS = [b'a;', b'a', b'b*; c;', b'j**;', b'extern "C" { d; e; };', b'extern "C+
 BARE_COMMANDS = [b'undo', b'settle', b'counts', b'lines', b'dump']
 BLUNDERS = [b'', b'?', b'nonsense', b'undo ', b' undo', b'UNDO', b'undo\r', b'undo\0', b'strike', b'strike ', b'strike -1', b'strike 1 ', b'add 0 0 0',
             b'add 1 0', b'add  0 0 0 x', b'symbol', b'symbol!', b'ask', b'%%', b'! 12', b'refused 2', b'strike 4294967296', b'strike ' + b'9' * 5000,
-            b'add 4294967296 0 0 x']
+            b'add 4294967296 0 0 x', b'why', b'why\ta', b'Why a', b'ask\ta']
 ODD_EDITS = [b'strike 4294967295', b'strike 000000000001', b'strike ' + b'0' * 5000 + b'1', b'add 9 0 0 x', b'add 1 2 0 x', b'add 1 0 2 x', b'add 00 00 00 x']
 
 
@@ -66,21 +68,26 @@ def script(rng):
     """A script that is accepted."""
     kind = rng.randrange(8)
     if kind < 2:
-        return RUST_KIND if kind else body(rng, MATCHERS + SECTIONS) + b';\n'
+        return rng.choice(RUST_KINDS) if kind else body(rng, MATCHERS + SECTIONS) + b';\n'
     return b''.join(b'V%d ' % k + body(rng, MATCHERS + SECTIONS) + (rng.choice([b'', b'V0', b' V0']) if k else b'') + b';\n' for k in range(rng.randrange(4)))
 
 
+def name(rng):
+    """A symbol's line, one in three with a demangled name."""
+    return rng.choice(NAMES) + (b'' if rng.randrange(3) else rng.choice(DEMANGLED))
+
+
 def command(rng):
-    kind = rng.randrange(8)
+    kind = rng.randrange(9)
     if kind == 0:
         return b'add %d %d %d ' % (rng.randrange(3), rng.randrange(2), rng.randrange(2)) + rng.choice(TOKENS)
     if kind == 1:
         return b'strike %d' % rng.choice([0, 0, 1, 1, 2, 3, 4, 5, 9, 99999])
     if kind == 2:
         return rng.choice([b'symbol ', b'symbol! ']) + rng.choice(TEXTS)
-    if kind == 3:
-        return b'ask ' + rng.choice(NAMES)
-    return rng.choice(BARE_COMMANDS if kind < 7 else BLUNDERS + ODD_EDITS)
+    if kind < 5:
+        return rng.choice([b'ask ', b'why ']) + name(rng)
+    return rng.choice(BARE_COMMANDS if kind < 8 else BLUNDERS + ODD_EDITS)
 
 
 def orderly(rng, program, words):
@@ -89,7 +96,7 @@ def orderly(rng, program, words):
         token = rng.choice(TOKENS) + rng.choice([b'', b'', rng.choice(TOKENS + WORDS)])
         return token + b'\n' + b'\n'.join(rng.choice([rng.choice(NAMES), scrap(rng)[:50]]) for _ in range(rng.randrange(9)))
     text = body(rng, MATCHERS) + b';\n' if words else script(rng)
-    lines = [rng.choice(NAMES) for _ in range(rng.randrange(30))]
+    lines = [name(rng) for _ in range(rng.randrange(30))]
     if program == 'trial_desk':
         lines = [b'counts'] * rng.randrange(2) + [command(rng) for _ in range(rng.randrange(20))]
     return text + b'%%\n' + b'\n'.join(lines) + rng.choice([b'', b'\n'])
@@ -113,7 +120,8 @@ def modes(program):
 def sample(program, words):
     """An input that is accepted, with all commands of an export list, or the one that the gate runs."""
     if words:
-        return b'{ haze_*; };\n%%\nlines\nask main\nsymbol! main\nadd 0 0 0 b\nstrike 0\nask main\ncounts\nundo\ndump\nundo\nundo\nundo\nsettle\n?'
+        return (b'{ haze_*; };\n%%\nlines\nask main\nsymbol! main\nadd 0 0 1 b\nwhy main\nwhy x@V\tb\nstrike 0\nask main\ncounts\nundo\nwhy haze_\ndump\nundo\n'
+                b'undo\nundo\nsettle\n?')
     return contents('crates', program, 'stdin')
 
 
@@ -130,6 +138,8 @@ def limits(program, words):
         yield Run((b'{' if words else b'V {') + b'a*;\n' * n + b'};\n' + behind, words, verdict=0 if n == most else 8)
     for n in (1023, 1024):
         yield Run(b''.join(b'V%d {};\n' % k for k in range(n)) + behind, words, verdict=2 if words else 0 if n == 1023 else 8)
+    # a long name that is printed often
+    yield Run(b'V' * 30000 + b' { a; };\n%%\n' + b'why a\na\n' * 100, words, verdict=2 if words else 0)
     yield Run(b'{ a; };\n%%\n' + b'add 0 0 0 a\n' * 1025 + b'counts\n', words, verdict=0)
 
 

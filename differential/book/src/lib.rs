@@ -1,6 +1,7 @@
 //! A book in lent buffers: the proved library's functions over it (`ours`), document 01 read slowly,
-//! its row 14 (`fault`), its ranking (`ranking`), its openings and edits (`trial`, over `reader` and
-//! `storing`), which texts have runs of stars (`runs`), and a book apart from buffers, which can be laid
+//! its row 14 (`fault`), its ranking (`ranking`), with what request 03 tells of the line that decides
+//! (`why`), its openings and edits (`trial`, over `reader` and `storing`), where the tokens of a text
+//! stand and which are runs of stars (`tokens`, `runs`), and a book apart from buffers, which can be laid
 //! out (`model`); and what random books, texts and names are made of (`changes`, `texts`).
 
 pub mod buffers;
@@ -14,7 +15,9 @@ pub mod reader;
 pub mod runs;
 pub mod storing;
 pub mod texts;
+pub mod tokens;
 pub mod trial;
+pub mod why;
 
 /// The kinds of a book.
 pub mod kind {

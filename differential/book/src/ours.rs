@@ -1,6 +1,7 @@
 //! The proved library's exported functions over a book. A slice is a pointer, then a length.
 
-use crate::buffers::Buffers;
+use crate::buffers::{Buffers, Noise};
+use crate::why::NUMBERS;
 use reading_host::Source;
 
 /// Declares functions over a lent book, with what each takes before the book, and behind it.
@@ -51,6 +52,10 @@ functions! { const:
     tuno_contains(;
         raw: *const u8, raw_length: usize, demangled: *const u8, demangled_length: usize,
         out: *mut u32, out_length: usize
+    ) -> u32
+    tuno_why(;
+        raw: *const u8, raw_length: usize, demangled: *const u8, demangled_length: usize,
+        has_wanted: u32, wanted: *const u8, wanted_length: usize, out: *mut u32, out_length: usize
     ) -> u32
 }
 
@@ -190,4 +195,45 @@ pub fn contains(book: &Buffers, name: Name) -> Result<u32, u64> {
         demangled.as_ptr(),
         demangled.len()
     )
+}
+
+/// What decides over the name, in seven numbers, or a refusal's number.
+pub fn why(book: &Buffers, name: Name, wanted: Option<&[u8]>) -> Result<[u32; NUMBERS], u64> {
+    const BEFORE: [u32; NUMBERS + 1] = [u32::NOISE; NUMBERS + 1];
+    let mut out = BEFORE;
+    let has_wanted = u32::from(wanted.is_some());
+    let number = why_into(book, name, has_wanted, wanted.unwrap_or_default(), &mut out);
+    let (told, behind) = out.split_at(NUMBERS);
+    assert!(
+        behind == &BEFORE[NUMBERS..],
+        "a number behind the seven was written"
+    );
+    if number == 0 {
+        return Ok(told.try_into().expect("they are seven"));
+    }
+    assert!(out == BEFORE, "refused numbers were written");
+    Err(number)
+}
+
+/// The same into any room: 0, or a refusal's number.
+pub fn why_into(
+    book: &Buffers,
+    name: Name,
+    has_wanted: u32,
+    wanted: &[u8],
+    out: &mut [u32],
+) -> u64 {
+    let Name { raw, demangled } = name;
+    u64::from(call!(tuno_why(;
+        book.as_ptr();
+        raw.as_ptr(),
+        raw.len(),
+        demangled.as_ptr(),
+        demangled.len(),
+        has_wanted,
+        wanted.as_ptr(),
+        wanted.len(),
+        out.as_mut_ptr(),
+        out.len()
+    )))
 }

@@ -4,8 +4,9 @@
 use crate::buffers::Buffers;
 use crate::limit;
 use crate::ours::{self, Name};
+use crate::why::NUMBERS;
 use host::refusal;
-use reading_host::asked::{demangler_answers, List, Script, Symbol};
+use reading_host::asked::{demangler_answers, First, List, Script, Symbol};
 use reading_host::Source;
 
 /// Why a question lies outside the domain of equality. It must be refused there.
@@ -90,6 +91,11 @@ impl Question {
             What::Membership => ours::contains(book, name),
         }
     }
+
+    /// The library's answer to why, of the same name and wanted version, whatever is asked of them.
+    pub fn why(&self, book: &Buffers) -> Result<[u32; NUMBERS], u64> {
+        ours::why(book, self.name(), self.wanted.as_deref())
+    }
 }
 
 /// What the Rust holds of a text.
@@ -118,8 +124,7 @@ impl<'t> Held<'t> {
     /// The Rust's answer to a question within the domain, in the library's numbers. For the Rust kind,
     /// locality is document 01's: "global for listed names, else local".
     pub fn answer(&self, question: &Question) -> Result<u32, u64> {
-        let text = |name| std::str::from_utf8(name).expect("names are UTF-8 here");
-        demangler_answers(question.demangled.as_deref().map(text));
+        demangled_as(question);
         let symbol = Symbol::new(&question.raw);
         match (self, question.what) {
             (Held::Script(script), What::Version) => {
@@ -138,4 +143,38 @@ impl<'t> Held<'t> {
             _ => Err(refusal::WRONG_KIND),
         }
     }
+
+    /// Which line of this node, section, language and class matches a name first, by the Rust's own
+    /// sets, patterns and marks, as far as they tell. An export list is the globals of node 0, and the
+    /// Rust kind's exact globals are those that are listed; of its locals the Rust keeps nothing.
+    pub fn first(
+        &self,
+        [node, section, language]: [usize; 3],
+        class: u64,
+        name: &[u8],
+    ) -> Option<First> {
+        match self {
+            Held::Script(script) => script.first([node, section, language], class, name),
+            Held::List(list) if section == 0 => list.first(language, class, name),
+            Held::List(_) => None,
+        }
+    }
+
+    /// Which node of a script decides over a question's name, and by which section, by `find_match`.
+    /// The Rust kind has no nodes.
+    pub fn deciding(&self, question: &Question) -> Option<(usize, usize)> {
+        match self {
+            Held::Script(script) => {
+                demangled_as(question);
+                script.deciding(&Symbol::new(&question.raw))
+            }
+            Held::List(_) => None,
+        }
+    }
+}
+
+/// Has the demangler answer the question's demangled name.
+fn demangled_as(question: &Question) {
+    let text = |name| std::str::from_utf8(name).expect("names are UTF-8 here");
+    demangler_answers(question.demangled.as_deref().map(text));
 }

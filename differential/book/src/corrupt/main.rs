@@ -8,21 +8,27 @@
 //! document 01's rules, on a model apart from buffers, and laid out again. Such a book must be one,
 //! by both. Then, a hundred times for each, a copy of its buffers is changed, and both are asked:
 //! the count of versions and the count of parents are either both refused 14, or are what the model
-//! that is read out of the buffers says (13 for an export list). Which kinds of change left a book
-//! and which did not is printed at the end.
+//! that is read out of the buffers says (13 for an export list). So is why of a name of the whole book,
+//! with any flag for a wanted version and into any room, which is asked for last (8); a refusal leaves the
+//! room as it was. Which kinds of change left a book and which did not is printed at the end.
 
-use book::buffers::{Buffers, Rooms};
+use book::buffers::{Buffers, Lent, Noise, Rooms};
 use book::changes::CHANGES;
 use book::fault::fault;
 use book::model::{Line, Model, Node};
-use book::{kind, limit, ours};
+use book::ours::{self, Name};
+use book::questions::{Question, What};
+use book::ranking::Ranking;
+use book::why::NUMBERS;
+use book::{kind, limit, texts};
 use differential::command::Program;
-use differential::inputs::Random;
+use differential::inputs::{long, Random};
 use differential::report::cut;
 use differential::tally::Tally;
 use host::{class, refusal};
 use reading::scripts::{self, Kind};
 use std::collections::BTreeMap;
+use std::fmt::{self, Debug, Formatter};
 use std::process::ExitCode;
 
 /// How often something is changed in a copy of each book.
@@ -47,13 +53,15 @@ fn compared(mut random: Random, rounds: u64) -> bool {
         edited: 0,
         changed: vec![[0; 2]; CHANGES.len()],
         faults: BTreeMap::new(),
+        whys: BTreeMap::new(),
     };
     comparison.phase("books, whole and changed", |comparison| {
         for _ in 0..rounds {
             let book = good(&mut random);
-            comparison.whole(&book);
+            let model = Model::of(&book);
+            comparison.whole(&book, &Asked::any(&mut random, &model));
             for _ in 0..TIMES {
-                comparison.change(&mut random, &book);
+                comparison.change(&mut random, &book, &model);
             }
         }
     });
@@ -70,6 +78,8 @@ struct Comparison {
     changed: Vec<[u64; 2]>,
     /// How many were refused for each reason.
     faults: BTreeMap<&'static str, u64>,
+    /// How often why was answered by each number, and how often with room that is too short besides.
+    whys: BTreeMap<u64, [u64; 2]>,
 }
 
 impl Comparison {
@@ -95,28 +105,29 @@ impl Comparison {
         for (words, times) in &self.faults {
             println!("| {words} | {times} |");
         }
+        println!("\n| why | times | with too little room |\n|---|--:|--:|");
+        for (number, [times, short]) in &self.whys {
+            println!("| {number} | {times} | {short} |");
+        }
         println!();
         self.tally.finish()
     }
 
     /// A book that nothing is wrong with.
-    fn whole(&mut self, book: &Buffers) {
+    fn whole(&mut self, book: &Buffers, asked: &Asked) {
         let counts = book.counted();
         self.kinds[counts.kind as usize] += 1;
         self.edited += u64::from(counts.edits > 0);
         let fault = fault(book);
-        let agree = fault.is_none() && answers(book) == wanted(book);
+        let got = answers(book, asked);
+        let agree = fault.is_none() && got == wanted(book, asked);
         self.tally.judge(None, agree, || {
-            format!(
-                "a whole book: {fault:?}, {:?}, {}",
-                answers(book),
-                told(book)
-            )
+            format!("a whole book: {fault:?}, {got:?}, {}", told(book, asked))
         });
     }
 
     /// One change. A kind that finds nothing to change, or changes nothing, is drawn again.
-    fn change(&mut self, random: &mut Random, whole: &Buffers) {
+    fn change(&mut self, random: &mut Random, whole: &Buffers, model: &Model) {
         let (number, book) = loop {
             let number = random.below(CHANGES.len());
             let mut book = whole.clone();
@@ -125,19 +136,23 @@ impl Comparison {
                 break (number, book);
             }
         };
-        let refused = self.held(&book, CHANGES[number].words);
+        let asked = Asked::any(random, model);
+        let refused = self.held(&book, CHANGES[number].words, &asked);
         self.changed[number][usize::from(!refused)] += 1;
     }
 
     /// Holds the library's answers against the plain reading; true when that is 14.
-    fn held(&mut self, book: &Buffers, words: &str) -> bool {
+    fn held(&mut self, book: &Buffers, words: &str, asked: &Asked) -> bool {
         let fault = fault(book);
-        let (got, want) = (answers(book), wanted(book));
+        let (got, want) = (answers(book, asked), wanted(book, asked));
+        let why = self.whys.entry(want.why).or_default();
+        why[0] += 1;
+        why[1] += u64::from(asked.room < NUMBERS);
         self.tally.judge(None, got == want, || {
             let fault = fault.unwrap_or("a book");
             format!(
-                "{words}: {fault}, and the answers are {got:?}: {}",
-                told(book)
+                "{words}: {fault}, and the answers are {got:?}, and not {want:?}: {}",
+                told(book, asked)
             )
         });
         if let Some(fault) = fault {
@@ -147,21 +162,131 @@ impl Comparison {
     }
 }
 
-/// The library's two counts.
-fn answers(book: &Buffers) -> [Result<u32, u64>; 2] {
-    [ours::version_count(book), ours::parent_count(book)]
+/// A question of why, and how it is given.
+struct Asked {
+    question: Question,
+    has_wanted: u32,
+    /// Nobody looks at it where the flag is 0.
+    wanted: Vec<u8>,
+    room: usize,
+}
+
+impl Asked {
+    fn new(raw: Vec<u8>) -> Self {
+        Self {
+            question: Question {
+                what: What::Version,
+                raw,
+                demangled: None,
+                wanted: None,
+            },
+            has_wanted: 0,
+            wanted: Vec::new(),
+            room: NUMBERS,
+        }
+    }
+
+    /// Of a name of the book; at times a name or a version is too long, and the room too short.
+    fn any(random: &mut Random, book: &Model) -> Self {
+        let mut name = |most: usize| match random.one_in(32) {
+            true => long([b"", b"f", b""], most + random.below(2)),
+            false => texts::name(random, book),
+        };
+        let [raw, demangled] = [limit::RAW, limit::DEMANGLED].map(&mut name);
+        let demangled = (!random.one_in(3)).then_some(demangled);
+        let wanted = match random.one_in(16) {
+            true => long([b"", b"A", b""], limit::WANTED + random.below(2)),
+            false => texts::wanted(random, book).unwrap_or_default(),
+        };
+        let has_wanted = match random.below(8) {
+            0..=4 => 0,
+            5 | 6 => 1,
+            _ => random.pick(&[2, 256, u32::MAX]),
+        };
+        let room = match random.below(4) {
+            0 => random.below(NUMBERS),
+            1 => NUMBERS + random.below(4),
+            _ => NUMBERS,
+        };
+        let question = Question {
+            demangled,
+            wanted: (has_wanted != 0).then(|| wanted.clone()),
+            ..Asked::new(raw).question
+        };
+        Self {
+            question,
+            has_wanted,
+            wanted,
+            room,
+        }
+    }
+}
+
+/// The two counts, and why: its number, and what it leaves in the room.
+#[derive(PartialEq)]
+struct Answers {
+    counts: [Result<u32, u64>; 2],
+    why: u64,
+    out: Lent<u32>,
+}
+
+impl Debug for Answers {
+    fn fmt(&self, to: &mut Formatter) -> fmt::Result {
+        write!(
+            to,
+            "{:?}, why {} {:?}",
+            self.counts,
+            self.why,
+            &self.out[..]
+        )
+    }
+}
+
+/// A room with these numbers at its front, and noise behind them.
+fn room(numbers: &[u32], room: usize) -> Lent<u32> {
+    let mut values = numbers.to_vec();
+    values.resize(room, u32::NOISE);
+    Lent::holding(&values, room)
+}
+
+/// The library's.
+fn answers(book: &Buffers, asked: &Asked) -> Answers {
+    let mut out = room(&[], asked.room);
+    let name = asked.question.name();
+    Answers {
+        counts: [ours::version_count(book), ours::parent_count(book)],
+        why: ours::why_into(book, name, asked.has_wanted, &asked.wanted, &mut out),
+        out,
+    }
 }
 
 /// What they must be.
-fn wanted(book: &Buffers) -> [Result<u32, u64>; 2] {
-    if fault(book).is_some() {
-        return [Err(refusal::NO_BOOK); 2];
+fn wanted(book: &Buffers, asked: &Asked) -> Answers {
+    let (counts, why) = match fault(book) {
+        Some(_) => ([Err(refusal::NO_BOOK); 2], Err(refusal::NO_BOOK)),
+        None => {
+            let model = Model::of(book);
+            let why = match Ranking::new(&model).why(&asked.question) {
+                Ok(_) if asked.room < NUMBERS => Err(refusal::NO_ROOM),
+                why => why,
+            };
+            (model.asked_counts(), why)
+        }
+    };
+    Answers {
+        counts,
+        why: why.err().unwrap_or(0),
+        out: match why {
+            Ok(why) => room(&why.numbers(), asked.room),
+            Err(_) => room(&[], asked.room),
+        },
     }
-    Model::of(book).asked_counts()
 }
 
-fn told(book: &Buffers) -> String {
-    cut(format!(
+fn told(book: &Buffers, asked: &Asked) -> String {
+    let shown = |name: &[u8]| cut(name.escape_ascii().to_string());
+    let Name { raw, demangled } = asked.question.name();
+    let book = cut(format!(
         "counts {:?}, nodes {:?}, names {:?}, lines {:?}, pool {:?}, journal {:?}",
         &book.counts[..],
         &book.nodes[..],
@@ -169,7 +294,15 @@ fn told(book: &Buffers) -> String {
         &book.lines[..],
         &book.pool[..],
         &book.journal[..],
-    ))
+    ));
+    format!(
+        "{book}; why of `{}`, `{}`, wanted {} `{}`, into {}",
+        shown(raw),
+        shown(demangled),
+        asked.has_wanted,
+        shown(&asked.wanted),
+        asked.room
+    )
 }
 
 /// A random book, in rooms with a little to spare, which is not always a whole row.
@@ -294,7 +427,7 @@ fn limits(comparison: &mut Comparison) {
             pool: needs.pool + 3,
             journal: needs.journal + 5,
         });
-        let refused = comparison.held(&book, words);
+        let refused = comparison.held(&book, words, &Asked::new(b"haze".to_vec()));
         comparison.tally.judge(None, refused != within, || {
             format!("{words}: {:?} {:?}", book.counted(), fault(&book))
         });

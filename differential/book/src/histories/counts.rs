@@ -7,10 +7,11 @@ use book::reader::Refused;
 use book::runs::text_has_run;
 use book::storing::{has_run, trimmed};
 use book::trial::BUFFERS;
+use book::why::{Reason, Why, NUMBERS};
 use reading_host::Source;
 
 /// The calls, by their numbers.
-const CALLS: [&str; 12] = [
+const CALLS: [&str; 13] = [
     "open a version script",
     "open an export list",
     "add",
@@ -23,6 +24,7 @@ const CALLS: [&str; 12] = [
     "contains",
     "version count",
     "parent count",
+    "why",
 ];
 
 /// Done, and the refusals.
@@ -36,6 +38,8 @@ pub struct Counts {
     full: [[u64; 2]; BUFFERS.len()],
     /// Calls with a run of stars in a glob, and how many of them were done.
     runs: [u64; 2],
+    /// What was named: an opened line, one that was added, no line, the wanted version.
+    named: [u64; 4],
     /// Lookups that were held against the ranking, and against the Rust.
     pub with_model: u64,
     pub with_rust: u64,
@@ -78,6 +82,19 @@ impl Counts {
         self.answered(call, answer.err().unwrap_or(0));
     }
 
+    pub fn why(&mut self, answer: Result<[u32; NUMBERS], u64>) {
+        self.answered(12, answer.err().unwrap_or(0));
+        if let Some(why) = answer.ok().and_then(Why::of) {
+            let named = match why {
+                Why::Line(Reason { offset: 0, .. }) => 1,
+                Why::Line(_) => 0,
+                Why::NoLine => 2,
+                Why::Wanted => 3,
+            };
+            self.named[named] += 1;
+        }
+    }
+
     pub fn counted(&mut self, answers: [Result<u32, u64>; 2]) {
         for (call, answer) in (10..).zip(answers) {
             self.answered(call, answer.err().unwrap_or(0));
@@ -115,6 +132,10 @@ impl Counts {
         );
         let [runs, done] = self.runs;
         println!("calls with a run of stars: {runs}, of which {done} were done");
+        let [opened, added, nothing, wanted] = self.named;
+        println!(
+            "why: an opened line {opened}, an added one {added}, no line {nothing}, the wanted version {wanted}"
+        );
         println!(
             "lookups held against the model: {}; against the Rust, over the lines left standing: {}",
             self.with_model, self.with_rust

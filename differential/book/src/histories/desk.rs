@@ -146,15 +146,23 @@ impl Desk {
             .iter()
             .map(|asked| asked.ours(&self.lent))
             .collect();
+        let whys: Vec<_> = questions
+            .iter()
+            .map(|asked| asked.why(&self.lent))
+            .collect();
         expect(self.lent == before, || "a lookup has written".to_string())?;
         counts.counted(counted);
-        for (question, &answer) in questions.iter().zip(&answers) {
+        for ((question, &answer), &why) in questions.iter().zip(&answers).zip(&whys) {
             counts.asked(question, answer);
+            counts.why(why);
         }
         let Some(Trial { book, .. }) = &self.trial else {
+            let mut numbers = whys.iter().map(|why| why.err());
             let no_book = |answer: &Result<u32, u64>| *answer == Err(refusal::NO_BOOK);
-            return expect(counted.iter().chain(&answers).all(no_book), || {
-                format!("of what is no book the answers are {counted:?} and {answers:?}")
+            let all = counted.iter().chain(&answers).all(no_book)
+                && numbers.all(|number| number == Some(refusal::NO_BOOK));
+            return expect(all, || {
+                format!("of what is no book the answers are {counted:?}, {answers:?} and {whys:?}")
             });
         };
 
@@ -163,11 +171,30 @@ impl Desk {
             format!("the counts are {counted:?}, and not {want:?}")
         })?;
         let ranking = Ranking::new(book);
-        for (question, &answer) in questions.iter().zip(&answers) {
+        for ((question, &answer), &why) in questions.iter().zip(&answers).zip(&whys) {
+            let asked = || Step::Ask(vec![question.clone()]);
             let want = ranking.ranked(question).answer;
             expect(answer == want, || {
-                let asked = Step::Ask(vec![question.clone()]);
-                format!("{asked}: expected {want:?}, got {answer:?}")
+                format!("{}: expected {want:?}, got {answer:?}", asked())
+            })?;
+            let named = ranking.why(question);
+            let want = named.map(|named| named.numbers());
+            expect(why == want, || {
+                format!("why of {}: expected {want:?}, got {why:?}", asked())
+            })?;
+            // A question of the other kind, and one of a version that is wanted, it does not answer.
+            let gives = named
+                .ok()
+                .and_then(|why| why.gives(book.kind, question.what));
+            let read_off = match (answer, gives) {
+                (Ok(answer), Some(given)) => answer == given,
+                _ => true,
+            };
+            expect(read_off, || {
+                format!(
+                    "{}: {answer:?}, and the named line gives {gives:?}",
+                    asked()
+                )
             })?;
             counts.with_model += 1;
         }

@@ -246,6 +246,9 @@ pub fn ask(random: &mut Random, before: Option<&Model>, after: Option<&Model>) -
         if source == Source::Script && random.one_in(3) {
             ask(What::Version, texts::wanted(random, book));
         }
+        if source == Source::ExportList && random.one_in(24) {
+            ask(What::Membership, texts::wanted(random, book));
+        }
         if random.one_in(24) {
             let what = random.pick(&[What::Version, What::Locality, What::Membership]);
             ask(what, None);

@@ -7,13 +7,15 @@
 //! strikes, undoes, settles and adds symbols, at times what must be refused. After each call the six
 //! buffers must be, number for number and byte for byte, what the model lays out, and the number what it
 //! answers; then the counts and some names are asked, mostly of lines that the call has changed, and held
-//! against document 01's ranking. The model (../trial.rs, ../reader.rs, ../storing.rs) is written from
-//! document 01, document 02's requests 01 and 02 and docs/DECISIONS.md; its reading tells each line's
-//! offset, and its undo goes back to the book before, which it has kept whole.
+//! against document 01's ranking, which also says which line must be named where the library is asked
+//! why. The model (../trial.rs, ../reader.rs, ../storing.rs, ../ranking.rs) is written from document 01,
+//! document 02's requests 01 to 03 and docs/DECISIONS.md; its reading tells each line's offset, and its
+//! undo goes back to the book before, which it has kept whole.
 //!
 //! Where the lines left standing can be written as a text, the published Rust reads that text and is
-//! asked for the same names. Left out, and counted by the cause, are books with a line that no text has
-//! there, questions outside the domain of equality, and the locality of the Rust kind, which it has not.
+//! asked for the same names; its answers must be ours, and ours what the named line gives. Left out, and
+//! counted by the cause, are books with a line that no text has there, questions outside the domain of
+//! equality, and the locality of the Rust kind, which it has not.
 //!
 //! A third of the histories ends with the buffers changed. Where they are no book any more, by the plain
 //! reading of row 14 (../fault.rs), every call must answer 14 and change nothing.

@@ -1,7 +1,8 @@
 //! One question at a time: what the published Rust answers, what document 01's ranking gives, what the
-//! proved library answers, and whether they agree.
+//! proved library answers, and whether they agree; then which line it names (`named`).
 
 use crate::coverage::Coverage;
+use crate::named::named;
 use book::buffers::{Buffers, Rooms};
 use book::limit;
 use book::model::Model;
@@ -21,13 +22,15 @@ const RUN: usize = Outside::REASONS.len();
 
 /// A text that both sides have opened. One with a run of stars the Rust may refuse.
 pub struct Opened<'t> {
-    held: Option<Held<'t>>,
+    pub source: Source,
+    pub text: &'t [u8],
+    pub held: Option<Held<'t>>,
     pub runs: bool,
     pub model: Model,
-    book: Buffers,
+    pub book: Buffers,
     /// The same book, whose lines have other offsets.
-    elsewhere: Buffers,
-    ranking: Ranking,
+    pub elsewhere: Buffers,
+    pub ranking: Ranking,
 }
 
 /// Opens a text on both sides; nothing where one of them refuses it, but for the Rust and a run of
@@ -46,6 +49,8 @@ pub fn opened(source: Source, text: &[u8]) -> Option<Opened<'_>> {
     let ranking = Ranking::new(&model);
     let elsewhere = elsewhere(&model).laid(book.rooms());
     Some(Opened {
+        source,
+        text,
         held,
         runs,
         model,
@@ -114,7 +119,7 @@ impl Opened<'_> {
     fn compared(
         &self,
         question: &Question,
-        coverage: Option<&mut Coverage>,
+        mut coverage: Option<&mut Coverage>,
     ) -> Result<Option<usize>, String> {
         let outside = question.outside().map(|reason| reason as usize);
         let outside = outside.or(self.runs.then_some(RUN));
@@ -126,8 +131,8 @@ impl Opened<'_> {
                 format!("the Rust answers {rust:?}, the ranking gives {want:?}")
             })?;
         }
-        if let Some(coverage) = coverage {
-            coverage.answered(self.model.kind, question, &ranked.by);
+        if let Some(coverage) = coverage.as_deref_mut() {
+            coverage.answered(&self.model, question, &ranked.by);
         }
         let got = question.ours(&self.book);
         expect(got == want, || format!("expected {want:?}, got {got:?}"))?;
@@ -135,6 +140,10 @@ impl Opened<'_> {
         expect(got == want, || {
             format!("expected {want:?}, got {got:?} of lines with other offsets")
         })?;
+        let named = named(self, question)?;
+        if let Some(coverage) = coverage {
+            coverage.named(self.model.kind, &named);
+        }
         Ok(outside)
     }
 }

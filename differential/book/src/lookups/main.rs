@@ -1,5 +1,6 @@
 //! Compares what the proved library answers of names with what the published Rust answers: version,
-//! locality and membership, over opened version scripts and export lists.
+//! locality and membership, over opened version scripts and export lists; and which line it names as the
+//! one that decides.
 //!
 //!     lookups [--seed N] [--rounds N]   compare; exit status 1 when anything differs
 //!     lookups sample FILE [--seed N]    write a sample of the Rust's answers to FILE
@@ -14,14 +15,28 @@
 //! a question of the other kind is refused 13, and that the book whose lines have other offsets answers
 //! each name alike.
 //!
+//! Of each name, with and without a wanted version, the library is asked why (named.rs): number, class,
+//! node, section, language and offset of the line, or no line, the wanted version, or a refusal, must be
+//! those of the ranking. The Rust has no such question. Held against it is that its own answer is what the
+//! named line gives (its node the index, its section the locality, and both are what `find_match` finds);
+//! that at the first place of the ranking at which one of its sets, patterns and marks has the name, the
+//! named line is the lowest there; and the text in which the line's token, found by its offset, is
+//! replaced by one that matches neither name: the Rust's answers over that text must be the library's over
+//! the book with that line struck, and what the line named next gives, so that they change where no line
+//! of that version and locality is next. Of the Rust kind a strike is refused 13; there the library opens
+//! that text too. What the Rust does not tell: where escaped lines, globs and `*` stand in the text, which
+//! of several lines of one rank it meant (its sets and patterns say which match, and the numbers are those
+//! of the opened book, whose order `differential/run book` compares), and of the Rust kind which local `*`.
+//!
 //! Outside the domain of equality lie names over the limit and names that are not UTF-8, where we must
 //! refuse, and texts with a run of stars outside a bracket, where the ranking over the lines that we
-//! keep tells the answer; how often the Rust, where it takes such a text, answers otherwise is printed.
-//! Of the texts with comments and odd tokens, those that are not opened by both are left out, as are
-//! those with runs that we refuse: `differential/run book` compares them.
+//! keep tells the answer and the line; how often the Rust, where it takes such a text, answers otherwise
+//! is printed. Of the texts with comments and odd tokens, those that are not opened by both are left out,
+//! as are those with runs that we refuse: `differential/run book` compares them.
 
 mod compare;
 mod coverage;
+mod named;
 mod sample;
 
 use book::model::Model;
@@ -96,11 +111,20 @@ fn compared(mut random: Random, rounds: u64) -> bool {
     comparison.finish()
 }
 
-/// The questions of some names.
+/// The questions of some names; of a list the last one also where a version is wanted, which is nothing
+/// to ask of a list but why.
 fn many(random: &mut Random, source: Source, book: &Model) -> Vec<Question> {
-    (0..NAMES)
+    let mut all: Vec<Question> = (0..NAMES)
         .flat_map(|_| questions(random, source, book))
-        .collect()
+        .collect();
+    if let (Source::ExportList, Some(last)) = (source, all.last().cloned()) {
+        let wanted = ["", "A"].map(|wanted| Some(wanted.as_bytes().to_vec()));
+        all.extend(wanted.map(|wanted| Question {
+            wanted,
+            ..last.clone()
+        }));
+    }
+    all
 }
 
 /// The questions of one name: of a list whether it has it, of a script its version, with and

@@ -4,10 +4,13 @@
 use book::buffers::{Buffers, Rooms};
 use book::fault::fault;
 use book::model::{Line, Model};
+use book::ours::{self, Name};
+use book::questions::{Question, What};
+use book::ranking::Ranking;
 use book::reader::Refused;
 use book::runs::text_has_run;
 use book::trial::Trial;
-use book::{kind, limit, ours};
+use book::{kind, limit};
 use differential::domain::shape;
 use differential::inputs::Random;
 use differential::report::{expect, smallest};
@@ -160,6 +163,10 @@ impl Comparison {
 
     /// Counts that are not six: refused 8, behind 1 for the text, and 14 where a book is asked for.
     pub fn not_six(&mut self, text: &[u8], counts: usize) {
+        let name = Name {
+            raw: b"a",
+            demangled: b"a",
+        };
         for source in [Source::Script, Source::ExportList] {
             let book = &mut self.openings.large;
             book.renew(counts, Rooms::ample(text.len()));
@@ -168,7 +175,8 @@ impl Comparison {
                 && book.are_zero()
                 && book.untouched_beside()
                 && ours::version_count(book) == Err(refusal::NO_BOOK)
-                && ours::parent_count(book) == Err(refusal::NO_BOOK);
+                && ours::parent_count(book) == Err(refusal::NO_BOOK)
+                && ours::why(book, name, None) == Err(refusal::NO_BOOK);
             self.tally.judge(None, agree, || {
                 format!("{source:?} with {counts} counts: {answer}")
             });
@@ -309,7 +317,32 @@ fn opened(source: Source, text: &[u8], rooms: Rooms, book: &mut Buffers) -> Resu
     expect(counted == want, || {
         format!("the counts are {counted:?}, and not {want:?}")
     })?;
+    named(book, &model)?;
     Ok(0)
+}
+
+/// Asks why of the names that the first and the last line have as their bytes: the line that document
+/// 01's ranking has named, or what is wrong.
+fn named(book: &Buffers, model: &Model) -> Result<(), String> {
+    let lines = [model.lines.first(), model.lines.last()];
+    let ranking = Ranking::new(model);
+    for line in lines.into_iter().flatten() {
+        let question = Question {
+            what: What::Version,
+            raw: line.bytes.clone(),
+            demangled: None,
+            wanted: None,
+        };
+        let [got, want] = [
+            question.why(book),
+            ranking.why(&question).map(|why| why.numbers()),
+        ];
+        expect(got == want, || {
+            let name = line.bytes.escape_ascii();
+            format!("why of `{name}`: expected {want:?}, got {got:?}")
+        })?;
+    }
+    Ok(())
 }
 
 /// Whether the book is what the Rust keeps, or what is not.

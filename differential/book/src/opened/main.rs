@@ -22,8 +22,10 @@
 //! Besides, of our side alone: what was opened is a book, by the library's own check and by the
 //! plain reading of row 14 in this crate; a refused opening leaves all lent memory zero; nothing
 //! beside the lent memory is written; in small rooms the answer is 8 exactly where what the text needs
-//! does not fit; and the number and the place of every refusal, and the book, with the offset of every
-//! line, are those of the slow model of document 01 in this crate (../trial.rs).
+//! does not fit; the number and the place of every refusal, and the book, with the offset of every line,
+//! are those of the slow model of document 01 in this crate (../trial.rs); and why, of the names that the
+//! first and the last line have as their bytes, is told as document 01's ranking tells it (../ranking.rs).
+//! The Rust is asked for names in `differential/run lookups`.
 
 mod compare;
 

@@ -1,6 +1,6 @@
 //! What the published Rust answers of a symbol's name, over a script or an export list that it holds.
 
-use crate::export_list::ExportList;
+use crate::export_list::{self, ExportList};
 use crate::hash::PreHashed;
 use crate::input_data::ScriptData;
 use crate::linker_script::if_it_ends;
@@ -22,13 +22,25 @@ pub fn demangler_answers(name: Option<&str>) {
     symbolic_demangle::answer(name);
 }
 
-/// A version script that is accepted.
-pub struct Script<'t>(VersionScript<'t>);
+/// Which of the lines of one node, section, language and class matches a name first, as far as the Rust
+/// tells it.
+#[derive(Clone, Copy, Debug, PartialEq, Eq)]
+pub enum First {
+    /// An exact one: where its token starts in the text.
+    At(usize),
+    /// A glob: its number among these lines.
+    Number(usize),
+    /// An escaped one, or a `*`: no more than that there is one.
+    Untold,
+}
+
+/// A version script that is accepted, and its text.
+pub struct Script<'t>(VersionScript<'t>, &'t [u8]);
 
 impl<'t> Script<'t> {
     pub fn parse(text: &'t [u8]) -> Option<Self> {
         let parse = || VersionScript::parse(ScriptData { raw: text }).ok();
-        if_it_ends(parse)?.map(Self)
+        if_it_ends(parse)?.map(|script| Self(script, text))
     }
 
     /// The counts of versions and of parents.
@@ -48,6 +60,11 @@ impl<'t> Script<'t> {
         version_script::probe::deciding(&self.0, &symbol.0)
     }
 
+    /// Which line of this node, section, language and class matches a name first.
+    pub fn first(&self, place: [usize; 3], class: u64, name: &[u8]) -> Option<First> {
+        version_script::probe::first_of_script(self.1, &self.0, place, class, name)
+    }
+
     /// The globals that a script of the Rust kind lists.
     pub fn listed(&self) -> Option<&[&'t [u8]]> {
         match &self.0 {
@@ -57,13 +74,18 @@ impl<'t> Script<'t> {
     }
 }
 
-/// An export list that is accepted.
-pub struct List<'t>(ExportList<'t>);
+/// An export list that is accepted, and its text.
+pub struct List<'t>(ExportList<'t>, &'t [u8]);
 
 impl<'t> List<'t> {
     pub fn parse(text: &'t [u8]) -> Option<Self> {
         let parse = || ExportList::parse(ScriptData { raw: text }).ok();
-        if_it_ends(parse)?.map(Self)
+        if_it_ends(parse)?.map(|list| Self(list, text))
+    }
+
+    /// Which line of this language and class matches a name first.
+    pub fn first(&self, language: usize, class: u64, name: &[u8]) -> Option<First> {
+        export_list::probe::first_of_list(self.1, &self.0, language, class, name)
     }
 
     pub fn contains(&self, symbol: &Symbol) -> bool {

@@ -2,14 +2,26 @@
 //! text of `add_symbol`, is read as, and what is kept of it.
 
 use super::*;
+use crate::asked::First;
 use crate::kept::{Kept, KeptNode, Matcher, Node};
 use crate::published::Accepted;
-use crate::version_script::probe::{is_for_meaning, languages, matcher};
+use crate::version_script::probe::{first, is_for_meaning, languages, matcher};
 
 pub(crate) fn list(text: &[u8]) -> Option<Accepted> {
     let list = ExportList::parse(ScriptData { raw: text }).ok()?;
     let matchers = matchers(text).expect("an accepted list is read again");
     Some(accepted(matchers, list))
+}
+
+/// Which line of this language and class matches a name first.
+pub(crate) fn first_of_list(
+    text: &[u8],
+    list: &ExportList,
+    language: usize,
+    class: u64,
+    name: &[u8],
+) -> Option<First> {
+    first(text, &list.0, language, class, name)
 }
 
 /// The matchers in order of reading: the steps of `parse_export_list`, by its own functions.

@@ -2,6 +2,7 @@
 //! as, and what is kept of it.
 
 use super::*;
+use crate::asked::First;
 use crate::kept::{self, Kept, KeptNode, Line, Lines, Matcher};
 use crate::published::Accepted;
 use host::class;
@@ -39,6 +40,53 @@ pub(crate) fn deciding(
     let local = matches!(section, VersionRuleSection::Local);
     assert!(local == script.is_local(name), "it answers alike");
     Some((node, usize::from(local)))
+}
+
+/// Which line of this node, section, language and class matches a name first, by the sets, patterns and
+/// marks in which the Rust holds them; of the Rust kind by the globals that it lists.
+pub(crate) fn first_of_script(
+    text: &[u8],
+    script: &VersionScript,
+    [node, section, language]: [usize; 3],
+    class: u64,
+    name: &[u8],
+) -> Option<First> {
+    match script {
+        VersionScript::Regular(script) => {
+            let VersionBody { globals, locals } = &script.versions.get(node)?.version_body;
+            first(text, [globals, locals][section], language, class, name)
+        }
+        VersionScript::Rust(script) => {
+            let mut listed = script.global.iter();
+            let is_listed = [node, section, language] == [0; 3] && class == class::EXACT;
+            let part = listed.find(|part| is_listed && **part == name)?;
+            Some(First::At(place(text, part)))
+        }
+    }
+}
+
+pub(crate) fn first(
+    text: &[u8],
+    rules: &MatchRules,
+    language: usize,
+    class: u64,
+    name: &[u8],
+) -> Option<First> {
+    let rules = [&rules.general, &rules.cxx][language];
+    let globs = match class {
+        class::EXACT => {
+            // A set keeps the first of equal parts.
+            let part = rules.exact.get(&UnversionedSymbolName::prehashed(name))?;
+            return Some(First::At(place(text, part.bytes())));
+        }
+        class::ESCAPED => return rules.escaped_exact.contains(name).then_some(First::Untold),
+        class::ALL => return rules.matches_all().then_some(First::Untold),
+        class::NON_STAR => &rules.nonstar_globs,
+        _ => &rules.star_globs,
+    };
+    let name = str::from_utf8(name).expect("names are UTF-8 here");
+    let number = globs.iter().position(|glob| glob.matches(name))?;
+    Some(First::Number(number))
 }
 
 /// The nodes in order of reading: the steps of `parse_version_script`, by its own functions, with
