@@ -1,4 +1,4 @@
-// The parts of a text: the script before a line `%%`, and a symbol's line at its first `@`.
+// The parts of a text: the script before a line `%%`, and a symbol's line at its first `@`, or at the first byte of another kind, as a TAB.
 ghost use mathlib.Core.Bool.{_&&_};
 ghost use mathlib.Core.Path.{_≡_};
 ghost use Rattle.input.specs.Splitting.{at-sign, mark, marks, part-before};

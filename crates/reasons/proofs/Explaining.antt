@@ -8,9 +8,10 @@ use mathlib.Core.Option.{Option, some, none}
 use native.Mathlib.Omega.{arith}
 use borrow.Author.Tests.{eq-eqb, ne-eqb}
 use lib.Dec.{eqb}
+use Rattle.lists.proofs.Tests.{both}
 use Rattle.book.specs.Books.{Line, Book, regular, rust}
 use Rattle.book.specs.Edits.{line-at}
-use Rattle.book.specs.Sanity.{bare-star, sane}
+use Rattle.book.specs.Sanity.{bare-star, nodes-good, sane}
 use Rattle.book.proofs.Asking.{viewed-in-range}
 use Rattle.book.proofs.Views.{layout-of-view}
 use Rattle.ranking.specs.Matching.{Name}
@@ -74,6 +75,7 @@ module _ (w : Book) (t : List ℕ) where
       go none f = some-first w k g t f
 
 pub explains : Explains
+unfolding sane
 explains c b w v n e = record {
   ranked = λ k r. (
     λ q. let g = line-is (w .lines) (deciding n w) r (sym (by-ranking w n k e) ∙ q) in
@@ -92,5 +94,5 @@ explains c b w v n e = record {
   always = λ k x f.
       let g = line-there w (n .raw) (rust-deciding (n .raw) (w .lines)) (starred w (n .raw) k (layout-of-view c b w v .3)) in
       (g .0, by-listing w n k x f ∙ g .1);
-  wanted = λ k x f. rw (by-version w n k x f) (tells-known w x);
+  wanted = λ k x f. rw (by-version w n k x f) (tells-known w (both (nodes-good (w .nodes)) _ (layout-of-view c b w v .3) .0) x);
 }

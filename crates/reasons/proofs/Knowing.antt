@@ -6,12 +6,14 @@ use mathlib.Core.Bool.{Bool, true, false, cond, true≢false}
 use mathlib.Core.Logic.{_↔_, _⊎_, inl, inr}
 use mathlib.Core.Option.{Option, some, none}
 use native.Mathlib.Omega.{arith}
+use borrow.Author.Tests.{eqb-true}
 use lib.ListN.{length}
 use Rattle.numbers.specs.Refusals.{unknown-version}
 use Rattle.lists.specs.Same.{same}
 use Rattle.lists.proofs.SameLaws.{same-equal, same-refl}
+use Rattle.lists.proofs.Tests.{both}
 use Rattle.book.specs.Books.{Node, Book}
-use Rattle.book.specs.Sanity.{name-at}
+use Rattle.book.specs.Sanity.{name-at, nodes-good}
 use Rattle.ranking.specs.Walk.{or-else}
 use Rattle.lookups.specs.Lookups.{known, last-named, wanted-version}
 use Rattle.reasons.specs.declared.Why.{Why}
@@ -55,13 +57,27 @@ module _ (t : List ℕ) where
 abbrev Tells-known : Book → List ℕ → Why → Type 0
 Tells-known w v y = ((y ≡ why.Wanted) ↔ Known w v) × ((Known w v → ⊥) → y ≡ why.Refused unknown-version)
 
-pub tells-known : (w : Book) (v : List ℕ) → Tells-known w v (wanted-told (wanted-version (w .nodes) v))
+-- node 0 has no name
+unnamed-first : (w : Book) → nodes-good (w .nodes) ≡ true → (c : ℕ) (v : List ℕ) → name-at (w .nodes) 0 ≡ c ∷ v → ⊥
+unfolding nodes-good
+unnamed-first w g c v e = go (w .nodes) g e
+  where
+    go : (xs : List Node) → nodes-good xs ≡ true → name-at xs 0 ≡ c ∷ v → ⊥
+    go [] g e = true≢false (sym g)
+    go (x ∷ xs) g e = let z = eqb-true (length (x .name)) 0 (both _ _ g .0) in omega (arith, z, ap length e)
+
+-- so the name is that of another
+of-another : (w : Book) → nodes-good (w .nodes) ≡ true → (c : ℕ) (v : List ℕ) → Named-so (c ∷ v) (w .nodes) → Known w (c ∷ v)
+of-another w g c v (zero, (h, e)) = absurd (unnamed-first w g c v e)
+of-another w g c v (suc i, (h, e)) = inr (suc i, (omega arith, h, e))
+
+pub tells-known : (w : Book) → nodes-good (w .nodes) ≡ true → (v : List ℕ) → Tells-known w v (wanted-told (wanted-version (w .nodes) v))
 unfolding wanted-version
-tells-known w [] = ((λ e. inl refl, λ k. refl), λ k. absurd (k (inl refl)))
-tells-known w (c ∷ v) = go (last-named (w .nodes) 0 (c ∷ v)) refl
+tells-known w g [] = ((λ e. inl refl, λ k. refl), λ k. absurd (k (inl refl)))
+tells-known w g (c ∷ v) = go (last-named (w .nodes) 0 (c ∷ v)) refl
   where
     go : (o : Option ℕ) → last-named (w .nodes) 0 (c ∷ v) ≡ o → Tells-known w (c ∷ v) (wanted-told (known o))
-    go (some k) e = ((λ f. inr (found-so (c ∷ v) (w .nodes) 0 k e), λ f. refl), λ f. absurd (f (inr (found-so (c ∷ v) (w .nodes) 0 k e))))
+    go (some k) e = let z = of-another w g c v (found-so (c ∷ v) (w .nodes) 0 k e) in ((λ f. z, λ f. refl), λ f. absurd (f z))
     go none e = (
       (λ f. let z : _≡_ {A = ℕ} 0 1 = cc in absurd (omega arith), λ f. absurd (unnamed f)),
       λ f. refl,
@@ -69,4 +85,4 @@ tells-known w (c ∷ v) = go (last-named (w .nodes) 0 (c ∷ v)) refl
       where
         unnamed : Known w (c ∷ v) → ⊥
         unnamed (inl f) = let z : _≡_ {A = ℕ} 0 1 = cc in absurd (omega arith)
-        unnamed (inr (i, (h, f))) = none-so (c ∷ v) (w .nodes) 0 e i h f
+        unnamed (inr (i, (k, h, f))) = none-so (c ∷ v) (w .nodes) 0 e i h f

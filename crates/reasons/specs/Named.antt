@@ -56,9 +56,10 @@ pub record First-star (w : Book) (t : List ℕ) (i : ℕ) : Type 0 where
   pub star : bare-star (line-at (w .lines) i) ≡ true
   pub first : (j : ℕ) → j < i → bare-star (line-at (w .lines) j) ≡ false
 
--- "It says "wanted version" when the `@` part decided": "A wanted version that is empty gives 1, a known one its index"
+-- "It says "wanted version" when the `@` part decided": "A wanted version that is empty gives 1, a known one its index"; of a node that has a
+-- name
 abbrev pub Known : Book → List ℕ → Type 0
-Known w v = (v ≡ []) ⊎ ((i : ℕ) × ((i < length (w .nodes)) × (name-at (w .nodes) i ≡ v)))
+Known w v = (v ≡ []) ⊎ ((i : ℕ) × ((0 < i) × (i < length (w .nodes)) × (name-at (w .nodes) i ≡ v)))
 
 -- ---- what `why` answers of a name that is not refused
 pub record Explained (w : Book) (n : Name) : Type 0 where

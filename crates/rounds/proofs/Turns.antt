@@ -3,13 +3,14 @@ use Prim.Native.Nat.{ℕ, _+_, _-_, _≤_, _<_}
 use mathlib.Core.Path.{_≡_, refl, sym, ap, _∙_}
 use mathlib.Core.List.{List, [], _∷_}
 use lib.ListN.{length, take, drop}
+use Rattle.lists.specs.Front.{front}
 use Rattle.input.specs.Splitting.{input-limit, lines-in}
 use Rattle.book.specs.declared.Counts.{Counts}
 use Rattle.book.specs.Layout.{Buffers}
 use Rattle.desk_commands.specs.Parts.{line-end}
 use Rattle.histories.specs.Histories.{Lent}
 use Rattle.desk.specs.declared.answering.Ran.{Ran}
-use Rattle.desk.specs.Desk.{line-leaves, line-ran}
+use Rattle.desk.specs.Desk.{line-leaves, line-printed, line-ran, line-step}
 use Rattle.rounds.specs.Rounds.{Reached, line-lent, lines-lent, printing-room}
 use Rattle.input.proofs.Cuts.{no-lines-from}
 use Rattle.desk_commands.proofs.Cuts.{lines-from}
@@ -21,6 +22,12 @@ pub line-runs : (text : List ℕ) (c : Counts) (b : Buffers) (l out : List ℕ) 
     → record { counts = r .counts; buffers = b′ } ≡ line-lent text (record { counts = c; buffers = b }) l
 unfolding line-ran line-leaves
 line-runs text c b l out t h o r e b′ f = rw (e, f, no-line-lacks-room text (record { counts = c; buffers = b }) l out t h o)
+
+-- and prints at the start of the room what its step says
+pub line-prints : (text : List ℕ) (c : Counts) (b : Buffers) (l out : List ℕ) → Reached text (record { counts = c; buffers = b }) → length l ≤ input-limit
+    → printing-room ≤ length out → (out′ : List ℕ) → out′ ≡ line-printed text c b l out → out′ ≡ front (line-step text c b l .printed) out
+unfolding line-printed
+line-prints text c b l out t h o out′ e = e ∙ rw (no-line-lacks-room text (record { counts = c; buffers = b }) l out t h o)
 
 -- from y on, behind the opening of the text, the commands s have been run up to the place at, and left x
 pub record Turning (text : List ℕ) (y : Lent) (s : List ℕ) (x : Lent) (at : ℕ) : Type 0 where

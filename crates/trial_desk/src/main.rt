@@ -8,8 +8,10 @@ ghost use mathlib.Core.Bool.{cond};
 ghost use Prim.Native.Nat.{_≤_};
 ghost use lib.ListN.{length};
 ghost use Rattle.input.specs.Splitting.{input-limit, lines-in};
+ghost use Rattle.lists.specs.Front.{front};
 ghost use Rattle.book.specs.Layout.{five};
 ghost use Rattle.book_opening.specs.Opening.{as-list, as-script};
+ghost use Rattle.desk.specs.Desk.{line-step};
 ghost use Rattle.rounds.specs.Rounds.{Desk-rooms, Reached, desk-left, line-lent, lines-lent, with-counts};
 use book::Counts;
 use book_opening::How;
@@ -75,7 +77,7 @@ fn tell(printed: &[u8], known: bool) {
     explain(printed);
 }
 
-// A command's line, which has room for what it prints; the counts behind it. The text is what was opened.
+// A command's line, which has room for what it prints, at the start of `out`; the counts behind it. The text is what was opened.
 fn run_command(
     c: Counts,
     nodes: &[u32],
@@ -89,9 +91,12 @@ fn run_command(
 ) -> Counts
     requires { ⌜ Reached (now text) (with-counts c (five (now nodes) (now names) (now lines) (now pool) (now journal)))
         × (length (now line) ≤ input-limit) ⌝ }
-    ensures { λ r. ⌜ with-counts r (five (now (nodes .entry)) (now (names .entry)) (now (lines .exit)) (now (pool .exit)) (now (journal .exit)))
+    ensures { λ r. ⌜ (with-counts r (five (now (nodes .entry)) (now (names .entry)) (now (lines .exit)) (now (pool .exit)) (now (journal .exit)))
         ≡ line-lent (now (text .entry))
-        (with-counts c (five (now (nodes .entry)) (now (names .entry)) (now (lines .entry)) (now (pool .entry)) (now (journal .entry)))) (now (line .entry)) ⌝ }
+        (with-counts c (five (now (nodes .entry)) (now (names .entry)) (now (lines .entry)) (now (pool .entry)) (now (journal .entry)))) (now (line .entry)))
+        × (now (out .exit) ≡ front (line-step (now (text .entry)) c
+        (five (now (nodes .entry)) (now (names .entry)) (now (lines .entry)) (now (pool .entry)) (now (journal .entry))) (now (line .entry)) .printed)
+        (now (out .entry))) ⌝ }
 {
     let ran = run_line(c, nodes, names, lines, pool, journal, text, line, out);
     tell(front(out, ran.length), ran.known);

@@ -11,9 +11,9 @@ ghost use Rattle.book.specs.Layout.{five};
 ghost use Rattle.book.specs.View.{holds, view};
 ghost use Rattle.book_opening.specs.Opening.{as-script, opening};
 ghost use Rattle.input.specs.Splitting.{input-limit, lines-in};
-ghost use Rattle.printing.specs.Printing.{refused-line};
+ghost use Rattle.printing.specs.Printing.{Begins, refused-line};
 ghost use Rattle.printing_listing.specs.Listing.{verlist-room};
-ghost use Rattle.printing_why.specs.Whys.{why-answered, why-listing, why-printed, whys};
+ghost use Rattle.printing_why.specs.Whys.{Prints-lines, why-answered, why-listing, why-printed, whys};
 use book::Counts;
 use desk_commands::parts::line_end;
 use libc::STDIN_FILENO;
@@ -28,9 +28,9 @@ use printing_listing::symbols_start;
 use printing_why::render_why_in_book;
 use version_script::open;
 
-// A script that is refused: the number, and for a person where and why. Answers how many bytes are printed.
+// A script that is refused: the number, and for a person where and why. What is printed stands at the start of `out`; its length is answered.
 fn refuse(text: &[u8], no: u32, place: usize, out: &mut [u8; 131200]) -> usize
-    ensures { λ r. ⌜ r ≡ length (refused-line no) ⌝ }
+    ensures { λ r. ⌜ Begins (now (out .entry)) (refused-line no) (now (out .exit)) r ⌝ }
 {
     let n = put_refused_line(out, no);
     io::write_all(STDOUT_FILENO, front(out, n));
@@ -38,7 +38,7 @@ fn refuse(text: &[u8], no: u32, place: usize, out: &mut [u8; 131200]) -> usize
     n
 }
 
-// A symbol's line, asked of a book that the text was opened as. Answers how many bytes are printed.
+// A symbol's line, asked of a book that the text was opened as. What is printed stands at the start of `out`; its length is answered.
 fn tell_symbol(
     c: Counts,
     nodes: &[u32],
@@ -52,16 +52,16 @@ fn tell_symbol(
 ) -> usize
     requires { ⌜ (holds c (five (now nodes) (now names) (now lines) (now pool) (now journal)) ≡ true) × (length (now names) ≤ 65536)
         × (length (now line) ≤ input-limit) ⌝ }
-    ensures { λ r. ⌜ (r ≡ length (why-answered (now (text .entry))
-        (view c (five (now (nodes .entry)) (now (names .entry)) (now (lines .entry)) (now (pool .entry)) (now (journal .entry)))) (now (line .entry))))
-        × (r ≤ 131200) ⌝ }
+    ensures { λ r. ⌜ Begins (now (out .entry)) (why-answered (now (text .entry))
+        (view c (five (now (nodes .entry)) (now (names .entry)) (now (lines .entry)) (now (pool .entry)) (now (journal .entry)))) (now (line .entry)))
+        (now (out .exit)) r × (r ≤ 131200) ⌝ }
 {
     let n = render_why_in_book(c, nodes, names, lines, pool, journal, text, line, out);
     io::write_all(STDOUT_FILENO, front(out, n));
     n
 }
 
-// The symbols, one a line; a last line feed may lack. Answers how many bytes are printed.
+// The symbols, one a line; a last line feed may lack. Each is printed from the start of `out`; how many bytes that are in all is answered.
 fn tell_symbols(
     c: Counts,
     nodes: &[u32],
@@ -75,9 +75,9 @@ fn tell_symbols(
 ) -> usize
     requires { ⌜ (holds c (five (now nodes) (now names) (now lines) (now pool) (now journal)) ≡ true) × (length (now names) ≤ 65536)
         × (length (now symbols) ≤ input-limit) ⌝ }
-    ensures { λ r. ⌜ r ≡ length (whys (now (text .entry))
+    ensures { λ r. ⌜ Prints-lines (whys (now (text .entry))
         (view c (five (now (nodes .entry)) (now (names .entry)) (now (lines .entry)) (now (pool .entry)) (now (journal .entry))))
-        (lines-in [] (now (symbols .entry)))) ⌝ }
+        (lines-in [] (now (symbols .entry)))) (now (out .entry)) r (now (out .exit)) ⌝ }
 {
     let mut printed = 0;
     let mut at = 0;
@@ -99,7 +99,7 @@ fn tell_symbols(
     printed
 }
 
-// A script, opened, and its symbols. Answers how many bytes are printed.
+// A script, opened, and its symbols.
 fn tell_script(
     text: &[u8],
     symbols: &[u8],
@@ -111,9 +111,9 @@ fn tell_script(
     out: &mut [u8; 131200],
 ) -> usize
     requires { ⌜ (length (now names) ≤ 65536) × (length (now symbols) ≤ input-limit) ⌝ }
-    ensures { λ r. ⌜ r ≡ length (why-printed (now (text .entry))
+    ensures { λ r. ⌜ Prints-lines (why-printed (now (text .entry))
         (opening as-script (five (now (nodes .entry)) (now (names .entry)) (now (lines .entry)) (now (pool .entry)) (now (journal .entry)))
-        (now (text .entry))) (now (symbols .entry))) ⌝ }
+        (now (text .entry))) (now (symbols .entry))) (now (out .entry)) r (now (out .exit)) ⌝ }
 {
     let opened = open(text, nodes, names, lines, pool, journal);
     if opened.refusal != 0 {
@@ -135,7 +135,8 @@ fn tell_script(
 // The same in verlist's rooms: "1,024 nodes, 2,048 lines, 65,536 bytes each of names and pool".
 fn tell_parts(text: &[u8], symbols: &[u8], out: &mut [u8; 131200]) -> usize
     requires { ⌜ length (now symbols) ≤ input-limit ⌝ }
-    ensures { λ r. ⌜ r ≡ length (why-printed (now (text .entry)) (opening as-script verlist-room (now (text .entry))) (now (symbols .entry))) ⌝ }
+    ensures { λ r. ⌜ Prints-lines (why-printed (now (text .entry)) (opening as-script verlist-room (now (text .entry))) (now (symbols .entry)))
+        (now (out .entry)) r (now (out .exit)) ⌝ }
 {
     let mut nodes = [0u32; 3072];
     let mut names = [0u8; 65536];
@@ -154,9 +155,9 @@ fn tell_parts(text: &[u8], symbols: &[u8], out: &mut [u8; 131200]) -> usize
     )
 }
 
-// An input: the script before the line `%%`, and the symbols behind it. Answers how many bytes are printed.
+// An input: the script before the line `%%`, and the symbols behind it.
 fn tell_input(input: &[u8], out: &mut [u8; 131200]) -> usize
-    ensures { λ r. ⌜ r ≡ length (why-listing verlist-room (now (input .entry))) ⌝ }
+    ensures { λ r. ⌜ Prints-lines (why-listing verlist-room (now (input .entry))) (now (out .entry)) r (now (out .exit)) ⌝ }
 {
     if INPUT_LIMIT < input.len() {
         return refuse(input, TOO_LONG, 0, out);

@@ -76,7 +76,7 @@ loop-again c =
     let r = c .before .before .before .before .before .before in
     let f = r .before .before .before .before .before .before in
     let o = f .before .before in
-    let on = turns-on _ _ _ _ _ (o .loop .inv .3) (f .before .loop-test .taken) (f .line-end .result) (f .line-end .ensures) _ (r .run-command .ensures) in
+    let on = turns-on _ _ _ _ _ (o .loop .inv .3) (f .before .loop-test .taken) (f .line-end .result) (f .line-end .ensures) _ (r .run-command .ensures .0) in
     (c .before .before .before .before .before .lines .given ∙ o .loop .inv .0, c .before .before .before .pool .given ∙ o .loop .inv .1, c .before .journal .given ∙ o .loop .inv .2, on)
 
 pub run-commands-spec : {M : Type 1} → statement M

@@ -4,7 +4,7 @@ use Rattle.why.proofs.refuse.Statement.{statement}
 use Rattle.why.proofs.refuse.Tie as tie
 
 returns : tie.Need-returns
-returns c = c .before .before .before .before .before .before .put-refused-line .ensures .0
+returns c = c .before .before .before .before .before .before .put-refused-line .ensures
 
 pub refuse-spec : {M : Type 1} → statement M
 refuse-spec =

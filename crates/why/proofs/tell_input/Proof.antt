@@ -13,7 +13,7 @@ use Rattle.why.proofs.tell_input.Tie as tie
 returns : tie.Need-returns
 returns c =
     let at-if1 = c .before .before in
-    too-long-told verlist-room (at-if1 .before .before .args .input .now) (at-if1 .if1 .taken) (c .refuse .ensures)
+    too-long-told verlist-room (at-if1 .before .before .args .input .now) _ (at-if1 .if1 .taken) (c .refuse .ensures)
 
 symbols-start-requires : tie.Need-symbols-start-requires
 symbols-start-requires c κs = script-within _ _ (c .script-end .ensures)
@@ -35,7 +35,7 @@ returns-2 : tie.Need-returns-2
 returns-2 c =
     let at-end = c .before .before .before .before .before in
     let at-if1 = at-end .before in
-    parts-told verlist-room (at-if1 .before .before .args .input .now) (at-if1 .if1 .left) _ (at-end .script-end .ensures) _
+    parts-told verlist-room (at-if1 .before .before .args .input .now) _ (at-if1 .if1 .left) _ (at-end .script-end .ensures) _
     (c .before .before .before .before .symbols-start .ensures) (c .tell-parts .ensures)
 
 pub tell-input-spec : {M : Type 1} → statement M

@@ -14,7 +14,7 @@ returns c =
     let a = at-open .before .before .before .before .before .before .before .before .before .before .before .before .before .args in
     let w = at-open .«open» in
     refused-told (five (a .nodes .now) (a .names .now) (a .lines .now) (a .pool .now) (a .journal .now)) (a .text .now) (w .result) (w .ensures .0)
-    (a .symbols .now) (omega (arith, at-if1 .if1 .taken)) (c .refuse .ensures)
+    (a .symbols .now) (a .out .now) (omega (arith, at-if1 .if1 .taken)) (c .refuse .ensures)
 
 tell-symbols-requires : tie.Need-tell-symbols-requires
 tell-symbols-requires c κs =
@@ -36,7 +36,7 @@ returns-2 c =
     let a = at-open .before .before .before .before .before .before .before .before .before .before .before .before .before .args in
     let w = at-open .«open» in
     opened-told (five (a .nodes .now) (a .names .now) (a .lines .now) (a .pool .now) (a .journal .now)) (a .text .now) (w .result) (w .ensures .0)
-    (omega (arith, at-if1 .if1 .left)) _ (w .ensures .1) (a .symbols .now) (c .tell-symbols .ensures)
+    (a .symbols .now) (a .out .now) (omega (arith, at-if1 .if1 .left)) _ (w .ensures .1) (c .tell-symbols .ensures)
 
 pub tell-script-spec : {M : Type 1} → statement M
 tell-script-spec =

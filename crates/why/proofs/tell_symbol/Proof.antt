@@ -19,7 +19,7 @@ returns : tie.Need-returns
 returns c =
     let at-render = c .before .before .before .before in
     let p = at-render .render-why-in-book .ensures in
-    (p .0, put-within _ _ p (omega (arith, c .before .before .front-arg2 .given)))
+    (p, put-within _ _ p (omega (arith, c .before .before .front-arg2 .given)))
 
 pub tell-symbol-spec : {M : Type 1} → statement M
 tell-symbol-spec =

@@ -12,7 +12,7 @@ use Rattle.why.proofs.tell_symbols.Tie as tie
 
 abbrev Inv-loop : tie.InvT-loop
 Inv-loop c nodes names lines pool journal text symbols out₀ printed₀ at₀ out printed at =
-    Telling text (view c (five nodes names lines pool journal)) symbols printed at
+    Telling text (view c (five nodes names lines pool journal)) symbols out₀ printed at out
 
 abbrev μ-loop : tie.MeasureT-loop
 μ-loop c nodes names lines pool journal text symbols out₀ printed₀ at₀ out printed at = length symbols - at
@@ -28,7 +28,7 @@ ends : (f : Ended) → (f .before .before .loop .at ≤ f .line-end .result) × 
 ends f = line-within (symbols-of f) (f .before .before .loop .at) (f .line-end .result) (f .before .loop-test .taken) (f .line-end .ensures)
 
 loop-holds : tie.Need-loop-holds Inv-loop μ-loop
-loop-holds c = tells-begin _ _ _
+loop-holds c = tells-begin _ _ _ _
 
 tell-symbol-requires : tie.Need-tell-symbol-requires Inv-loop μ-loop
 tell-symbol-requires c κs =
@@ -51,11 +51,11 @@ loop-again : tie.Need-loop-again Inv-loop μ-loop
 loop-again c =
     let f = c .before .before .before in
     let t = c .tell-symbol in
-    tells-on _ _ _ (f .before .before .loop .inv) (f .before .loop-test .taken) (f .line-end .result) (f .line-end .ensures)
-    (t .result) (t .ensures .0) (t .ensures .1)
+    tells-on _ _ _ _ (f .before .before .loop .inv) (f .before .loop-test .taken) (f .line-end .result) (f .line-end .ensures)
+    (t .result) _ (t .ensures .0) (t .ensures .1)
 
 returns : tie.Need-returns Inv-loop μ-loop
-returns c = tells-end _ _ _ (c .before .loop .inv) (c .loop-test .left)
+returns c = tells-end _ _ _ _ (c .before .loop .inv) (c .loop-test .left)
 
 pub tell-symbols-spec : {M : Type 1} → statement M
 tell-symbols-spec =
