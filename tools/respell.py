@@ -18,7 +18,7 @@ TOKEN = re.compile(r"[^\s(){}\[\].,;:\"`«»@|]+")
 DECLARED = re.compile(r"^( *)((?:(?:pub|abbrev|unfoldable|data|record) )*)([^\s:(){}=.,;]+)(?= (?::|\(|\{))")
 FUNCTION = re.compile(r'\bfn (\w+)')
 MADE = re.compile(r"tie\.|goal\.")
-PROOFS = ('Proof.antt', 'Invariants.antt', 'Answers.antt')
+PROOF = re.compile(r'/Proof\.antt$|/proofs/.+/(?:Invariants|Answers)\.antt$')
 # Words that are names of the logic in a law's name.
 SIGNS = {'nil', 'cons', 'zero', 'suc', 'one', 'true', 'false'}
 # Names of definitions that are plain words elsewhere: they don't stand for the definition in the name of a law.
@@ -94,7 +94,7 @@ def plan():
     definitions, laws, all_names, lib = set(), set(), set(), set()
     for path in files('.antt', 'specs', 'proofs'):
         lib |= imported(read(path))
-        if os.path.basename(path) in PROOFS:
+        if PROOF.search(path):
             continue
         for name, is_definition, _ in declared(path):
             all_names.add(name)
@@ -123,7 +123,7 @@ def plan():
 def own(path, text):
     """What a proof of a function declares for itself becomes snake case too; its theorem is `f_spec`."""
     found = {}
-    if os.path.basename(path) in PROOFS:
+    if PROOF.search(path):
         for name, _, rest in declared(path):
             if '-' in name and not MADE.search(rest) and not name[:1].isupper():
                 found[name] = name.replace('-', '_')
@@ -151,10 +151,15 @@ def clauses(text, names):
     return '\n'.join(lines)
 
 
+def half_turned():
+    """Names that the port turned where they are declared, and not everywhere else: in the edits, and where a module is called Answers."""
+    known = {name for path in files('.antt', 'specs', 'proofs') if not PROOF.search(path) for name, _, _ in declared(path)}
+    return {name.replace('_', '-'): name for name in known if '_' in name and '-' not in name and name.replace('_', '-') not in known}
+
+
 def edits(names):
-    """Turns the edits, of which the port turns none: also the names that it turned elsewhere."""
-    known = {name for path in files('.antt', 'specs', 'proofs') for name, _, _ in declared(path)}
-    turned = {name.replace('_', '-'): name for name in known if '_' in name}
+    """Turns the edits, of which the port turns none."""
+    turned = half_turned()
     for path in files('.edit', 'must-fail'):
         lines = []
         for line in read(path).split('\n'):
@@ -170,6 +175,7 @@ def main():
         print(f'{to}: {" and ".join(sorted(both))} fall together')
     if wrong:
         return 1
+    names = half_turned() | names
     for path in files('.antt', 'specs', 'proofs'):
         text = read(path)
         there = {a: b for a, b in names.items() if a not in imported(text)} | own(path, text)

@@ -10,7 +10,7 @@ pub mod nodes;
 pub mod rows;
 
 // "The book's counts …: kind, nodes, name bytes, lines, pool bytes, edits."
-#[derive(Drop)]
+#[derive(Clone, Copy)]
 pub struct Counts {
     pub kind: u32,
     pub nodes: u32,
@@ -21,7 +21,7 @@ pub struct Counts {
 }
 
 // What a book's lines are read and ranked by: its kind, and how many nodes it has.
-#[derive(Drop)]
+#[derive(Clone, Copy)]
 pub struct Frame {
     pub kind: u32,
     pub nodes: u32,

@@ -21,7 +21,7 @@ pub mod lines;
 
 // How far a book is while its text is read: how many nodes, name bytes, lines and pool bytes it has; whether the reading is in an extern block; whether the
 // globals have what the Rust kind's have not; and whether a bare `*;` stands among the locals.
-#[derive(Drop)]
+#[derive(Clone, Copy)]
 pub struct Progress {
     pub nodes: usize,
     pub names: usize,
@@ -33,7 +33,7 @@ pub struct Progress {
 }
 
 // What an event makes of it, or the number that says no and the place.
-#[derive(Drop)]
+#[derive(Clone, Copy)]
 pub enum Taking {
     On(Progress),
     No(u32, usize),

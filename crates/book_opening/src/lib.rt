@@ -12,7 +12,7 @@ use reading_cursors::places::{AT_LIST, AT_SCRIPT};
 mod events;
 
 // How a text is opened: from which place of the grammar on it is read.
-#[derive(Drop)]
+#[derive(Clone, Copy)]
 pub struct How {
     pub place: u32,
 }
@@ -24,7 +24,7 @@ impl How {
 }
 
 // What an opening answers: 0 and the counts, or the number that says no, its place in the text, and zero counts.
-#[derive(Drop)]
+#[derive(Clone, Copy)]
 pub struct Opened {
     pub refusal: u32,
     pub place: usize,
@@ -32,7 +32,7 @@ pub struct Opened {
 }
 
 // The counts of the book that a text gives, or the number that says no and the place.
-#[derive(Drop)]
+#[derive(Clone, Copy)]
 pub enum Built {
     Done(Counts),
     Refused(u32, usize),

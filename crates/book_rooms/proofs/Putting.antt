@@ -18,7 +18,7 @@ use Rattle.storing.specs.declared.Stored.{Stored}
 use Rattle.storing.specs.declared.Stored.TheVariants.{As}
 use Rattle.storing.specs.declared.Stored.TheVariants as stored
 use Rattle.storing.specs.Keeping.{Keep, kept, refused}
-use Rattle.storing.specs.Answers.{Stores, keep-answer, keep-buffer}
+use Rattle.storing.specs.Answers.{Stores, keep_answer, keep_buffer}
 use Rattle.book_rooms.specs.Rooms.{Put, open_part, pool_room}
 
 -- ---- how far the pool q can be filled
@@ -87,7 +87,7 @@ Placed (kept k bs) q at r q' =
 Placed (refused n) q at r q' = (r ≡ stored.Refused n) × (q' ≡ q)
 
 placed : (K : Keep) (q : List ℕ) (at : ℕ) (r : Stored) (q' : List ℕ) → at ≤ pool_room q → Put K q at r q' → Placed K q at r q'
-unfolding keep-answer keep-buffer
+unfolding keep_answer keep_buffer
 placed (kept k bs) q at r q' h p =
     let n = part_length q at in (
       λ i.

@@ -5,7 +5,7 @@ use Rattle.numbers.specs.Limits.{edit_limit, line_limit, node_limit, over, pool_
 use Rattle.packing.specs.Tables.{packed}
 use Rattle.storing.specs.declared.Stored.{Stored}
 use Rattle.storing.specs.Keeping.{Keep}
-use Rattle.storing.specs.Answers.{keep-answer, keep-buffer}
+use Rattle.storing.specs.Answers.{keep_answer, keep_buffer}
 use Rattle.book.specs.Books.{Edit, Line, Node}
 use Rattle.book.specs.Layout.{Buffers, edit_width, line_form, line_width, node_form, node_width}
 
@@ -36,7 +36,7 @@ open_part q at = take (pool_room q - at) (drop at q)
 
 abbrev pub Put : Keep → List ℕ → ℕ → Stored → List ℕ → Type 0
 Put x q at r q' =
-    (r ≡ keep-answer x (length (open_part q at))) × (q' ≡ take at q ++ (keep-buffer x (open_part q at) ++ drop (pool_room q) q))
+    (r ≡ keep_answer x (length (open_part q at))) × (q' ≡ take at q ++ (keep_buffer x (open_part q at) ++ drop (pool_room q) q))
 
 -- ---- an edit more: a row for edit i of the journal j
 abbrev pub edit_row : List ℕ → ℕ → Bool

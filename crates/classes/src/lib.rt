@@ -5,7 +5,7 @@ ghost use Rattle.classes.specs.Classes.{class_number, class_of, escaped, lone_st
 use numbers::{ALL_CLASS, ESCAPED_CLASS, EXACT_CLASS, NONSTAR_CLASS, STAR_CLASS};
 
 // The classes of 01. Their numbers are `class_number` of specs/Classes.antt.
-#[derive(Drop)]
+#[derive(Clone, Copy)]
 pub enum Class {
     Exact,
     Escaped,

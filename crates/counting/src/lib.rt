@@ -12,14 +12,14 @@ use book_check::is_book;
 use numbers::{NO_BOOK, NO_SUCH, WRONG_KIND};
 
 // A count, or the number that says no.
-#[derive(Drop)]
+#[derive(Clone, Copy)]
 pub enum Count {
     Counted(u32),
     Refused(u32),
 }
 
 // A node: where its name starts among the names, how long it is, and its parent's number or 0; or the number that says no.
-#[derive(Drop)]
+#[derive(Clone, Copy)]
 pub enum NodeAnswer {
     Node { start: u32, len: u32, parent: u32 },
     Refused(u32),

@@ -29,7 +29,7 @@ use Rattle.printing_symbols.specs.Lines.{asked_line, symbol_answered, symbol_lin
 use Rattle.printing_why.specs.Splits.{asked_name, asked_version, raw_name}
 use Rattle.printing_why.specs.Whys.{why_answered}
 use Rattle.desk.specs.declared.answering.Ran.{Ran}
-use Rattle.desk.specs.Answers.{Tells, ran-with}
+use Rattle.desk.specs.Answers.{Tells, ran_with}
 use Rattle.desk.specs.Asked.{AsksAsVerlist, asked, member_asked, member_fields, member_line, version_asked_line}
 
 -- ---- a name and whether it is in an export list
@@ -88,21 +88,21 @@ unfolding version_asked_line
 version-put-asked d raw demangled w wanted v s l r e f p = rw (← e, ← f) p
 
 -- ---- `ask`: the line t, its raw name and its demangled one
-module _ (c : Counts) (b : Buffers) (t d l : List ℕ) (k : ℕ) (r : Ran) (q : r ≡ ran-with c k true) {raw demangled : List ℕ} (e : raw ≡ raw_name t)
+module _ (c : Counts) (b : Buffers) (t d l : List ℕ) (k : ℕ) (r : Ran) (q : r ≡ ran_with c k true) {raw demangled : List ℕ} (e : raw ≡ raw_name t)
     (f : demangled ≡ demangled_part t) where
   pub list-asked : c.kind ≡ export → Begins d (member_asked (view c b) (name_of raw demangled)) l k → Tells c b (λ b w. asked c.kind w t) d r l
   unfolding asked asked_name
-  list-asked h p = rw (eq-eqb c.kind export h, ← e, ← f) (q ∙ ap (λ (n : ℕ). ran-with c n true) p.0, p.1)
+  list-asked h p = rw (eq-eqb c.kind export h, ← e, ← f) (q ∙ ap (λ (n : ℕ). ran_with c n true) p.0, p.1)
 
   pub script-asked : (c.kind ≡ export → ⊥) → {v : Option (List ℕ)} → v ≡ asked_version t
       → Begins d (version_asked_line (view c b) (name_of raw demangled) v) l k → Tells c b (λ b w. asked c.kind w t) d r l
   unfolding asked asked_name
-  script-asked h g p = rw (ne_eqb c.kind export h, ← e, ← f, ← g) (q ∙ ap (λ (n : ℕ). ran-with c n true) p.0, p.1)
+  script-asked h g p = rw (ne_eqb c.kind export h, ← e, ← f, ← g) (q ∙ ap (λ (n : ℕ). ran_with c n true) p.0, p.1)
 
 -- ---- `why`
-pub why-told : (c : Counts) (b : Buffers) (s t d l : List ℕ) (k : ℕ) (r : Ran) → r ≡ ran-with c k true → Begins d (why_answered s (view c b) t) l k
+pub why-told : (c : Counts) (b : Buffers) (s t d l : List ℕ) (k : ℕ) (r : Ran) → r ≡ ran_with c k true → Begins d (why_answered s (view c b) t) l k
     → Tells c b (λ b w. why_answered s w t) d r l
-why-told c b s t d l k r q p = (q ∙ ap (λ (n : ℕ). ran-with c n true) p.0, p.1)
+why-told c b s t d l k r q p = (q ∙ ap (λ (n : ℕ). ran_with c n true) p.0, p.1)
 
 -- ---- a line without a TAB
 pub asks_as_verlist : AsksAsVerlist

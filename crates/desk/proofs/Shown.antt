@@ -21,7 +21,7 @@ use Rattle.desk_commands.specs.declared.Shown.{Shown}
 use Rattle.printing_book.specs.Shown.{shown_room}
 use Rattle.printing_why.specs.Whys.{why_answered}
 use Rattle.desk.specs.declared.answering.Ran.{Ran}
-use Rattle.desk.specs.Answers.{Tells, ran-with}
+use Rattle.desk.specs.Answers.{Tells, ran_with}
 use Rattle.desk.specs.Asked.{asked}
 use Rattle.desk.specs.Questions.{book_shown, of_book, question_told}
 
@@ -30,9 +30,9 @@ module _ (c : Counts) (b : Buffers) (x : Bool) (e : x ≡ holds c b) where
   pub held : not x ≡ false → holds c b ≡ true
   held h = sym e ∙ not-false x h
 
-  module _ (show : Book → List ℕ) (d l : List ℕ) (k : ℕ) (r : Ran) (q : r ≡ ran-with c k true) where
+  module _ (show : Book → List ℕ) (d l : List ℕ) (k : ℕ) (r : Ran) (q : r ≡ ran_with c k true) where
     told_shown : (t : List ℕ) → of_book (view c b) show ≡ t → Begins d t l k → Tells c b (λ b w. of_book w show) d r l
-    told_shown t f p = rw f (q ∙ ap (λ (n : ℕ). ran-with c n true) p.0, p.1)
+    told_shown t f p = rw f (q ∙ ap (λ (n : ℕ). ran_with c n true) p.0, p.1)
 
     pub no_book_shown : not x ≡ true → Begins d (refused_answer no_book) l k → Tells c b (λ b w. of_book w show) d r l
     no_book_shown h p = told_shown (refused_answer no_book) (rw (asked_none c b x e h)) p

@@ -2,7 +2,7 @@
 ghost use Rattle.std.specs.Prelude.{◌≡◌, false, ◌≤◌, length};
 ghost use Rattle.lists.specs.Front.{front};
 ghost use Rattle.book.specs.Layout.{five};
-ghost use Rattle.desk.specs.Answers.{ran-with};
+ghost use Rattle.desk.specs.Answers.{ran_with};
 ghost use Rattle.desk.specs.Desk.{RunsLine, room_for, unknown_printed};
 ghost use Rattle.printing.specs.Printing.{answer_room};
 
@@ -23,7 +23,7 @@ pub mod questions;
 // What is no command.
 fn run_unknown(c: Counts, out: &mut [u8]) -> Ran
     requires { answer_room ≤ length out.old }
-    ensures { (result ≡ ran-with c (length unknown_printed) false) × (out.new ≡ front unknown_printed out.old) }
+    ensures { (result ≡ ran_with c (length unknown_printed) false) × (out.new ≡ front unknown_printed out.old) }
 {
     let length = put_text(out, 0, b"?\n");
     Ran {

@@ -10,7 +10,7 @@ use reading_tokens::try_take;
 pub mod parts;
 
 // An edit; `at` is where a token or a text begins in its line.
-#[derive(Drop)]
+#[derive(Clone, Copy)]
 pub enum Edit {
     Add {
         node: u32,
@@ -28,7 +28,7 @@ pub enum Edit {
 }
 
 // What is shown of a book: its counts, its lines, what its buffers hold.
-#[derive(Drop)]
+#[derive(Clone, Copy)]
 pub enum Shown {
     Counts,
     Lines,
@@ -36,14 +36,14 @@ pub enum Shown {
 }
 
 // A question; a name begins at a place of its line. `Ask` asks for its version, locality or membership, `Why` for the line that decides.
-#[derive(Drop)]
+#[derive(Clone, Copy)]
 pub enum Question {
     Ask(usize),
     Why(usize),
     Show(Shown),
 }
 
-#[derive(Drop)]
+#[derive(Clone, Copy)]
 pub enum Command {
     Edits(Edit),
     Asks(Question),

@@ -8,7 +8,7 @@ use linker_script::searching::find;
 const NUMBER_LIMIT: u64 = 4294967296;
 
 // A number and the place behind it.
-#[derive(Drop)]
+#[derive(Clone, Copy)]
 pub enum Numeral {
     Number { value: u32, end: usize },
     Nothing,

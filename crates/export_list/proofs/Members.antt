@@ -24,7 +24,7 @@ use Rattle.ranking.specs.declared.Deciding.TheVariants as answer
 use Rattle.ranking.specs.Matching.{line_matches, name_of}
 use Rattle.ranking.specs.Names.{name_refusal}
 use Rattle.ranking.specs.Walk.{decided, deciding_among}
-use Rattle.ranking.proofs.Answers.{decided-line, decided-none}
+use Rattle.ranking.proofs.Answers.{decided_line, decided_none}
 use Rattle.ranking.proofs.Deciders.{walk_decides, walk-nothing}
 use Rattle.ranking.proofs.NameTests.{short-names}
 use Rattle.export_list.specs.declared.Membership.TheVariants as membership
@@ -85,11 +85,11 @@ module _ (c : Counts) (n m l p j raw demangled : List ℕ) (x : Bool) (e : x ≡
           pub list-within : (i : ℕ) → d ≡ answer.Line i → membership.Within ≡ contains_asked (view c (five n m l p j)) (name_of raw demangled)
           unfolding contains_asked member_of book_of
           list-within i q =
-              let t = (walk_decides c.nodes asked xs in_order i).0 (decided-line _ d i w q) in
+              let t = (walk_decides c.nodes asked xs in_order i).0 (decided_line _ d i w q) in
               rw (held.viewed, eq-eqb _ _ k, ← f, eq-eqb _ _ g, match_at asked xs i t.there t.matching)
 
           pub list-without : d ≡ answer.Nothing → membership.Without ≡ contains_asked (view c (five n m l p j)) (name_of raw demangled)
           unfolding contains_asked member_of book_of
           list-without q =
-              let t = (walk-nothing c.nodes asked xs in_order).0 (decided-none _ d w q) in
+              let t = (walk-nothing c.nodes asked xs in_order).0 (decided_none _ d w q) in
               rw (held.viewed, eq-eqb _ _ k, ← f, eq-eqb _ _ g, match_none asked xs t)

@@ -9,7 +9,7 @@ use book_opening::{How, Opened};
 pub mod lookups;
 
 // In the list or not, or the number that says no.
-#[derive(Drop)]
+#[derive(Clone, Copy)]
 pub enum Membership {
     Within,
     Without,

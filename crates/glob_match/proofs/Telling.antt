@@ -21,14 +21,14 @@ use Rattle.storing.specs.declared.Stored.TheVariants.{As, Refused}
 use Rattle.classes.specs.Classes.{class_number, class_of}
 use Rattle.classes.proofs.ClassNumbers.{class-few}
 use Rattle.storing.specs.Keeping.{unescape, Keep, kept, refused, keep}
-use Rattle.storing.specs.Answers.{Stores, keep-answer}
-use Rattle.glob_match.specs.Answers.{answer-told, class-told, length-told, match-told, match-when, store_told, unasked-told}
-use Rattle.glob_match.specs.Answers.{Unescapes, unescape-leaves, unescape-told}
+use Rattle.storing.specs.Answers.{Stores, keep_answer}
+use Rattle.glob_match.specs.Answers.{answer_told, class_told, length_told, match_told, match_when, store_told, unasked_told}
+use Rattle.glob_match.specs.Answers.{Unescapes, unescape_leaves, unescape_told}
 use Rattle.storing.proofs.Keeping.{bytes, keep-few, unescape-few}
 
 -- ---- how many bytes are told
-told-long : (x : Keep) (m : ℕ) {k : Class} {n : ℕ} → As k n ≡ keep-answer x m → n ≡ length (bytes x)
-unfolding keep-answer
+told-long : (x : Keep) (m : ℕ) {k : Class} {n : ℕ} → As k n ≡ keep_answer x m → n ≡ length (bytes x)
+unfolding keep_answer
 told-long (kept j b) m {k} {n} e = by (leb (length b) m) e
   where
     by : (t : Bool) → As k n ≡ cond t (As j (length b)) (Refused 8) → n ≡ length b
@@ -38,31 +38,31 @@ told-long (refused j) m e = let z : ◌≡◌ {A = ℕ} 0 1 = cc in absurd (omeg
 
 -- ---- the class
 module _ (t : List ℕ) where
-  pub class-over : token_limit < length t → 1 ≡ class-told t
-  unfolding class-told
+  pub class-over : token_limit < length t → 1 ≡ class_told t
+  unfolding class_told
   class-over h = rw (lt-ltb token_limit (length t) h)
 
-  pub class-within : length t ≤ token_limit → (k : Class) → k ≡ class_of t → (n : ℕ) → n ≡ class_number k → 256 * n ≡ class-told t
-  unfolding class-told
+  pub class-within : length t ≤ token_limit → (k : Class) → k ≡ class_of t → (n : ℕ) → n ≡ class_number k → 256 * n ≡ class_told t
+  unfolding class_told
   class-within h k e n q = rw (le-ltb token_limit (length t) h, ← e, q)
 
 -- ---- a pattern without its escapes; r is what `unescape_pattern` answers, and d' what it leaves of the buffer d
 module _ (t d : List ℕ) where
   pub unescape-over : token_limit < length t → Unescapes t d 1 d
-  unfolding unescape-told unescape-leaves
+  unfolding unescape_told unescape_leaves
   unescape-over h = (rw (lt-ltb token_limit (length t) h), rw (lt-ltb token_limit (length t) h))
 
   module _ (h : length t ≤ token_limit) (r : Stored) (d' : List ℕ) (a : Stores (kept Escaped (unescape t)) d r d') where
-    within : unescape-told t (length d) ≡ length-told r
-    unfolding unescape-told
+    within : unescape_told t (length d) ≡ length_told r
+    unfolding unescape_told
     within = rw (le-ltb token_limit (length t) h, ← a.0)
 
-    leaves : d' ≡ unescape-leaves t d
-    unfolding unescape-leaves
+    leaves : d' ≡ unescape_leaves t d
+    unfolding unescape_leaves
     leaves = rw (le-ltb token_limit (length t) h) a.1
 
     pub unescape-refused : (n : ℕ) → r ≡ Refused n → Unescapes t d n d'
-    unfolding length-told
+    unfolding length_told
     unescape-refused n q = (sym (within ∙ rw q), leaves)
 
     module _ (k : Class) (n : ℕ) (q : r ≡ As k n) where
@@ -70,17 +70,17 @@ module _ (t d : List ℕ) where
       unescape-short = omega (arith, told-long (kept Escaped (unescape t)) (length d) (sym q ∙ a.0), unescape-few t)
 
       pub unescape-done : Unescapes t d (256 * n) d'
-      unfolding length-told
+      unfolding length_told
       unescape-done = (sym (within ∙ rw q), leaves)
 
 -- ---- a token as it is stored; r is what `store_token` answers
-module _ (e : Edition) (t : List ℕ) (m : ℕ) (r : Stored) (a : r ≡ keep-answer (keep e t) m) where
-  pub store-refused : (n : ℕ) → r ≡ Refused n → n ≡ store_told (keep-answer (keep e t) m)
+module _ (e : Edition) (t : List ℕ) (m : ℕ) (r : Stored) (a : r ≡ keep_answer (keep e t) m) where
+  pub store-refused : (n : ℕ) → r ≡ Refused n → n ≡ store_told (keep_answer (keep e t) m)
   unfolding store_told
   store-refused n q = rw (← a, q)
 
   module _ (k : Class) (n : ℕ) (q : r ≡ As k n) (j : ℕ) (c : j ≡ class_number k) where
-    pub store-done : 256 * (j + 8 * n) ≡ store_told (keep-answer (keep e t) m)
+    pub store-done : 256 * (j + 8 * n) ≡ store_told (keep_answer (keep e t) m)
     unfolding store_told
     store-done = rw (← a, q, c)
 
@@ -101,32 +101,32 @@ module _ (p n : List ℕ) where
 
 module _ (e : Edition) (p n : List ℕ) where
   module _ (o : over token_limit p || over name_limit n ≡ true) where
-    pub match_over : 1 ≡ match-told e p n
-    unfolding match-told
+    pub match_over : 1 ≡ match_told e p n
+    unfolding match_told
     match_over = rw o
 
-    pub unasked-over : 1 ≡ unasked-told e p n
-    unfolding unasked-told
+    pub unasked-over : 1 ≡ unasked_told e p n
+    unfolding unasked_told
     unasked-over = rw o
 
   module _ (h : length p ≤ token_limit) (g : length n ≤ name_limit) where
     -- m is what `match_name` answers, and v what `told` makes of it
-    module _ (m : Tried) (t : m ≡ match_of e p n) (v : ℕ) (a : v ≡ answer-told m.matched) where
-      pub unasked-done : v ≡ unasked-told e p n
-      unfolding unasked-told match_of
+    module _ (m : Tried) (t : m ≡ match_of e p n) (v : ℕ) (a : v ≡ answer_told m.matched) where
+      pub unasked-done : v ≡ unasked_told e p n
+      unfolding unasked_told match_of
       unasked-done = rw (none_over p n h g) (a ∙ rw t)
 
     -- c is what `pattern_refusal` answers, and u what `is_utf8` does
     module _ (c : ℕ) (r : c ≡ refusal e p) where
-      pub match_refused : (c ≡ 0 → ⊥) → c ≡ match-told e p n
-      unfolding match-told match-when
+      pub match_refused : (c ≡ 0 → ⊥) → c ≡ match_told e p n
+      unfolding match_told match_when
       match_refused z = rw (none_over p n h g, ← r, ne_eqb c 0 z)
 
       module _ (z : c ≡ 0) (u : Bool) (w : u ≡ utf8 n) where
-        pub match_not_utf8 : not u ≡ true → 9 ≡ match-told e p n
-        unfolding match-told match-when
+        pub match_not_utf8 : not u ≡ true → 9 ≡ match_told e p n
+        unfolding match_told match_when
         match_not_utf8 f = rw (none_over p n h g, ← r, z, ← w, not-true u f)
 
-        pub match_done : not u ≡ false → (m : Tried) → m ≡ match_of e p n → (v : ℕ) → v ≡ answer-told m.matched → v ≡ match-told e p n
-        unfolding match-told match-when match_of
+        pub match_done : not u ≡ false → (m : Tried) → m ≡ match_of e p n → (v : ℕ) → v ≡ answer_told m.matched → v ≡ match_told e p n
+        unfolding match_told match_when match_of
         match_done f m t v a = rw (none_over p n h g, ← r, z, ← w, not-false u f) (a ∙ rw t)

@@ -10,7 +10,7 @@ use Rattle.storing.specs.declared.Stored.{Stored}
 use Rattle.storing.specs.declared.Stored.TheVariants.{As, Refused}
 use Rattle.classes.specs.Classes.{class_number, class_of}
 use Rattle.storing.specs.Keeping.{Keep, unescape, kept}
-use Rattle.storing.specs.Answers.{keep-answer, keep-buffer}
+use Rattle.storing.specs.Answers.{keep_answer, keep_buffer}
 
 abbrev pub done : ℕ → ℕ
 done v = 256 * v
@@ -26,10 +26,10 @@ length_told (Refused n) = n
 
 -- a pattern of any class without its escapes: how many bytes are written, and what is left in the buffer
 unfoldable pub unescape_told : List ℕ → ℕ → ℕ
-unescape_told t room = cond (over token_limit t) too_long (length_told (keep-answer (kept class.Escaped (unescape t)) room))
+unescape_told t room = cond (over token_limit t) too_long (length_told (keep_answer (kept class.Escaped (unescape t)) room))
 
 unfoldable pub unescape_leaves : List ℕ → List ℕ → List ℕ
-unescape_leaves t d = cond (over token_limit t) d (keep-buffer (kept class.Escaped (unescape t)) d)
+unescape_leaves t d = cond (over token_limit t) d (keep_buffer (kept class.Escaped (unescape t)) d)
 
 abbrev pub Unescapes : List ℕ → List ℕ → ℕ → List ℕ → Type 0
 Unescapes t d r d' = (r ≡ unescape_told t (length d)) × (d' ≡ unescape_leaves t d)
@@ -39,8 +39,8 @@ unfoldable pub store_told : Stored → ℕ
 store_told (As k n) = done (class_number k + 8 * n)
 store_told (Refused n) = n
 
-abbrev pub Tells-stored : Keep → List ℕ → ℕ → List ℕ → Type 0
-Tells-stored x d r d' = (r ≡ store_told (keep-answer x (length d))) × (d' ≡ keep-buffer x d)
+abbrev pub TellsStored : Keep → List ℕ → ℕ → List ℕ → Type 0
+TellsStored x d r d' = (r ≡ store_told (keep_answer x (length d))) × (d' ≡ keep_buffer x d)
 
 -- yes or no
 abbrev pub answer_told : Bool → ℕ

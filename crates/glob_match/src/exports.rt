@@ -3,7 +3,7 @@
 ghost use Rattle.std.specs.Prelude.{◌≡◌};
 ghost use Rattle.numbers.specs.declared.Edition.TheVariants.{Reld};
 ghost use Rattle.storing.specs.Keeping.{keep};
-ghost use Rattle.glob_match.specs.Answers.{Tells-stored, Unescapes, answer-told, class-told, match-told, unasked-told};
+ghost use Rattle.glob_match.specs.Answers.{TellsStored, Unescapes, answer_told, class_told, match_told, unasked_told};
 
 use classes::{class_number, classify};
 use numbers::{Edition, NAME_LIMIT, NAME_NOT_UTF8, TOKEN_LIMIT, TOO_LONG};
@@ -12,7 +12,7 @@ use storing::{Stored, store_token, unescape_pattern};
 // The class of a token: 1, or 256 times its number.
 #[unsafe(no_mangle)]
 pub extern "C" fn glob_match_class(token: &[u8]) -> u64
-    ensures { result ≡ class-told token.now }
+    ensures { result ≡ class_told token.now }
 {
     if TOKEN_LIMIT < token.len() {
         return TOO_LONG as u64;
@@ -37,7 +37,7 @@ pub extern "C" fn glob_match_unescape(pattern: &[u8], out: &mut [u8]) -> u64
 // A token as it is stored: 1, 5, 6, 8, or 256 times its class and eight times how many bytes were written.
 #[unsafe(no_mangle)]
 pub extern "C" fn glob_match_store(token: &[u8], out: &mut [u8]) -> u64
-    ensures { Tells-stored (keep Reld token.now) out.old result out.new }
+    ensures { TellsStored (keep Reld token.now) out.old result out.new }
 {
     match store_token(Edition::Reld, token, out) {
         Stored::As(class, n) => 256 * ((class_number(class) as u64) + 8 * (n as u64)),
@@ -46,7 +46,7 @@ pub extern "C" fn glob_match_store(token: &[u8], out: &mut [u8]) -> u64
 }
 
 fn told(matched: bool) -> u64
-    ensures { result ≡ answer-told matched }
+    ensures { result ≡ answer_told matched }
 {
     if matched { 256 } else { 0 }
 }
@@ -54,7 +54,7 @@ fn told(matched: bool) -> u64
 // Whether a stored pattern matches a name: 1, 5, 6, 9, or 256 where it does and 0 where not.
 #[unsafe(no_mangle)]
 pub extern "C" fn glob_match_matches(stored: &[u8], name: &[u8]) -> u64
-    ensures { result ≡ match-told Reld stored.now name.now }
+    ensures { result ≡ match_told Reld stored.now name.now }
 {
     if TOKEN_LIMIT < stored.len() {
         return TOO_LONG as u64;
@@ -76,7 +76,7 @@ pub extern "C" fn glob_match_matches(stored: &[u8], name: &[u8]) -> u64
 // whether the brackets are closed.
 #[unsafe(no_mangle)]
 pub extern "C" fn glob_match_tried(stored: &[u8], name: &[u8]) -> u64
-    ensures { result ≡ unasked-told Reld stored.now name.now }
+    ensures { result ≡ unasked_told Reld stored.now name.now }
 {
     if TOKEN_LIMIT < stored.len() {
         return TOO_LONG as u64;

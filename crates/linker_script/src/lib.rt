@@ -9,14 +9,14 @@ pub mod comments;
 pub mod searching;
 
 // The first place of what was looked for.
-#[derive(Drop)]
+#[derive(Clone, Copy)]
 pub enum Found {
     Here(usize),
     Nowhere,
 }
 
 // Where a skip ends, or the place of the comment that nothing closes.
-#[derive(Drop)]
+#[derive(Clone, Copy)]
 pub enum Skipped {
     At(usize),
     Open(usize),

@@ -20,7 +20,7 @@ use Rattle.ranking.specs.declared.Deciding.{Deciding}
 use Rattle.ranking.specs.declared.Deciding.TheVariants as answer
 use Rattle.ranking.specs.Matching.{line_matches, name_of}
 use Rattle.ranking.specs.Walk.{decided, deciding_among}
-use Rattle.ranking.proofs.Answers.{decided-line, decided-none}
+use Rattle.ranking.proofs.Answers.{decided_line, decided_none}
 use Rattle.ranking.proofs.Deciders.{walk_decides}
 use Rattle.lookups.specs.declared.answers.Version.{Version}
 use Rattle.lookups.specs.declared.answers.Version.TheVariants as version
@@ -49,14 +49,14 @@ module _ (frame : Frame) (n p : ℕ) (l m raw demangled : List ℕ) (g : packs l
   in_order = lines_in-range frame (things line_form n l m) (lines_packed frame n p l m g).all
 
   pub unversioned : d ≡ answer.Nothing → version.Unversioned ≡ decided_version xs found
-  unversioned q = rw (decided-none found d w q)
+  unversioned q = rw (decided_none found d w q)
 
   pub nothing_decides : d ≡ answer.Nothing → locality.Nothing ≡ decided_locality xs found
-  nothing_decides q = rw (decided-none found d w q)
+  nothing_decides q = rw (decided_none found d w q)
 
   module _ (i : ℕ) (q : d ≡ answer.Line i) where
     pub one_found : found ≡ some i
-    one_found = decided-line found d i w q
+    one_found = decided_line found d i w q
 
     pub decider_below : i < n
     decider_below =

@@ -2,14 +2,14 @@
 use crate::index::VersionIndex;
 
 // A version's index, none, or the number that says no.
-#[derive(Drop)]
+#[derive(Clone, Copy)]
 pub enum Version {
     Index(VersionIndex),
     Unversioned,
     Refused(u32),
 }
 
-#[derive(Drop)]
+#[derive(Clone, Copy)]
 pub enum Locality {
     Nothing,
     Global,

@@ -3,10 +3,10 @@ ghost use Rattle.std.specs.Prelude.{◌≡◌};
 ghost use Rattle.lookups.specs.Lookups.{index_of, node_number};
 
 // A node's number, and a version's index.
-#[derive(Drop)]
+#[derive(Clone, Copy)]
 pub struct NodeNumber(u16);
 
-#[derive(Drop)]
+#[derive(Clone, Copy)]
 pub struct VersionIndex(u32);
 
 impl NodeNumber {

@@ -5,7 +5,7 @@ ghost use Rattle.matching.specs.Post.{ElementOk, BracketAtOk};
 use numbers::Edition;
 use pattern::bracket::bracket_takes;
 
-#[derive(Drop)]
+#[derive(Clone, Copy)]
 pub enum ElementAt {
     // A star: the place behind it.
     Star(usize),

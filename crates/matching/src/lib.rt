@@ -27,7 +27,7 @@ fn only_stars(edition: Edition, p: &[u8], from: usize) -> bool
 }
 
 // Whether a pattern matches a name, and how many tests were made.
-#[derive(Drop)]
+#[derive(Clone, Copy)]
 pub struct Tried {
     pub matched: bool,
     pub tests: u64,

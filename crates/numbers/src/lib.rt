@@ -73,7 +73,7 @@ pub const CXX: u32 = 1;
 
 // How texts and patterns are read. There is one way today, reld's; document 02 (request 06) brings a second. The definitions that promises cite of a pattern's
 // spelling, of a skip and of a token's end take the edition already, and so do the functions.
-#[derive(Drop)]
+#[derive(Clone, Copy)]
 pub enum Edition {
     Reld,
 }

@@ -44,7 +44,7 @@ pub fn between_length(edition: Edition, rest: &[u8], from: usize) -> usize
 }
 
 // Whether the member at a place takes x, and the place behind it.
-#[derive(Drop)]
+#[derive(Clone, Copy)]
 pub struct MemberAt {
     pub holds: bool,
     pub next: usize,
@@ -94,7 +94,7 @@ fn has_member(edition: Edition, body: &[u8], x: u32) -> bool
 }
 
 // Whether a bracket takes a character, and the place behind its `]`.
-#[derive(Drop)]
+#[derive(Clone, Copy)]
 pub struct Bracket {
     pub takes: bool,
     pub past: usize,

@@ -10,7 +10,7 @@ use numbers::{BAD_PATTERN, Edition, GLOB_NOT_UTF8};
 use pattern::bracket::{between_length, mark_at};
 
 // Where the bracket closes whose `[` stands just before a place: the place behind its `]`, or nowhere.
-#[derive(Drop)]
+#[derive(Clone, Copy)]
 pub enum Closing {
     Behind(usize),
     Open,

@@ -31,7 +31,7 @@ use Rattle.printing.proofs.Digits.{few-digits}
 use Rattle.printing.proofs.Pieces.{begins, few-numbered, put_first, puts-both}
 use Rattle.printing_symbols.specs.Lines.{counts_answered, counts_line}
 use Rattle.printing_listing.specs.SymbolLines.{answers}
-use Rattle.printing_listing.proofs.Answers.{answer-few}
+use Rattle.printing_listing.proofs.Answers.{answer_few}
 use Rattle.printing_listing.specs.declared.script.Listed.{Listed}
 use Rattle.printing_listing.specs.Script.{Prints, opened_printed, printed, with_refusal}
 
@@ -67,13 +67,13 @@ counts-few w = counts_line-few (counted version_count w) (counted parent_count w
 answers-few : (w : Option Book) (t s : List ℕ) → length (answers w (lines_in t s)) ≤ 15 * (length t + length s)
 unfolding answers lines_in
 answers-few w [] [] = omega arith
-answers-few w (c ∷ t) [] = rw append-nil (omega (arith, answer-few w (c ∷ t)))
+answers-few w (c ∷ t) [] = rw append-nil (omega (arith, answer_few w (c ∷ t)))
 answers-few w t (b ∷ s) = go (eqb b line_feed) (answers-few w [] s) (answers-few w (t ++ b ∷ []) s)
   where
     go : (v : Bool) → length (answers w (lines_in [] s)) ≤ 15 * (0 + length s)
         → length (answers w (lines_in (t ++ b ∷ []) s)) ≤ 15 * (length (t ++ b ∷ []) + length s)
         → length (answers w (cond v (t ∷ lines_in [] s) (lines_in (t ++ b ∷ []) s))) ≤ 15 * (length t + length (b ∷ s))
-    go true h k = simp length-append (omega (arith, answer-few w t))
+    go true h k = simp length-append (omega (arith, answer_few w t))
     go false h k = omega (arith, length-append t (b ∷ []))
 
 -- ---- the exits of `render_opened`: w is the book, d was lent, d₁ is left of it behind the counts, and d₂ at the end

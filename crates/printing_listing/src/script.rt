@@ -19,7 +19,7 @@ use printing_symbols::render_counts;
 use version_script::open;
 
 // How many bytes are printed, and the refusal with its place, or 0: the script's, that of an input over the limit, or that of an `out` without room.
-#[derive(Drop)]
+#[derive(Clone, Copy)]
 pub struct Listed {
     pub length: usize,
     pub refusal: u32,

@@ -13,7 +13,7 @@ pub mod finding;
 pub mod names;
 
 // The number of the line that decides, or nothing where no line matches.
-#[derive(Drop)]
+#[derive(Clone, Copy)]
 pub enum Deciding {
     Line(usize),
     Nothing,

@@ -8,7 +8,7 @@ use reading::scripts::next_event;
 use reading_cursors::{Cursor, Step};
 
 // A text, the place from which on it has no `};`, and where its reading stands.
-#[derive(Drop)]
+#[derive(Clone, Copy)]
 pub struct Reader<'a> {
     pub text: &'a [u8],
     pub last: usize,

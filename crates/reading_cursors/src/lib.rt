@@ -11,7 +11,7 @@ pub mod places;
 
 // Where a reading stands: the place in the text, the place in the grammar (specs/Places.antt), the section and language that a line there gets, and the
 // number of the edition in which it is read.
-#[derive(Drop)]
+#[derive(Clone, Copy)]
 pub struct Cursor {
     pub at: usize,
     pub place: u32,
@@ -20,7 +20,7 @@ pub struct Cursor {
     pub edition: u32,
 }
 
-#[derive(Drop)]
+#[derive(Clone, Copy)]
 pub enum Event {
     // A named node begins.
     Node {
@@ -51,7 +51,7 @@ pub enum Event {
     },
 }
 
-#[derive(Drop)]
+#[derive(Clone, Copy)]
 pub enum Step {
     Go(Event, Cursor),
     End,

@@ -12,7 +12,7 @@ use numbers::{Edition, UNCLOSED, UNREADABLE};
 pub mod names;
 
 // Where a token ends, or the number of its refusal.
-#[derive(Drop)]
+#[derive(Clone, Copy)]
 pub enum TokenEnd {
     To(usize),
     Refused(u32),

@@ -17,7 +17,7 @@ use Rattle.ranking.specs.declared.Deciding.{Deciding}
 use Rattle.ranking.specs.declared.Deciding.TheVariants as answer
 use Rattle.ranking.specs.Matching.{name_of}
 use Rattle.ranking.specs.Walk.{decided, deciding_among, first_line, or_else}
-use Rattle.ranking.proofs.Answers.{decided-line, decided-none}
+use Rattle.ranking.proofs.Answers.{decided_line, decided_none}
 use Rattle.ranking.proofs.Deciders.{Looked, found, missing, looked}
 use Rattle.lookups.proofs.Decided.{decider_below, decider_row, one_found}
 use Rattle.reasons.specs.declared.Reason.{Reason}
@@ -44,7 +44,7 @@ module _ (frame : Frame) (n p : ℕ) (l m raw demangled : List ℕ) (g : packs l
     (d : Deciding) (s : d ≡ decided (deciding_among given (name_of raw demangled) (things line_form n l m))) where
   pub ranked_none : d ≡ answer.Nothing
       → why.NoLine ≡ line_told (things line_form n l m) (deciding_among frame (name_of raw demangled) (things line_form n l m))
-  ranked_none q = rw (decided-none (deciding_among frame (name_of raw demangled) (things line_form n l m)) d (rw u at s) q)
+  ranked_none q = rw (decided_none (deciding_among frame (name_of raw demangled) (things line_form n l m)) d (rw u at s) q)
 
   module _ (i : ℕ) (q : d ≡ answer.Line i) where
     row : Row frame n l m i
@@ -65,7 +65,7 @@ module _ (t : Line → Bool) (frame : Frame) (n p : ℕ) (l m : List ℕ) (g : p
 
   module _ (d : Deciding) (s : d ≡ decided (first_line t 0 (things line_form n l m))) (i : ℕ) (q : d ≡ answer.Line i) where
     first_found : first_line t 0 (things line_form n l m) ≡ some i
-    first_found = decided-line _ d i s q
+    first_found = decided_line _ d i s q
 
     first_below : i < n
     first_below = below _ (looked t 0 (things line_form n l m)) i first_found
@@ -89,7 +89,7 @@ module _ (frame : Frame) (n p : ℕ) (l m t : List ℕ) (g : packs line_form (li
   module _ (q : d ≡ answer.Nothing) (f : Deciding) (u : f ≡ decided (first_line bare_star 0 (things line_form n l m))) where
     unlisted : rust_deciding t (things line_form n l m) ≡ first_line bare_star 0 (things line_form n l m)
     unfolding rust_deciding
-    unlisted = rw (decided-none (first_line (listed_as t) 0 (things line_form n l m)) d s q)
+    unlisted = rw (decided_none (first_line (listed_as t) 0 (things line_form n l m)) d s q)
 
     pub rust-star : (i : ℕ) → f ≡ answer.Line i → (r : Reason) → r ≡ row_reason l i
         → why.Line r ≡ line_told (things line_form n l m) (rust_deciding t (things line_form n l m))
@@ -97,4 +97,4 @@ module _ (frame : Frame) (n p : ℕ) (l m t : List ℕ) (g : packs line_form (li
         told_line (first_row bare_star frame n p l m g f u i y) _ (unlisted ∙ first_found bare_star frame n p l m g f u i y) r e
 
     pub rust_none : f ≡ answer.Nothing → why.NoLine ≡ line_told (things line_form n l m) (rust_deciding t (things line_form n l m))
-    rust_none y = rw (unlisted, decided-none (first_line bare_star 0 (things line_form n l m)) f u y)
+    rust_none y = rw (unlisted, decided_none (first_line bare_star 0 (things line_form n l m)) f u y)

@@ -5,7 +5,7 @@ pub mod asking;
 pub mod telling;
 
 // A line of a book: "number, class, node, section, language and offset".
-#[derive(Drop)]
+#[derive(Clone, Copy)]
 pub struct Reason {
     pub line: u32,
     pub class: u32,
@@ -16,7 +16,7 @@ pub struct Reason {
 }
 
 // The line that decides, that no line matches, that the wanted version decides, or the number that says no.
-#[derive(Drop)]
+#[derive(Clone, Copy)]
 pub enum Why {
     Line(Reason),
     NoLine,

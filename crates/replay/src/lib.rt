@@ -133,7 +133,7 @@ fn print_different(line: u64) {
 }
 
 // Where the next line begins, how many lines were met, how many of them are cases, and how many of those differ.
-#[derive(Drop)]
+#[derive(Clone, Copy)]
 pub struct Walk {
     pub at: usize,
     pub lines: u64,

@@ -125,7 +125,7 @@ fn part(text: &[u8], start: u64, len: u64) -> &[u8] {
 }
 
 // An event and its numbers, as reading_events tells them.
-#[derive(Drop)]
+#[derive(Clone, Copy)]
 struct Row {
     kind: u64,
     a: u64,

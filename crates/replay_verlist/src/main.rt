@@ -116,7 +116,7 @@ fn meant(b: u8) -> u8 {
 }
 
 // A byte that is written behind `\`, and the place behind it.
-#[derive(Drop)]
+#[derive(Clone, Copy)]
 struct Escape {
     byte: u8,
     next: usize,

@@ -18,37 +18,37 @@ use Rattle.classes.specs.declared.Class.TheVariants.{All}
 use Rattle.storing.specs.declared.Stored.{Stored}
 use Rattle.storing.specs.declared.Stored.TheVariants.{As, Refused}
 use Rattle.storing.specs.Keeping.{Keep, kept, keep_glob}
-use Rattle.storing.specs.Answers.{keep-answer, keep-buffer}
+use Rattle.storing.specs.Answers.{keep_answer, keep_buffer}
 use Rattle.storing.proofs.Keeping.{glob-refused, glob-kept}
 
 module _ (d : List ℕ) where
   -- the bytes b, which are n
   module _ (k : Class) (b : List ℕ) (n : ℕ) (e : n ≡ length b) where
-    pub full_answer : length d < n → Refused 8 ≡ keep-answer (kept k b) (length d)
-    unfolding keep-answer
+    pub full_answer : length d < n → Refused 8 ≡ keep_answer (kept k b) (length d)
+    unfolding keep_answer
     full_answer h = rw (lt-leb (length b) (length d) (omega arith))
 
-    pub full_buffer : length d < n → d ≡ keep-buffer (kept k b) d
-    unfolding keep-buffer
+    pub full_buffer : length d < n → d ≡ keep_buffer (kept k b) d
+    unfolding keep_buffer
     full_buffer h = rw (lt-leb (length b) (length d) (omega arith))
 
-    pub room_answer : n ≤ length d → As k n ≡ keep-answer (kept k b) (length d)
-    unfolding keep-answer
+    pub room_answer : n ≤ length d → As k n ≡ keep_answer (kept k b) (length d)
+    unfolding keep_answer
     room_answer h = rw (le-leb (length b) (length d) (omega arith), e)
 
-    pub room_buffer : n ≤ length d → (d' : List ℕ) → d' ≡ front b d → d' ≡ keep-buffer (kept k b) d
-    unfolding keep-buffer
+    pub room_buffer : n ≤ length d → (d' : List ℕ) → d' ≡ front b d → d' ≡ keep_buffer (kept k b) d
+    unfolding keep_buffer
     room_buffer h d' f = rw (le-leb (length b) (length d) (omega arith)) f
 
   -- a glob; n is what `pattern_refusal` answers
   module _ (e : Edition) (k : Class) (t : List ℕ) (n : ℕ) (q : n ≡ refusal e (stored e t)) where
     module _ (z : n ≡ 0 → ⊥) where
-      pub glob_refused_answer : Refused n ≡ keep-answer (keep_glob e k t) (length d)
-      unfolding keep-answer
+      pub glob_refused_answer : Refused n ≡ keep_answer (keep_glob e k t) (length d)
+      unfolding keep_answer
       glob_refused_answer = rw (glob-refused e k t n q z)
 
-      pub glob_refused_buffer : d ≡ keep-buffer (keep_glob e k t) d
-      unfolding keep-buffer
+      pub glob_refused_buffer : d ≡ keep_buffer (keep_glob e k t) d
+      unfolding keep_buffer
       glob_refused_buffer = rw (glob-refused e k t n q z)
 
     module _ (z : n ≡ 0) where
@@ -57,38 +57,38 @@ module _ (d : List ℕ) where
 
       -- and r what `has_room` does
       module _ (r : Bool) (l : r ≡ leb (length (stored e t)) (length d)) where
-        pub glob_full_answer : not r ≡ true → Refused 8 ≡ keep-answer (keep_glob e k t) (length d)
-        unfolding keep-answer
+        pub glob_full_answer : not r ≡ true → Refused 8 ≡ keep_answer (keep_glob e k t) (length d)
+        unfolding keep_answer
         glob_full_answer h = rw (taken, ← l, not-true r h)
 
-        pub glob_full_buffer : not r ≡ true → d ≡ keep-buffer (keep_glob e k t) d
-        unfolding keep-buffer
+        pub glob_full_buffer : not r ≡ true → d ≡ keep_buffer (keep_glob e k t) d
+        unfolding keep_buffer
         glob_full_buffer h = rw (taken, ← l, not-true r h)
 
         module _ (h : not r ≡ false) where
           pub glob_fits : length (stored e t) ≤ length d
           glob_fits = leb-true (length (stored e t)) (length d) (sym l ∙ not-false r h)
 
-          pub glob_room_answer : (m : ℕ) → m ≡ length (stored e t) → As k m ≡ keep-answer (keep_glob e k t) (length d)
+          pub glob_room_answer : (m : ℕ) → m ≡ length (stored e t) → As k m ≡ keep_answer (keep_glob e k t) (length d)
           glob_room_answer m q = rw taken (room_answer k (stored e t) m q (omega (arith, q, glob_fits)))
 
-          pub glob_room_buffer : (d' : List ℕ) → d' ≡ front (stored e t) d → d' ≡ keep-buffer (keep_glob e k t) d
+          pub glob_room_buffer : (d' : List ℕ) → d' ≡ front (stored e t) d → d' ≡ keep_buffer (keep_glob e k t) d
           glob_room_buffer d' f = rw taken (room_buffer k (stored e t) (length (stored e t)) refl glob_fits d' f)
 
   -- nothing is stored
   module _ (x : Keep) (q : x ≡ kept All []) where
-    pub all_answer : As All 0 ≡ keep-answer x (length d)
+    pub all_answer : As All 0 ≡ keep_answer x (length d)
     all_answer = rw q (room_answer All [] 0 refl (omega arith))
 
-    pub all_buffer : d ≡ keep-buffer x d
+    pub all_buffer : d ≡ keep_buffer x d
     all_buffer = rw q (room_buffer All [] 0 refl (omega arith) d (front-nil d))
 
   -- what is kept is said in two ways, x and y
   module _ (x y : Keep) where
-    pub same_answer : (r : Stored) → r ≡ keep-answer y (length d) → x ≡ y → r ≡ keep-answer x (length d)
+    pub same_answer : (r : Stored) → r ≡ keep_answer y (length d) → x ≡ y → r ≡ keep_answer x (length d)
     same_answer r a q = rw q a
 
-    pub same_buffer : (d' : List ℕ) → d' ≡ keep-buffer y d → x ≡ y → d' ≡ keep-buffer x d
+    pub same_buffer : (d' : List ℕ) → d' ≡ keep_buffer y d → x ≡ y → d' ≡ keep_buffer x d
     same_buffer d' a q = rw q a
 
 -- a copy of all of b

@@ -92,5 +92,5 @@ module _ (e : Edition) where
     pub plain_fits : (n : ℕ) → length (stored e t) ≤ n → length t ≤ n
     plain_fits n k = rw whole at k
 
-    pub plain_copied : (d d' : List ℕ) → d' ≡ take (length t) t ++ drop (length t) d → d' ≡ front (stored e t) d
-    plain_copied d d' k = rw whole (copied t d d' k)
+    pub plain_copied : (d d' : List ℕ) → d' ≡ front t d → d' ≡ front (stored e t) d
+    plain_copied d d' k = rw whole k

@@ -14,10 +14,18 @@ pub mod runs;
 
 // A token's class and how many bytes of a lent buffer hold what is stored of it, or the number that
 // refused it; then nothing was written.
-#[derive(Drop)]
+#[derive(Clone, Copy)]
 pub enum Stored {
     As(Class, usize),
     Refused(u32),
+}
+
+// Bytes at the front of a buffer that has room for them.
+fn copy(bytes: &[u8], out: &mut [u8])
+    requires { length bytes.now ≤ length out.old }
+    ensures { out.new ≡ front bytes.now out.old }
+{
+    out[..bytes.len()].copy_from_slice(bytes);
 }
 
 // Bytes that are stored as they are.
@@ -28,7 +36,7 @@ fn store_exact(exact: &[u8], out: &mut [u8]) -> Stored
     if out.len() < n {
         return Stored::Refused(NO_ROOM);
     }
-    bytes::copy(exact, out);
+    copy(exact, out);
     Stored::As(Class::Exact, n)
 }
 

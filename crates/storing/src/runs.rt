@@ -5,6 +5,7 @@ ghost use Rattle.pattern.specs.Storing.{stored};
 ghost use Rattle.storing.specs.Answers.{Copies};
 ghost use Rattle.storing.specs.Post.{at_start, bracket_more, kept_from, kept_step, pair, plain, put_by};
 
+use crate::copy;
 use numbers::Edition;
 use pattern::bracket::{between_length, mark_at};
 
@@ -40,7 +41,7 @@ fn is_plain(token: &[u8]) -> bool
 
 // Where a walk over a token stands: how many bytes are left of the bracket that it is in, whether a star outside brackets stands just before, and whether a `[`
 // does.
-#[derive(Drop)]
+#[derive(Clone, Copy)]
 pub struct Walk {
     pub left: usize,
     pub starred: bool,
@@ -48,7 +49,7 @@ pub struct Walk {
 }
 
 // What becomes of a byte: what is put for it, unless it is dropped, and where the walk stands behind it.
-#[derive(Drop)]
+#[derive(Clone, Copy)]
 pub struct Step {
     pub put: u8,
     pub dropped: bool,
@@ -153,7 +154,7 @@ pub fn copy_kept(edition: Edition, token: &[u8], out: &mut [u8]) -> usize
     ensures { Copies (stored edition token.now) out.old result out.new }
 {
     if is_plain(token) {
-        bytes::copy(token, out);
+        copy(token, out);
         return token.len();
     }
     let mut w = start();

@@ -3,7 +3,7 @@
 use book::Counts;
 
 // The counts of the book behind the edit, or the number that says no.
-#[derive(Drop)]
+#[derive(Clone, Copy)]
 pub enum Edited {
     Done(Counts),
     Refused(u32),

@@ -17,7 +17,7 @@ use Rattle.classes.specs.declared.Class.{Class}
 use Rattle.storing.specs.declared.Stored.{Stored}
 use Rattle.storing.specs.declared.Stored.TheVariants.{As}
 use Rattle.storing.specs.declared.Stored.TheVariants as stored
-use Rattle.storing.specs.Answers.{keep-answer}
+use Rattle.storing.specs.Answers.{keep_answer}
 use Rattle.classes.specs.Classes.{class_number}
 use Rattle.storing.specs.Keeping.{Keep, kept, refused, keep}
 use Rattle.book.specs.declared.Counts.{Counts}
@@ -51,9 +51,9 @@ use Rattle.trial.specs.Changes.{Change, Makes, after, edited, no as says_no, to}
 use Rattle.trial.specs.Trial.{append, append_kept, unplaced, with_line}
 
 -- ---- what refuses a token that has no row: r is what `store_token` answers with no room at all
-module _ (x : Edition) (frame : Frame) (t : List ℕ) (y : x ≡ edition_of frame) (r : Stored) (u : r ≡ keep-answer (keep x t) 0) where
-  told : (K : Keep) (i : ℕ) → r ≡ keep-answer K 0 → r ≡ stored.Refused i → i ≡ unplaced K
-  unfolding keep-answer
+module _ (x : Edition) (frame : Frame) (t : List ℕ) (y : x ≡ edition_of frame) (r : Stored) (u : r ≡ keep_answer (keep x t) 0) where
+  told : (K : Keep) (i : ℕ) → r ≡ keep_answer K 0 → r ≡ stored.Refused i → i ≡ unplaced K
+  unfolding keep_answer
   told (refused n) i v z = cc
   told (kept k []) i v z = let a : ◌≡◌ {A = ℕ} 0 1 = cc in absurd (omega arith)
   told (kept k (b ∷ bs)) i v z = let w : r ≡ stored.Refused no_room = v ∙ rw (lt-leb (length (b ∷ bs)) 0 (omega arith)) in cc
@@ -61,8 +61,8 @@ module _ (x : Edition) (frame : Frame) (t : List ℕ) (y : x ≡ edition_of fram
   pub unplaced-refused : (i : ℕ) → r ≡ stored.Refused i → i ≡ unplaced (keep (edition_of frame) t)
   unplaced-refused i z = rw (← y) (told (keep x t) i u z)
 
-  stored-told : (K : Keep) (k : Class) (i : ℕ) → r ≡ keep-answer K 0 → r ≡ As k i → no_room ≡ unplaced K
-  unfolding keep-answer
+  stored-told : (K : Keep) (k : Class) (i : ℕ) → r ≡ keep_answer K 0 → r ≡ As k i → no_room ≡ unplaced K
+  unfolding keep_answer
   stored-told (refused n) k i v z = let a : ◌≡◌ {A = ℕ} 0 1 = cc in absurd (omega arith)
   stored-told (kept j bs) k i v z = refl
 

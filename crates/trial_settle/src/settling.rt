@@ -32,7 +32,7 @@ fn none_struck(lines: &[u32], pool: &[u8], n: usize) -> bool
 }
 
 // How many lines stand, and how many bytes they have.
-#[derive(Drop)]
+#[derive(Clone, Copy)]
 pub struct Standing {
     pub lines: u32,
     pub pool: u32,

@@ -28,7 +28,7 @@ use Rattle.trial.specs.Changes.{Answers, no, to}
 use Rattle.trial.specs.Trial.{strike_asked, strike_line, with_strike}
 use Rattle.trial.proofs.Marking.{marked_ok}
 use Rattle.trial.proofs.Marks.{code-stands, code-struck, line_code, line-right, line_room, line-within}
-use Rattle.trial.proofs.Answers.{Shown, layout-answers, refusal-answers, shown}
+use Rattle.trial.proofs.Answers.{Shown, layout_answers, refusal_answers, shown}
 
 -- ---- what a strike makes of the book
 module _ {c : Counts} {b : Buffers} {w : Book} (t : Layout c b w) (i : ℕ) where
@@ -94,12 +94,12 @@ pub record Roomy (c : Counts) (b : Buffers) (i : ℕ) : Type 0 where
 module _ (c : Counts) (b : Buffers) (i : ℕ) (x : Bool) (e : x ≡ holds c b) where
   pub strike-no_book : not x ≡ true → Strikes c b i (answer.Refused no_book) b
   unfolding strike_asked
-  strike-no_book h = refusal-answers b _ no_book (rw (asked_none c b x e h))
+  strike-no_book h = refusal_answers b _ no_book (rw (asked_none c b x e h))
 
   module _ (h : not x ≡ false) where
     pub strike-rust : c.kind ≡ rust → Strikes c b i (answer.Refused wrong_kind) b
     unfolding strike_asked book_of
-    strike-rust k = refusal-answers b _ wrong_kind (rw ((shown c b x e h).viewed, eq-eqb _ _ k))
+    strike-rust k = refusal_answers b _ wrong_kind (rw ((shown c b x e h).viewed, eq-eqb _ _ k))
 
     module _ (k : c.kind ≡ rust → ⊥) where
       asks-line : strike_asked b (view c b) i ≡ strike_line b (book_of c b) i
@@ -107,7 +107,7 @@ module _ (c : Counts) (b : Buffers) (i : ℕ) (x : Bool) (e : x ≡ holds c b) w
       asks-line = rw ((shown c b x e h).viewed, ne_eqb _ _ k)
 
       pub strike-past : c.lines ≤ i → Strikes c b i (answer.Refused no_such) b
-      strike-past g = refusal-answers b _ no_such (asks-line ∙ past_line (shown c b x e h).layout i g)
+      strike-past g = refusal_answers b _ no_such (asks-line ∙ past_line (shown c b x e h).layout i g)
 
       pub strike-told : i < c.lines → Told c b i
       strike-told g = record { book = shown c b x e h; asks = asks-line; within = g }
@@ -118,12 +118,12 @@ module _ {c : Counts} {b : Buffers} {i : ℕ} (t : Told c b i) where
 
   module _ (x : Bool) (e : x ≡ has_mark (get_or b.lines (line_width * i + 1) 0)) where
     pub strike-struck : x ≡ true → Strikes c b i (answer.Refused no_such) b
-    strike-struck h = refusal-answers b _ no_such (t.asks ∙ struck-line t.book.layout i t.within (leb-true _ _ (sym e ∙ h)))
+    strike-struck h = refusal_answers b _ no_such (t.asks ∙ struck-line t.book.layout i t.within (leb-true _ _ (sym e ∙ h)))
 
     module _ (h : x ≡ false) (y : Bool) (f : y ≡ edit_row b.journal c.edits) where
       pub strike-no_room : not y ≡ true → Strikes c b i (answer.Refused no_room) b
       strike-no_room o =
-          refusal-answers b _ no_room
+          refusal_answers b _ no_room
           (t.asks ∙ no_row t.book.layout i t.within (leb-false _ _ (sym e ∙ h)) (sym f ∙ not-true y o))
 
       pub strike-roomy : not y ≡ false → Roomy c b i
@@ -143,7 +143,7 @@ module _ {c : Counts} {b : Buffers} {i : ℕ} (r : Roomy c b i) where
   strike-done d l' j' ed el ej =
       let t = r.told in
       rw ed
-      (layout-answers _ b (five b.nodes b.names l' b.pool j') _ _
+      (layout_answers _ b (five b.nodes b.names l' b.pool j') _ _
       (t.asks ∙ a_row t.book.layout i t.within r.stands r.row)
       (struck-layout t.book.layout i t.within r.stands r.row el ej)
       (record {

@@ -17,13 +17,13 @@ use Rattle.trial.specs.declared.Edited.TheVariants as answer
 use Rattle.trial.specs.Changes.{Makes, to}
 use Rattle.trial.specs.Trial.{append}
 use Rattle.trial.specs.Symbols.{add_event}
-use Rattle.trial.proofs.Answers.{layout-answers}
+use Rattle.trial.proofs.Answers.{layout_answers}
 
 -- x is no line
 pub unchanged : {c : Counts} {b : Buffers} → Layout c b (book_of c b) → (s : List ℕ) {e x : Event} → e ≡ x → add_event b s (book_of c b) x ≡ to (book_of c b)
     → Makes c b (λ b w. add_event b s w e) (answer.Done c) b
 unchanged {c} {b} t s z q =
-    layout-answers c b b (book_of c b) _ (rw z q) t (record { nodes = refl; names = refl; lines = refl; pool = refl; journal = refl })
+    layout_answers c b b (book_of c b) _ (rw z q) t (record { nodes = refl; names = refl; lines = refl; pool = refl; journal = refl })
 
 -- ---- a line
 module _ {e : Event} {section language p k : ℕ} (z : e ≡ Line section language p k) (s : List ℕ) where

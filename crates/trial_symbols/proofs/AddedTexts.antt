@@ -31,7 +31,7 @@ use Rattle.trial.specs.declared.Edited.TheVariants as answer
 use Rattle.trial.specs.Changes.{Change, Leaves, Makes, after, edited, no, to}
 use Rattle.trial.specs.Clearing.{Clears, Reaches}
 use Rattle.trial.specs.Symbols.{add_event, add_events, add_reading, on_change}
-use Rattle.trial.proofs.Answers.{layout-answers, refusal-answers}
+use Rattle.trial.proofs.Answers.{layout_answers, refusal_answers}
 use Rattle.trial.proofs.Growth.{Grown, back_asks, event_grows, grown_none, taken_back}
 use Rattle.trial.proofs.SameRooms.{event_same}
 
@@ -116,7 +116,7 @@ module _ {c : Counts} {place : ℕ} {s n m l q j l' q' j' : List ℕ} {x : Curso
 
   declines : (a : ℕ) (l'' q'' j'' : List ℕ) → change ≡ no a → Clears c k l' q' j' l'' q'' j'' → Adds (answer.Refused a) (five n m l'' q'' j'')
   declines a l'' q'' j'' z t =
-      subst (λ (b : Buffers). Adds (answer.Refused a) b) (sym (back_same l'' q'' j'' t)) (refusal-answers lent change a z)
+      subst (λ (b : Buffers). Adds (answer.Refused a) b) (sym (back_same l'' q'' j'' t)) (refusal_answers lent change a z)
 
   -- y is what `next_event` answers
   module _ {y : Step} (e : y ≡ next s x) where
@@ -127,7 +127,7 @@ module _ {c : Counts} {place : ℕ} {s n m l q j l' q' j' : List ℕ} {x : Curso
     -- the text has ended
     pub going_ends : y ≡ End → Adds (answer.Done k) lent_now
     unfolding add_reading add_events
-    going_ends z = layout-answers k lent lent_now i.book change (left_to-read End z) i.layout i.rooms
+    going_ends z = layout_answers k lent lent_now i.book change (left_to-read End z) i.layout i.rooms
 
     -- the reading is refused
     pub going_refused : {a p : ℕ} {l'' q'' j'' : List ℕ} → y ≡ Refused a p → Clears c k l' q' j' l'' q'' j'' → Adds (answer.Refused a) (five n m l'' q'' j'')

@@ -24,7 +24,7 @@ use Rattle.trial.specs.declared.Edited.TheVariants as answer
 use Rattle.trial.specs.Changes.{Answers, Makes}
 use Rattle.trial.specs.Symbols.{add_reading, symbol_asked, symbol_place}
 use Rattle.trial.proofs.AddedLines.{some_node}
-use Rattle.trial.proofs.Answers.{refusal-answers}
+use Rattle.trial.proofs.Answers.{refusal_answers}
 
 -- ---- r is answered, and b' left
 abbrev pub Adds : Counts → Buffers → List ℕ → Bool → Edited → Buffers → Type 0
@@ -40,12 +40,12 @@ pub record Listed (c : Counts) (b : Buffers) : Type 0 where
 module _ (c : Counts) (b : Buffers) (x : Bool) (e : x ≡ holds c b) where
   pub symbol-no_book : (s : List ℕ) (bare : Bool) → not x ≡ true → Adds c b s bare (answer.Refused no_book) b
   unfolding symbol_asked
-  symbol-no_book s bare h = refusal-answers b _ no_book (rw (asked_none c b x e h))
+  symbol-no_book s bare h = refusal_answers b _ no_book (rw (asked_none c b x e h))
 
   module _ (h : not x ≡ false) where
     pub symbol-kind : (s : List ℕ) (bare : Bool) → (c.kind ≡ export → ⊥) → Adds c b s bare (answer.Refused wrong_kind) b
     unfolding symbol_asked book_of
-    symbol-kind s bare k = refusal-answers b _ wrong_kind (rw ((asked-held c b x e h).viewed, ne_eqb c.kind export k))
+    symbol-kind s bare k = refusal_answers b _ wrong_kind (rw ((asked-held c b x e h).viewed, ne_eqb c.kind export k))
 
     pub symbol-listed : c.kind ≡ export → Listed c b
     unfolding holds sane
@@ -62,7 +62,7 @@ module _ {c : Counts} {b : Buffers} (h : Listed c b) where
   module _ (s : List ℕ) (bare : Bool) where
     pub symbol-long : token_limit < length s → Adds c b s bare (answer.Refused too_long) b
     unfolding symbol_asked book_of
-    symbol-long f = refusal-answers b _ too_long (rw (h.held.viewed, eq-eqb c.kind export h.kind, lt-ltb token_limit (length s) f))
+    symbol-long f = refusal_answers b _ too_long (rw (h.held.viewed, eq-eqb c.kind export h.kind, lt-ltb token_limit (length s) f))
 
     kind-held : eqb (book_of c b).kind export ≡ true
     unfolding book_of

@@ -42,7 +42,7 @@ use Rattle.trial_undo.specs.Latest.{
   unstruck,
   what_told,
 }
-use Rattle.trial.proofs.Answers.{Shown, layout-answers, refusal-answers, shown}
+use Rattle.trial.proofs.Answers.{Shown, layout_answers, refusal_answers, shown}
 use Rattle.trial.proofs.Marking.{marked_ok}
 use Rattle.trial.proofs.Marks.{line_code, line_ranged, line-right, line_room, line-within}
 
@@ -230,14 +230,14 @@ Undoes c b = Answers c b (λ b w. undo_asked w)
 module _ (c : Counts) (b : Buffers) (x : Bool) (e : x ≡ holds c b) where
   pub undo-no_book : not x ≡ true → Undoes c b (answer.Refused no_book) b
   unfolding undo_asked
-  undo-no_book h = refusal-answers b _ no_book (rw (asked_none c b x e h))
+  undo-no_book h = refusal_answers b _ no_book (rw (asked_none c b x e h))
 
   pub undo-nothing : not x ≡ false → c.edits ≡ 0 → Undoes c b (answer.Refused nothing_to_undo) b
   unfolding undo_asked
   undo-nothing h z =
       let here = shown c b x e h in
       let q : length (book_of c b).edits ≡ 0 = sym here.layout.edits.count ∙ z in
-      refusal-answers b _ nothing_to_undo (rw (here.viewed, eq-eqb _ _ q))
+      refusal_answers b _ nothing_to_undo (rw (here.viewed, eq-eqb _ _ q))
 
 module _ {c : Counts} {b : Buffers} (here : Shown c b) (z : c.edits ≡ 0 → ⊥) where
   -- what takes it back
@@ -268,7 +268,7 @@ module _ {c : Counts} {b : Buffers} (here : Shown c b) (z : c.edits ≡ 0 → �
         let s = start_of b.lines (line_told c b.journal) in
         let q : s + (c.pool - s) ≤ length b.pool = omega (arith, r) in
         let o : length (zeros (c.pool - s)) ≡ c.pool - s = length-replicate (c.pool - s) 0 in
-        layout-answers _ b (five b.nodes b.names l' p' j') _ _
+        layout_answers _ b (five b.nodes b.names l' p' j') _ _
         (asks _ (last_line here.layout here.fitting z g).1)
         (added-layout here.layout here.fitting z g el ep ej)
         (record {
@@ -282,7 +282,7 @@ module _ {c : Counts} {b : Buffers} (here : Shown c b) (z : c.edits ≡ 0 → �
     undo-struck : (what_told c b.journal ≡ add → ⊥) → l' ≡ unstruck b.lines (line_told c b.journal)
         → Undoes c b (answer.Done (counts_with c c.lines c.pool (c.edits - 1))) (five b.nodes b.names l' b.pool j')
     undo-struck g el =
-        layout-answers _ b (five b.nodes b.names l' b.pool j') _ _
+        layout_answers _ b (five b.nodes b.names l' b.pool j') _ _
         (asks _ (struck-line here.layout here.fitting z g).2)
         (stood_layout here.layout here.fitting z g el ej)
         (record {

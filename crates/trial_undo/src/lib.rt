@@ -15,7 +15,7 @@ use trial::Edited;
 pub mod taking_back;
 
 // What undo makes of the counts, and the number that it answers.
-#[derive(Drop)]
+#[derive(Clone, Copy)]
 struct Undone {
     counts: Counts,
     number: u32,

@@ -6,7 +6,7 @@ ghost use Rattle.utf8.specs.At.{placed, character_at};
 
 // The character at a place: its number, the place behind it, and whether one starts there. Where none does it is U+FFFD and
 // one byte long; at the end of the text, and past it, U+FFFD and no byte long.
-#[derive(Drop)]
+#[derive(Clone, Copy)]
 pub struct Character {
     pub number: u32,
     pub next: usize,

@@ -4,7 +4,7 @@ use mathlib.Core.Path.{◌≡◌, refl}
 use native.Mathlib.Omega.{arith}
 use Rattle.book.specs.Layout.{Buffers, five}
 use Rattle.trial.specs.Trial.{undo_asked}
-use Rattle.trial.proofs.Answers.{Shown, done-left, refused_left, shown}
+use Rattle.trial.proofs.Answers.{Shown, done_left, refused_left, shown}
 use Rattle.trial_undo.proofs.TakenBack.{undo_able, undo-done, undo-no_book, undo-nothing}
 use Rattle.trial_undo.proofs.undo_by_value.Statement.{statement}
 use Rattle.trial_undo.proofs.undo_by_value.Tie as tie
@@ -43,7 +43,7 @@ returns-3 : tie.Need-returns-3
 returns-3 c =
     let t = c.before.before.before.before.before.before in
     let d = t.before.before.before.before in
-    done-left _ _ _ _ (λ b w. undo_asked w) (undo-done (here d.before.before) (edited d) _ _ _ _ t.take-back-latest.ensures) _ refl
+    done_left _ _ _ _ (λ b w. undo_asked w) (undo-done (here d.before.before) (edited d) _ _ _ _ t.take-back-latest.ensures) _ refl
 
 pub undo_by_value_spec : {M : Type 1} → statement M
 undo_by_value_spec =

@@ -5,7 +5,7 @@ use lib.ListN.{length}
 use native.Mathlib.Omega.{arith}
 use Rattle.book.specs.Layout.{five}
 use Rattle.book.specs.View.{view}
-use Rattle.printing_listing.proofs.Answers.{Answered, answers_end, answers-start, last-put, last-room, line-ends, line-put, line_room, line-starts, next-less, next-within}
+use Rattle.printing_listing.proofs.Answers.{Answered, answers_end, answers_start, last_put, last_room, line-ends, line-put, line_room, line_starts, next_less, next_within}
 use Rattle.printing_listing.proofs.symbols.render_symbols.Statement.{statement}
 use Rattle.printing_listing.proofs.symbols.render_symbols.Tie as tie
 
@@ -17,17 +17,17 @@ abbrev decreases-loop : tie.decreases-loop
 decreases-loop c nodes names lines pool journal symbols from out₀ at₀ end₀ out at end = length symbols - at
 
 loop-holds : tie.Need-loop-init invariant-loop decreases-loop
-loop-holds c = answers-start
+loop-holds c = answers_start
 
 sub-put-answer : tie.Need-overflow-sub-put-answer invariant-loop decreases-loop
 sub-put-answer c =
     let at-find = c.before.before.before in
-    line-starts at-find.before.before.loop.invariant at-find.find.ensures c.before.p.given.1
+    line_starts at-find.before.before.loop.invariant at-find.find.ensures c.before.p.given.1
 
 part-put-answer-start : tie.Need-slice-bounds-put-answer-start invariant-loop decreases-loop
 part-put-answer-start c =
     let at-find = c.before.before.before in
-    line-starts at-find.before.before.loop.invariant at-find.find.ensures c.before.p.given.1
+    line_starts at-find.before.before.loop.invariant at-find.find.ensures c.before.p.given.1
 
 part-put-answer-end : tie.Need-slice-bounds-put-answer-end invariant-loop decreases-loop
 part-put-answer-end c =
@@ -47,7 +47,7 @@ add_at c =
     let at_p = c.before.before.before.before.before.before in
     let at-find = at_p.before.before in
     let at-loop = at-find.before.before in
-    let z = next-within at-loop.loop.invariant at-find.find.ensures at_p.p.given.1 in
+    let z = next_within at-loop.loop.invariant at-find.find.ensures at_p.p.given.1 in
     let g = at-loop.before.before.before.before.before.before.before.before.well-formed in
     omega arith
 
@@ -55,7 +55,7 @@ loop-less : tie.Need-loop-smaller invariant-loop decreases-loop
 loop-less c =
     let at_p = c.before.before.before.before.before.before in
     let at-find = at_p.before.before in
-    omega (arith, next-less at-find.before.before.loop.invariant at-find.find.ensures at_p.p.given.1)
+    omega (arith, next_less at-find.before.before.loop.invariant at-find.find.ensures at_p.p.given.1)
 
 loop-again : tie.Need-loop-preserved invariant-loop decreases-loop
 loop-again c =
@@ -71,7 +71,7 @@ put-answer-requires-2 c κs =
     let at-loop-test = c.before.before.before.before.before in
     let at-loop = at-loop-test.before in
     let at-args = at-loop.before.before.before.before.before.before.before.before in
-    (last-room at-loop.loop.invariant at-loop-test.loop-test.true at-args.requires.0, at-args.requires.1)
+    (last_room at-loop.loop.invariant at-loop-test.loop-test.true at-args.requires.0, at-args.requires.1)
 
 returns : tie.Need-returns invariant-loop decreases-loop
 returns c =
@@ -80,7 +80,7 @@ returns c =
     let at-find = at-enum-told.before.before in
     let at-loop = at-find.before.before in
     let at-args = at-loop.before.before.before.before.before.before.before.before in
-    last-put at-loop.loop.invariant at-find.before.loop-test.true at-args.requires.0 at-find.find.ensures at-enum-told.enum_told.given.1
+    last_put at-loop.loop.invariant at-find.before.loop-test.true at-args.requires.0 at-find.find.ensures at-enum-told.enum_told.given.1
     at-put-answer2.put-answer2.ensures
 
 returns-2 : tie.Need-returns-2 invariant-loop decreases-loop

@@ -1,0 +1,15 @@
+-- `block_mark` meets its contract. Assumes nothing.
+use Prim.Native.Nat.{◌-◌}
+use native.Mathlib.Omega.{arith}
+use borrow.Author.Rules.{rules}
+use Rattle.classes.proofs.Scanning.{Block, block_start, block_on, block_end}
+use Rattle.classes.proofs.block_mark.Goals as goal
+
+pub loop-i-init : goal.loop-i-init
+loop-i-init c = search block_start
+
+pub loop-i-preserved : goal.loop-i-preserved
+loop-i-preserved c = search block_on
+
+pub returns : goal.returns
+returns c = search block_end

@@ -1,0 +1,13 @@
+-- `part_before` meets its contract. Assumes nothing.
+use borrow.Author.Rules.{rules}
+use Rattle.input.proofs.Halves.{before_all, before_count, before_part}
+use Rattle.input.proofs.splitting.part_before.Goals as goal
+
+pub slice_bounds-result-end : goal.slice_bounds-result-end
+slice_bounds-result-end c = search before_count
+
+pub returns-in-Nowhere : goal.returns-in-Nowhere
+returns-in-Nowhere c = search before_all
+
+pub returns-in-Here : goal.returns-in-Here
+returns-in-Here c = search before_part

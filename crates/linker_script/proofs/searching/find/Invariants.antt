@@ -1,0 +1,22 @@
+-- `find` meets its contract. The loops' invariant: what is found from i on decides. Assumes nothing.
+use Prim.Native.Nat.{◌+◌, ◌-◌, ◌≤◌}
+use mathlib.Core.Path.{◌≡◌, refl}
+use native.Mathlib.Omega.{arith}
+use borrow.Author.Rules.{rules}
+use lib.ListN.{length}
+use Rattle.linker_script.specs.Finding.{first_from, is}
+use Rattle.linker_script.proofs.Searches.{find_here, find_on, find_none}
+use Rattle.linker_script.proofs.Blocks.{has_within, block_here, block_on}
+use Rattle.linker_script.proofs.searching.find.Given as goal
+
+abbrev pub invariant-loop-k : goal.invariant-loop-k
+invariant-loop-k l = first_from (is l.x) l.s l.at ≡ first_from (is l.x) l.s l.i
+
+abbrev pub decreases-loop-k : goal.decreases-loop-k
+decreases-loop-k l = length l.s - l.i
+
+abbrev pub invariant-loop-i : goal.invariant-loop-i
+invariant-loop-i l = first_from (is l.x) l.s l.at ≡ first_from (is l.x) l.s l.i
+
+abbrev pub decreases-loop-i : goal.decreases-loop-i
+decreases-loop-i l = length l.s - l.i

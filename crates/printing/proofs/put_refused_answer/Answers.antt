@@ -1,0 +1,9 @@
+-- `put_refused_answer` meets its contract. Assumes nothing.
+use borrow.Author.Rules.{rules}
+use Rattle.lists.specs.Texts.{codes}
+use Rattle.printing.specs.Printing.{refused_answer}
+use Rattle.printing.proofs.put_refused_answer.Goals as goal
+
+pub returns : goal.returns
+unfolding refused_answer codes
+returns c = c.put_numbered.ensures

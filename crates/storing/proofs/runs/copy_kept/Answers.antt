@@ -1,0 +1,32 @@
+-- `copy_kept` meets its contract. The loop's invariant: the buffer's front holds what is kept of the bytes passed. Assumes nothing.
+use Prim.Native.Nat.{◌-◌}
+use native.Mathlib.Omega.{arith}
+use borrow.Author.Rules.{rules}
+use lib.ListN.{length}
+use Rattle.storing.proofs.Squeezing.{Copied, copied_none, copied_less, copied_room, copied_more, copied_long, copied_all, copied_count}
+use Rattle.storing.proofs.Plain.{plain_fits, plain-count, plain_copied}
+use Rattle.storing.proofs.runs.copy_kept.Goals as goal
+
+pub copy-requires : goal.copy-requires
+copy-requires c = search plain_fits
+
+pub returns-then-is_plain : goal.returns-then-is_plain
+returns-then-is_plain c = search (plain-count, plain_copied)
+
+pub loop-i-init : goal.loop-i-init
+loop-i-init c = search copied_none
+
+pub loop-i-preserved-then-s : goal.loop-i-preserved-then-s
+loop-i-preserved-then-s c = search copied_less
+
+pub bounds-out-n : goal.bounds-out-n
+bounds-out-n c = search copied_room
+
+pub loop-i-preserved : goal.loop-i-preserved
+loop-i-preserved c = copied_more c.loop-i.invariant _ c.step_at-s.ensures c.if-s.false c.requires
+
+pub shape_of-out : goal.shape_of-out
+shape_of-out c = search copied_long
+
+pub returns : goal.returns
+returns c = search (copied_all, copied_count)

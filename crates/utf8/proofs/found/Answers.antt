@@ -1,0 +1,9 @@
+-- `found` meets its contract. Assumes nothing.
+use mathlib.Core.Path.{refl}
+use borrow.Author.Rules.{rules}
+use Rattle.utf8.specs.Utf8.{character}
+use Rattle.utf8.proofs.found.Goals as goal
+
+pub returns : goal.returns
+unfolding character
+returns c = refl
