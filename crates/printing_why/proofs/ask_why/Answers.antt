@@ -8,11 +8,13 @@ use Rattle.printing_why.proofs.ask_why.Goals as goal
 pub put_why_line-requires : goal.put_why_line-requires
 put_why_line-requires c =
     let a = c.args in
-    answer-asks a.c (five c.args.nodes.now c.args.names.now c.args.lines.now c.args.pool.now c.args.journal.now) c.requires.1 a.raw.now a.demangled.now (wanted_of a.has-wanted a.wanted.now) _ c.why_in_book-y.ensures
+    answer-asks a.c (five a.nodes.now a.names.now a.lines.now a.pool.now a.journal.now) c.requires.1
+    a.raw.now a.demangled.now (wanted_of a.has_wanted a.wanted.now) _ c.why_in_book-y.ensures
     a.out.now c.requires.0
 
 pub returns : goal.returns
 returns c =
     let a = c.args in
-    asked-put a.c (five c.args.nodes.now c.args.names.now c.args.lines.now c.args.pool.now c.args.journal.now) c.requires.1 a.raw.now a.demangled.now (wanted_of a.has-wanted a.wanted.now) _ c.why_in_book-y.ensures
+    asked-put a.c (five a.nodes.now a.names.now a.lines.now a.pool.now a.journal.now) c.requires.1
+    a.raw.now a.demangled.now (wanted_of a.has_wanted a.wanted.now) _ c.why_in_book-y.ensures
     a.out.now a.text.now c.put_why_line.new.out c.put_why_line.result c.put_why_line.ensures

@@ -7,7 +7,9 @@ use Rattle.c_api.proofs.OpeningExits.{uncounted, place-few, opening-done}
 use Rattle.c_api.proofs.lent_openings.open_lent.Goals as goal
 
 pub returns-then-counts-ne-COUNTS : goal.returns-then-counts-ne-COUNTS
-returns-then-counts-ne-COUNTS c = search (uncounted, other)
+returns-then-counts-ne-COUNTS c =
+    let other : length c.args.counts.now ≡ 6 → ⊥ = λ e. omega (arith, e, c.if-counts-ne-COUNTS.true) in
+    search (uncounted, other)
 
 pub told-requires : goal.told-requires
 told-requires c = search place-few
