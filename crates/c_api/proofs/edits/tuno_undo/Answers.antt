@@ -1,0 +1,6 @@
+-- `tuno_undo` meets its contract, which is that of the function that it calls. Assumes nothing.
+use borrow.Author.Rules.{rules}
+use Rattle.c_api.proofs.edits.tuno_undo.Goals as goal
+
+pub returns : goal.returns
+returns c = c.undo.ensures

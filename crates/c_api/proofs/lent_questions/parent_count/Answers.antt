@@ -1,0 +1,7 @@
+-- `parent_count` meets its contract. Assumes nothing.
+use borrow.Author.Rules.{rules}
+use Rattle.c_api.proofs.Asked.{parents-told}
+use Rattle.c_api.proofs.lent_questions.parent_count.Goals as goal
+
+pub returns : goal.returns
+returns c = search parents-told

@@ -1,0 +1,6 @@
+-- `tuno_version_for_symbol` meets its contract, which is that of the function that it calls. Assumes nothing.
+use borrow.Author.Rules.{rules}
+use Rattle.c_api.proofs.questions.tuno_version_for_symbol.Goals as goal
+
+pub returns : goal.returns
+returns c = c.version_for_symbol.ensures

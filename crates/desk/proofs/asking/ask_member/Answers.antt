@@ -1,0 +1,7 @@
+-- `ask_member` meets its contract. Assumes nothing.
+use borrow.Author.Rules.{rules}
+use Rattle.desk.proofs.AskExits.{member-put-asked}
+use Rattle.desk.proofs.asking.ask_member.Goals as goal
+
+pub returns : goal.returns
+returns c = search member-put-asked
