@@ -1,5 +1,4 @@
 -- `has_room` meets its contract. Assumes nothing.
-use borrow.Author.Rules.{rules}
 use Rattle.desk.proofs.RanLines.{room_lacks, room_left}
 use Rattle.desk.proofs.has_room.Goals as goal
 

@@ -2,10 +2,9 @@
 use Prim.Native.Nat.{◌+◌, ◌≤◌}
 use mathlib.Core.Path.{refl, sym, ◌∙◌}
 use native.Mathlib.Omega.{arith}
-use borrow.Author.Rules.{rules}
-use borrow.Author.Tests.{leb-false, leb-true, not-false, not-true}
+use borrow.Author.Tests.{leb-false, leb-true}
 use lib.ListN.{length}
-use Rattle.book.specs.Layout.{Buffers, five}
+use Rattle.book.specs.Layout.{five}
 use Rattle.printing.specs.Printing.{answer_room}
 use Rattle.printing_book.specs.Shown.{shown_room}
 use Rattle.desk.proofs.RanLines.{edit_answered, not_answered, question-answered, shown_suffices, unknown-answered}

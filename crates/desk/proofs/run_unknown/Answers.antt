@@ -1,5 +1,4 @@
 -- `run_unknown` meets its contract. Assumes nothing.
-use borrow.Author.Rules.{rules}
 use Rattle.desk.proofs.RanLines.{unknown-told}
 use Rattle.desk.proofs.run_unknown.Goals as goal
 

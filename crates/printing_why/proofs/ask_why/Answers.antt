@@ -1,6 +1,5 @@
 -- `ask_why` meets its contract. Assumes nothing.
-use borrow.Author.Rules.{rules}
-use Rattle.book.specs.Layout.{Buffers, five}
+use Rattle.book.specs.Layout.{five}
 use Rattle.lookups.specs.Lookups.{wanted_of}
 use Rattle.printing_why.proofs.WhyExits.{answer-asks, asked-put}
 use Rattle.printing_why.proofs.ask_why.Goals as goal

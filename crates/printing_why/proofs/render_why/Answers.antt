@@ -1,5 +1,4 @@
 -- `render_why` meets its contract. Assumes nothing.
-use borrow.Author.Rules.{rules}
 use native.Mathlib.Omega.{arith}
 use Rattle.book.specs.Layout.{five}
 use Rattle.lookups.proofs.Asked.{book-asked}

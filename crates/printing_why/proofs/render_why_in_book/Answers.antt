@@ -1,12 +1,7 @@
 -- `render_why_in_book` meets its contract: behind its calls stand the raw name, the demangled one, and the version that is wanted. Assumes nothing.
-use Prim.Native.Nat.{ℕ}
 use mathlib.Core.Path.{◌≡◌}
-use mathlib.Core.List.{List}
-use mathlib.Core.Option.{Option}
-use borrow.Author.Rules.{rules}
 use native.Mathlib.Omega.{arith}
-use Rattle.book.specs.Books.{Book}
-use Rattle.book.specs.Layout.{Buffers, five}
+use Rattle.book.specs.Layout.{five}
 use Rattle.book.specs.View.{view}
 use Rattle.lookups.specs.Lookups.{wanted_of}
 use Rattle.input.specs.Splitting.{demangled_part}
@@ -23,8 +18,8 @@ pub returns : goal.returns
 returns c =
     let named : c.part_before-raw.result.now ≡ raw_name (c.args.line.now) = raw_is (c.args.line.now) _ c.part_before-symbol.ensures _ c.part_before-raw.ensures in
     let demangled : c.part_before-raw.result.now ≡ raw_name (c.args.line.now)
-        → c.demangled_of-demangled.result.now ≡ demangled_part (c.args.line.now) = λ e. demangled-told (c.args.line.now) _ c.part_before-symbol.ensures _ e _ c.demangled_of-demangled.ensures in
+    → c.demangled_of-demangled.result.now ≡ demangled_part (c.args.line.now) = λ e. demangled-told (c.args.line.now) _ c.part_before-symbol.ensures _ e _ c.demangled_of-demangled.ensures in
     let versioned : wanted_of c.has_version-has_wanted.result c.part_behind.result.now ≡ version_for (view c.args.c (five c.args.nodes.now c.args.names.now c.args.lines.now c.args.pool.now c.args.journal.now)) (c.args.line.now) = version-told (c.args.line.now) _ c.part_before-symbol.ensures _ c.part_before-raw.ensures c.args.c (five c.args.nodes.now c.args.names.now c.args.lines.now c.args.pool.now c.args.journal.now) c.requires.1
-        _ c.has_version-has_wanted.ensures _ c.part_behind.ensures in
+    _ c.has_version-has_wanted.ensures _ c.part_behind.ensures in
     let e = named in
     split-put c.args.out.now c.args.text.now (c.args.line.now) (view c.args.c (five c.args.nodes.now c.args.names.now c.args.lines.now c.args.pool.now c.args.journal.now)) e (demangled e) versioned c.ask_why.ensures

@@ -1,5 +1,4 @@
 -- `tuno_strike` meets its contract, which is that of the function that it calls. Assumes nothing.
-use borrow.Author.Rules.{rules}
 use Rattle.c_api.proofs.edits.tuno_strike.Goals as goal
 
 pub returns : goal.returns

@@ -1,5 +1,4 @@
 -- `add` meets its contract. Assumes nothing.
-use borrow.Author.Rules.{rules}
 use Rattle.c_lending.proofs.EditExits.{add-told}
 use Rattle.c_api.proofs.lent_additions.add.Goals as goal
 

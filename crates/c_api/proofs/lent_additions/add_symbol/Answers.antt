@@ -1,5 +1,4 @@
 -- `add_symbol` meets its contract. Assumes nothing.
-use borrow.Author.Rules.{rules}
 use Rattle.c_lending.proofs.EditExits.{symbol-told}
 use Rattle.c_api.proofs.lent_additions.add_symbol.Goals as goal
 

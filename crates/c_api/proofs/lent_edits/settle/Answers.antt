@@ -1,5 +1,4 @@
 -- `settle` meets its contract. Assumes nothing.
-use borrow.Author.Rules.{rules}
 use Rattle.c_lending.proofs.EditExits.{settle-told}
 use Rattle.c_api.proofs.lent_edits.settle.Goals as goal
 

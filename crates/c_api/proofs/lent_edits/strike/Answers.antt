@@ -1,5 +1,4 @@
 -- `strike` meets its contract. Assumes nothing.
-use borrow.Author.Rules.{rules}
 use Rattle.c_lending.proofs.EditExits.{strike-told}
 use Rattle.c_api.proofs.lent_edits.strike.Goals as goal
 

@@ -1,5 +1,4 @@
 -- `undo` meets its contract. Assumes nothing.
-use borrow.Author.Rules.{rules}
 use Rattle.c_lending.proofs.EditExits.{undo-told}
 use Rattle.c_api.proofs.lent_edits.undo.Goals as goal
 

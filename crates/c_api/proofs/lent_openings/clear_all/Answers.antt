@@ -1,5 +1,4 @@
 -- `clear_all` meets its contract. Assumes nothing.
-use borrow.Author.Rules.{rules}
 use Rattle.c_api.proofs.OpeningExits.{all_cleared}
 use Rattle.c_api.proofs.lent_openings.clear_all.Goals as goal
 

@@ -1,7 +1,6 @@
 -- `open_lent` meets its contract. Assumes nothing.
 use mathlib.Core.Path.{◌≡◌}
 use native.Mathlib.Omega.{arith}
-use borrow.Author.Rules.{rules}
 use lib.ListN.{length}
 use Rattle.c_api.proofs.OpeningExits.{uncounted, place-few, opening-done}
 use Rattle.c_api.proofs.lent_openings.open_lent.Goals as goal

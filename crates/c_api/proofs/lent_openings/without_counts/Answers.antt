@@ -1,5 +1,4 @@
 -- `without_counts` meets its contract. Assumes nothing.
-use borrow.Author.Rules.{rules}
 use borrow.Author.Tests.{le-ltb, lt-ltb}
 use Rattle.c_api.proofs.lent_openings.without_counts.Goals as goal
 

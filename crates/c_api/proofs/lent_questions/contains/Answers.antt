@@ -1,5 +1,4 @@
 -- `contains` meets its contract. Assumes nothing.
-use borrow.Author.Rules.{rules}
 use Rattle.c_api.proofs.Asked.{contains-told}
 use Rattle.c_api.proofs.lent_questions.contains.Goals as goal
 

@@ -1,5 +1,4 @@
 -- `locality` meets its contract. Assumes nothing.
-use borrow.Author.Rules.{rules}
 use Rattle.c_api.proofs.Asked.{locality-told}
 use Rattle.c_api.proofs.lent_questions.locality.Goals as goal
 

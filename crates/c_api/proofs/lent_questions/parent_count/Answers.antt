@@ -1,5 +1,4 @@
 -- `parent_count` meets its contract. Assumes nothing.
-use borrow.Author.Rules.{rules}
 use Rattle.c_api.proofs.Asked.{parents-told}
 use Rattle.c_api.proofs.lent_questions.parent_count.Goals as goal
 

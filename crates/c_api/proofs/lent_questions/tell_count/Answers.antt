@@ -1,5 +1,4 @@
 -- `tell_count` meets its contract. Assumes nothing.
-use borrow.Author.Rules.{rules}
 use Rattle.c_lending.proofs.Lending.{tells}
 use Rattle.c_api.proofs.lent_questions.tell_count.Goals as goal
 

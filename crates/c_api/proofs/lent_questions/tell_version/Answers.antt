@@ -1,5 +1,4 @@
 -- `tell_version` meets its contract. Assumes nothing.
-use borrow.Author.Rules.{rules}
 use Rattle.lookups.specs.Lookups.{version_refusal, version_value}
 use Rattle.c_lending.proofs.Lending.{tells}
 use Rattle.c_api.proofs.lent_questions.tell_version.Goals as goal

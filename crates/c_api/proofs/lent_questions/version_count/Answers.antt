@@ -1,5 +1,4 @@
 -- `version_count` meets its contract. Assumes nothing.
-use borrow.Author.Rules.{rules}
 use Rattle.c_api.proofs.Asked.{versions-told}
 use Rattle.c_api.proofs.lent_questions.version_count.Goals as goal
 

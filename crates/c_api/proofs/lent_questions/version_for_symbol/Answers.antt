@@ -1,5 +1,4 @@
 -- `version_for_symbol` meets its contract. Assumes nothing.
-use borrow.Author.Rules.{rules}
 use Rattle.c_api.proofs.Asked.{version-told}
 use Rattle.c_api.proofs.lent_questions.version_for_symbol.Goals as goal
 

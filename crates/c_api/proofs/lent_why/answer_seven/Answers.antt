@@ -1,5 +1,4 @@
 -- `answer_seven` meets its contract. Assumes nothing.
-use borrow.Author.Rules.{rules}
 use native.Mathlib.Omega.{arith}
 use lib.ListN.{length-set}
 use Rattle.c_api.proofs.Seven.{seven-given, seven-refused, seven_roomless}

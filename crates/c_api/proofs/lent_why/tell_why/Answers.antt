@@ -1,5 +1,4 @@
 -- `tell_why` meets its contract. Assumes nothing.
-use borrow.Author.Rules.{rules}
 use Rattle.c_lending.proofs.Lending.{tells_with}
 use Rattle.c_api.proofs.lent_why.tell_why.Goals as goal
 

@@ -1,5 +1,4 @@
 -- `why` meets its contract. Assumes nothing.
-use borrow.Author.Rules.{rules}
 use Rattle.c_api.proofs.Asked.{why-told}
 use Rattle.c_api.proofs.lent_why.why.Goals as goal
 

@@ -1,5 +1,4 @@
 -- `tuno_open_export_list` meets its contract, which is that of the function that it calls. Assumes nothing.
-use borrow.Author.Rules.{rules}
 use Rattle.c_api.proofs.openings.tuno_open_export_list.Goals as goal
 
 pub returns : goal.returns

@@ -1,5 +1,4 @@
 -- `tuno_parent_count` meets its contract, which is that of the function that it calls. Assumes nothing.
-use borrow.Author.Rules.{rules}
 use Rattle.c_api.proofs.questions.tuno_parent_count.Goals as goal
 
 pub returns : goal.returns

@@ -1,5 +1,4 @@
 -- `tuno_version_for_symbol` meets its contract, which is that of the function that it calls. Assumes nothing.
-use borrow.Author.Rules.{rules}
 use Rattle.c_api.proofs.questions.tuno_version_for_symbol.Goals as goal
 
 pub returns : goal.returns

@@ -1,5 +1,4 @@
 -- `tuno_why` meets its contract, which is that of the function that it calls. Assumes nothing.
-use borrow.Author.Rules.{rules}
 use Rattle.c_api.proofs.questions.tuno_why.Goals as goal
 
 pub returns : goal.returns

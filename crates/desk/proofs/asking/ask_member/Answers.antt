@@ -1,5 +1,4 @@
 -- `ask_member` meets its contract. Assumes nothing.
-use borrow.Author.Rules.{rules}
 use Rattle.desk.proofs.AskExits.{member-put-asked}
 use Rattle.desk.proofs.asking.ask_member.Goals as goal
 

@@ -1,5 +1,4 @@
 -- `ask_version` meets its contract. Assumes nothing.
-use borrow.Author.Rules.{rules}
 use Rattle.desk.proofs.AskExits.{version-put-asked}
 use Rattle.desk.proofs.asking.ask_version.Goals as goal
 

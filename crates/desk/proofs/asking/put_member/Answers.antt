@@ -1,5 +1,4 @@
 -- `put_member` meets its contract. Assumes nothing.
-use borrow.Author.Rules.{rules}
 use native.Mathlib.Omega.{arith}
 use Rattle.printing.proofs.Pieces.{few-refused}
 use Rattle.desk.proofs.AskExits.{refused-put, within-put, without-put}

@@ -1,5 +1,4 @@
 -- `run_why` meets its contract. Assumes nothing.
-use borrow.Author.Rules.{rules}
 use Rattle.book.specs.Layout.{five}
 use Rattle.desk.proofs.AskExits.{why-told}
 use Rattle.desk.proofs.asking.run_why.Goals as goal

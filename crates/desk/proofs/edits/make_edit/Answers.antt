@@ -1,5 +1,4 @@
 -- `make_edit` meets its contract. Assumes nothing.
-use borrow.Author.Rules.{rules}
 use Rattle.book.specs.Layout.{five}
 use Rattle.book.specs.View.{view}
 use Rattle.desk.proofs.Made.{add_made, settle_made, strike_made, symbol_made, undo_made}

@@ -1,5 +1,4 @@
 -- `run_edit` meets its contract. Assumes nothing.
-use borrow.Author.Rules.{rules}
 use Rattle.book.specs.Layout.{five}
 use Rattle.book.specs.View.{view}
 use Rattle.desk.proofs.Answered.{edit_runs}

@@ -1,6 +1,5 @@
 -- `say_done` meets its contract. Assumes nothing.
 use mathlib.Core.Path.{refl}
-use borrow.Author.Rules.{rules}
 use Rattle.lists.specs.Texts.{codes}
 use Rattle.desk.specs.Edits.{done_said}
 use Rattle.desk.proofs.Said.{add-said, settle-said, strike-said, symbol-said, undo-said}

@@ -1,5 +1,4 @@
 -- `say_edit` meets its contract. Assumes nothing.
-use borrow.Author.Rules.{rules}
 use Rattle.desk.proofs.Answered.{done_finishes, refused_finishes}
 use Rattle.desk.specs.Edits.{said}
 use Rattle.desk.proofs.edits.say_edit.Goals as goal

@@ -1,6 +1,5 @@
 -- `run_question` meets its contract. Assumes nothing.
-use borrow.Author.Rules.{rules}
-use Rattle.book.specs.Layout.{Buffers, five}
+use Rattle.book.specs.Layout.{five}
 use Rattle.desk.proofs.Shown.{ask_room, ask_told, show-told, why-asks, why-told}
 use Rattle.desk.proofs.questions.run_question.Goals as goal
 

@@ -1,5 +1,4 @@
 -- `run_show` meets its contract. Assumes nothing.
-use borrow.Author.Rules.{rules}
 use native.Mathlib.Omega.{arith}
 use Rattle.book.specs.Layout.{five}
 use Rattle.printing_book.specs.Shown.{shown_room}

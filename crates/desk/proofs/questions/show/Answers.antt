@@ -1,5 +1,4 @@
 -- `show` meets its contract. Assumes nothing.
-use borrow.Author.Rules.{rules}
 use Rattle.desk.specs.Questions.{book_shown}
 use Rattle.desk.proofs.questions.show.Goals as goal
 

@@ -1,5 +1,4 @@
 -- `put_answer` meets its contract. Assumes nothing.
-use borrow.Author.Rules.{rules}
 use native.Mathlib.Omega.{arith}
 use lib.ListN.{length}
 use Rattle.printing_why.proofs.Told.{answer-put}

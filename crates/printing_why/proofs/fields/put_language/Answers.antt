@@ -1,5 +1,4 @@
 -- `put_language` meets its contract. Assumes nothing.
-use borrow.Author.Rules.{rules}
 use borrow.Author.Tests.{eq-eqb, ne_eqb}
 use Rattle.lists.specs.Texts.{codes}
 use Rattle.printing_why.specs.WhyLine.{language_word}

@@ -1,5 +1,4 @@
 -- `put_name` meets its contract. Assumes nothing.
-use borrow.Author.Rules.{rules}
 use Rattle.lists.specs.Texts.{codes}
 use Rattle.printing_why.proofs.Told.{name-put}
 use Rattle.printing_why.proofs.fields.put_name.Goals as goal

@@ -1,5 +1,4 @@
 -- `put_place` meets its contract. Assumes nothing.
-use borrow.Author.Rules.{rules}
 use native.Mathlib.Omega.{arith}
 use Rattle.lists.specs.Texts.{codes}
 use Rattle.printing.proofs.Pieces.{few-spaced}

@@ -1,5 +1,4 @@
 -- `put_reason` meets its contract. Assumes nothing.
-use borrow.Author.Rules.{rules}
 use native.Mathlib.Omega.{arith}
 use Rattle.printing_why.proofs.Told.{few_head, few-marks, few-name, reason-put}
 use Rattle.printing_why.proofs.fields.put_reason.Goals as goal

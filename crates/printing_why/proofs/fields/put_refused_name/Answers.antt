@@ -1,5 +1,4 @@
 -- `put_refused_name` meets its contract. Assumes nothing.
-use borrow.Author.Rules.{rules}
 use native.Mathlib.Omega.{arith}
 use Rattle.printing.specs.Printing.{refused_fields}
 use Rattle.printing.proofs.Pieces.{few-refused}

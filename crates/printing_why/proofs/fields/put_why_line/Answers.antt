@@ -1,5 +1,4 @@
 -- `put_why_line` meets its contract, answer by answer. Assumes nothing.
-use borrow.Author.Rules.{rules}
 use native.Mathlib.Omega.{arith}
 use Rattle.lists.specs.Texts.{codes}
 use Rattle.packing.specs.Tables.{things}
