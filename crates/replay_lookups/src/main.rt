@@ -7,7 +7,9 @@
 //     W raw demangled wanted index    with a wanted version, `!` where it is unknown
 //     L raw demangled locality        0 for nothing, 1 for global, 2 for local
 //     C raw demangled 0|1             whether it is in the list
-ghost use Rattle.std.specs.Prelude.{◌≤◌, ◌<◌, length};
+#![tactic(auto)]
+
+ghost use Rattle.std.specs.Prelude.{◌≤◌, ◌<◌, length, IfOk};
 ghost use Rattle.replay.specs.Walks.{Further, Onward, Walks};
 
 use book::Counts;
@@ -24,6 +26,8 @@ use replay::{
     Walk, byte_or_zero, counted, digit, line_at, passed, print_counts, read_cases, read_field,
     start,
 };
+use std::io;
+use std::io::Print;
 
 // An answer that no case has.
 const OTHER: u8 = b'?';
@@ -316,18 +320,18 @@ fn replay_text(text: &[u8], from: Walk) -> Walk
     ask_book(text, walk, book)
 }
 
-fn replay(text: &[u8]) -> Walk
-    ensures { result.different ≤ result.cases }
+fn replay(to: &impl Print, text: &[u8]) -> io::Result<Walk>
+    ensures { IfOk result (λ r. r.different ≤ r.cases) }
 {
     let mut walk = start(text);
     while walk.at < text.len() {
-        walk = replay_text(text, walk);
+        walk = replay_text(to, text, walk)?;
     }
-    walk
+    Ok(walk)
 }
 
-fn main() {
+fn main(rt: HostRuntime) -> io::Result<()> {
     let mut text = [0u8; 262144];
-    let n = read_cases(&mut text);
-    print_counts(replay(front(&text, n)));
+    let n = read_cases(&rt, &rt.stderr(), &mut text)?;
+    print_counts(&rt, replay(&rt, front(&text, n))?)
 }
