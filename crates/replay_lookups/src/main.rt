@@ -172,6 +172,7 @@ fn same_question(
 
 // The questions from a place on, up to the next text.
 fn ask_all(
+    to: &impl Print,
     text: &[u8],
     from: Walk,
     c: Counts,
@@ -180,20 +181,20 @@ fn ask_all(
     rows: &[u32],
     pool: &[u8],
     journal: &[u32],
-) -> Walk
+) -> io::Result<Walk>
     requires { Walks (length text.now) from }
-    ensures { Onward (length text.now) from.at result }
+    ensures { IfOk result (λ r. Onward (length text.now) from.at r) }
 {
     let mut walk = from;
     while walk.at < text.len() {
         let line = line_at(text, walk.at);
         if byte_or_zero(line, 0) == b'S' {
-            return walk;
+            return Ok(walk);
         }
         let same = same_question(line, c, nodes, names, rows, pool, journal);
-        walk = counted(passed(text, walk), same);
+        walk = counted(to, passed(text, walk), same)?;
     }
-    walk
+    Ok(walk)
 }
 
 fn open(
@@ -288,9 +289,9 @@ fn open_text(line: &[u8]) -> Book {
     open_book(line, field.next, source, front(&bytes, n))
 }
 
-fn ask_book(text: &[u8], from: Walk, book: Book) -> Walk
+fn ask_book(to: &impl Print, text: &[u8], from: Walk, book: Book) -> io::Result<Walk>
     requires { Walks (length text.now) from }
-    ensures { Onward (length text.now) from.at result }
+    ensures { IfOk result (λ r. Onward (length text.now) from.at r) }
 {
     let nodes = book.nodes;
     let names = book.names;
@@ -298,6 +299,7 @@ fn ask_book(text: &[u8], from: Walk, book: Book) -> Walk
     let pool = book.pool;
     let journal = book.journal;
     ask_all(
+        to,
         text,
         from,
         book.counts,
@@ -310,14 +312,14 @@ fn ask_book(text: &[u8], from: Walk, book: Book) -> Walk
 }
 
 // A text, and the questions that are asked of it.
-fn replay_text(text: &[u8], from: Walk) -> Walk
+fn replay_text(to: &impl Print, text: &[u8], from: Walk) -> io::Result<Walk>
     requires { Walks (length text.now) from × (from.at < length text.now) }
-    ensures { Further (length text.now) from.at result }
+    ensures { IfOk result (λ r. Further (length text.now) from.at r) }
 {
     let book = open_text(line_at(text, from.at));
     let same = book.same;
-    let walk = counted(passed(text, from), same);
-    ask_book(text, walk, book)
+    let walk = counted(to, passed(text, from), same)?;
+    ask_book(to, text, walk, book)
 }
 
 fn replay(to: &impl Print, text: &[u8]) -> io::Result<Walk>
