@@ -1,0 +1,6 @@
+-- `take_extern` meets its contract. Assumes nothing.
+use borrow.Author.Rules.{rules}
+use Rattle.book_building.proofs.take_extern.Goals as goal
+
+pub returns : goal.returns
+returns c = rw c.mixed_in_block-mixed.ensures

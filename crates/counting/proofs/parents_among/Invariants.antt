@@ -1,0 +1,11 @@
+-- `parents_among` meets its contract. The loop's invariant: the parents that are counted and those from row i on are all. Assumes nothing.
+use Prim.Native.Nat.{◌-◌}
+use borrow.Author.Rules.{rules}
+use Rattle.counting.proofs.Nodes.{Counting, counting_starts, counting_more, counting_same, counting_ends}
+use Rattle.counting.proofs.parents_among.Given as goal
+
+abbrev pub invariant-loop-i : goal.invariant-loop-i
+invariant-loop-i l = Counting l.nodes l.n l.i l.at l.r
+
+abbrev pub decreases-loop-i : goal.decreases-loop-i
+decreases-loop-i l = l.n - l.i

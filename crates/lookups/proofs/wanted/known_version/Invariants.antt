@@ -1,0 +1,10 @@
+-- `known_version` meets its contract. The loop's invariant: the nodes from i on have other names. Assumes nothing.
+use borrow.Author.Rules.{rules}
+use Rattle.lookups.proofs.LastNamed.{Backward, back_starts, back_lies, back_found, back_more, back_ends}
+use Rattle.lookups.proofs.wanted.known_version.Given as goal
+
+abbrev pub invariant-loop-i : goal.invariant-loop-i
+invariant-loop-i l = Backward l.initial.i l.nodes l.names l.wanted l.i
+
+abbrev pub decreases-loop-i : goal.decreases-loop-i
+decreases-loop-i l = l.i

@@ -1,0 +1,13 @@
+-- `write_events` meets its contract. The loop's invariant: the buffer's front holds the rows of the events passed. Assumes nothing.
+use Prim.Native.Nat.{◌+◌, ◌-◌}
+use native.Mathlib.Omega.{arith}
+use borrow.Author.Rules.{rules}
+use lib.ListN.{length}
+use Rattle.reading_rows.proofs.Tabling.{Tabled, tabled_start, tabled_more, end_told, end_rows, end_fits, refused-told, refused-rows, place-fits, refused-fits, room-told, room-rows, onward}
+use Rattle.reading_rows.proofs.write_events.Given as goal
+
+abbrev pub invariant-loop-no : goal.invariant-loop-no
+invariant-loop-no l = Tabled l.place l.text l.initial.rows l.rows l.n l.c
+
+abbrev pub decreases-loop-no : goal.decreases-loop-no
+decreases-loop-no l = length l.text + 2 - l.c.at

@@ -1,0 +1,13 @@
+-- `pack_standing` meets its contract. The loop's invariant: the first i lines are read, and those of them that stand are packed. Assumes nothing.
+use Prim.Native.Nat.{◌+◌, ◌-◌, ◌*◌, ◌≤◌}
+use native.Mathlib.Omega.{arith}
+use lib.ListN.{get_or}
+use Rattle.book.specs.Layout.{line_width}
+use Rattle.trial_settle.proofs.Sifting.{Sifting, sift_starts, sift_fits, sift_skips, sift_keeps, sift_ends}
+use Rattle.trial_settle.proofs.settling.pack_standing.Given as goal
+
+abbrev pub invariant-loop-i : goal.invariant-loop-i
+invariant-loop-i l = Sifting l.n l.initial.lines l.initial.pool l.lines l.pool l.i l.read l.j l.written
+
+abbrev pub decreases-loop-i : goal.decreases-loop-i
+decreases-loop-i l = l.n - l.i
