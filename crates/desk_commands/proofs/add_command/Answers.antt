@@ -21,7 +21,7 @@ returns-then-byte_at-ne32-3 c = search no_third_blank
 
 pub overflow_add-result : goal.overflow_add-result
 overflow_add-result c =
-    let known = c.well-formed in
+    let known = c.well_formed in
     blank-fits c.args.line.now _ c.byte_at-in-Number-number_at-2.ensures c.if-byte_at-ne32-3.false (omega arith)
 
 pub returns-in-Nothing : goal.returns-in-Nothing
