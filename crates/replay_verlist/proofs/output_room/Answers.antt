@@ -2,11 +2,7 @@
 use Prim.Native.Nat.{ℕ}
 use mathlib.Core.Path.{sym}
 use lib.ListN.{length-replicate}
-use Rattle.replay_verlist.proofs.output_room.Statement.{statement}
-use Rattle.replay_verlist.proofs.output_room.Tie as tie
+use Rattle.replay_verlist.proofs.output_room.Goals as goal
 
-returns : tie.Need-returns
+pub returns : goal.returns
 returns c = sym (length-replicate {0} {A = ℕ} 983104 0)
-
-pub output_room_spec : {M : Type 1} → statement M
-output_room_spec = tie.close (tie.spec returns)
