@@ -1,5 +1,7 @@
 // The reader that holds the script and its place: thin functions over `next_event`, and one with plain parameters that goes through them, `step`, for
 // who reads a text by it.
+#![tactic(auto)]
+
 ghost use Rattle.std.specs.Prelude.{◌≡◌};
 ghost use Rattle.linker_script.specs.Finding.{last_close};
 ghost use Rattle.reading.specs.Scripts.{next};

@@ -1,5 +1,4 @@
 -- `take_extern` meets its contract. Assumes nothing.
-use borrow.Author.Rules.{rules}
 use Rattle.book_building.proofs.take_extern.Goals as goal
 
 pub returns : goal.returns

@@ -1,5 +1,4 @@
 -- `take_node` meets its contract: three ways to have no room, or the node is there. Assumes nothing.
-use borrow.Author.Rules.{rules}
 use native.Mathlib.Omega.{arith}
 use mathlib.Core.List.{[]}
 use Rattle.book_building.proofs.NodeEvents.{node-added, node-refused}

@@ -1,5 +1,4 @@
 -- `open` meets its contract: what `fill` leaves, with the journal cleared. Assumes nothing.
-use borrow.Author.Rules.{rules}
 use Rattle.book_opening.proofs.Opens.{clear_now, open_filled}
 use Rattle.book_opening.proofs.open.Goals as goal
 

@@ -1,5 +1,4 @@
 -- `answer` meets its contract. Assumes nothing.
-use borrow.Author.Rules.{rules}
 use Rattle.c_lending.proofs.Lending.{answer-refused, answer_roomless, answer-given}
 use Rattle.c_lending.proofs.answer.Goals as goal
 

@@ -1,5 +1,4 @@
 -- `counts_of` meets its contract. Assumes nothing.
-use borrow.Author.Rules.{rules}
 use Rattle.c_lending.proofs.Lending.{other_counts, six_counts}
 use Rattle.c_lending.proofs.counts_of.Goals as goal
 

@@ -1,5 +1,4 @@
 -- `finish` meets its contract. Assumes nothing.
-use borrow.Author.Rules.{rules}
 use Rattle.c_lending.proofs.EditExits.{counts-written}
 use Rattle.c_lending.proofs.finish.Goals as goal
 

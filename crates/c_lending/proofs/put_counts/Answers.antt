@@ -1,5 +1,4 @@
 -- `put_counts` meets its contract. Assumes nothing.
-use borrow.Author.Rules.{rules}
 use native.Mathlib.Omega.{arith}
 use lib.ListN.{length-set}
 use Rattle.c_lending.proofs.Lending.{other_put, six_put}

@@ -1,5 +1,4 @@
 -- `parent_count` meets its contract, by the laws of Nodes. Assumes nothing.
-use borrow.Author.Rules.{rules}
 use Rattle.counting.proofs.Nodes.{count-no_book, count-export, asks-parents, parents-counted}
 use mathlib.Core.Path.{ap}
 use mathlib.Core.Bool.{not}

@@ -1,7 +1,6 @@
 -- `parents_among` meets its contract. The loop's invariant: the parents that are counted and those from row i on are all. Assumes nothing.
 use Prim.Native.Nat.{◌-◌}
-use borrow.Author.Rules.{rules}
-use Rattle.counting.proofs.Nodes.{Counting, counting_starts, counting_more, counting_same, counting_ends}
+use Rattle.counting.proofs.Nodes.{Counting}
 use Rattle.counting.proofs.parents_among.Given as goal
 
 abbrev pub invariant-loop-i : goal.invariant-loop-i

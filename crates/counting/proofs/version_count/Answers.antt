@@ -1,5 +1,4 @@
 -- `version_count` meets its contract, by the laws of Nodes. Assumes nothing.
-use borrow.Author.Rules.{rules}
 use Rattle.counting.proofs.Nodes.{count-no_book, count-export, one-node, more_nodes}
 use Rattle.counting.proofs.version_count.Goals as goal
 

@@ -1,7 +1,6 @@
 -- `version_node` meets its contract, by the laws of Nodes. Assumes nothing.
 use Prim.Native.Nat.{◌≤◌, ◌<◌}
 use native.Mathlib.Omega.{arith}
-use borrow.Author.Rules.{rules}
 use Rattle.counting.proofs.Nodes.{node-no_book, node-export, node-missing, start_within, length-within, parent-within, node-there}
 use Rattle.counting.proofs.version_node.Goals as goal
 

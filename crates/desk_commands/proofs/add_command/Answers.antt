@@ -1,5 +1,4 @@
 -- `add_command` meets its contract. Assumes nothing.
-use borrow.Author.Rules.{rules}
 use native.Mathlib.Omega.{arith}
 use Rattle.desk_commands.proofs.Exits.{blank-fits, is_addition, no_blank, no_language, no_node, no_second_blank, no_section, no_third_blank}
 use Rattle.desk_commands.proofs.add_command.Goals as goal

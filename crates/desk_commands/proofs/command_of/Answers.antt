@@ -1,5 +1,4 @@
 -- `command_of` meets its contract. Assumes nothing.
-use borrow.Author.Rules.{rules}
 use Rattle.lists.specs.Texts.{codes}
 use Rattle.desk_commands.proofs.Exits.{is_add, is_bare_symbol, is_question, is_settle, is_strike, is_symbol, is_undo}
 use Rattle.desk_commands.proofs.command_of.Goals as goal

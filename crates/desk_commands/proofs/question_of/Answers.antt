@@ -1,5 +1,4 @@
 -- `question_of` meets its contract. Assumes nothing.
-use borrow.Author.Rules.{rules}
 use Rattle.lists.specs.Texts.{codes}
 use Rattle.desk_commands.proofs.Exits.{is_ask, is_counts, is_dump, is_lines, is_unknown, is_why}
 use Rattle.desk_commands.proofs.question_of.Goals as goal

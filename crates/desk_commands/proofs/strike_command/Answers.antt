@@ -1,6 +1,5 @@
 -- `strike_command` meets its contract. Assumes nothing.
 use native.Mathlib.Omega.{arith}
-use borrow.Author.Rules.{rules}
 use Rattle.desk_commands.proofs.Exits.{is_striking, more_behind, no_line}
 use Rattle.desk_commands.proofs.strike_command.Goals as goal
 

@@ -1,5 +1,4 @@
 -- `open` meets its contract, which is that of the opening that it calls. Assumes nothing.
-use borrow.Author.Rules.{rules}
 use Rattle.export_list.proofs.open.Goals as goal
 
 pub returns : goal.returns

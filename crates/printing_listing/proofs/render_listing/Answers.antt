@@ -1,6 +1,5 @@
 -- `render_listing` meets its contract. Assumes nothing.
 use native.Mathlib.Omega.{arith}
-use borrow.Author.Rules.{rules}
 use Rattle.book.specs.Layout.{five}
 use Rattle.printing_listing.proofs.Inputs.{line_room, lines-room, not_listed, script-count, script-within, symbols-within, too_long-listed, whole-listed}
 use mathlib.Core.Path.{ap}
@@ -42,9 +41,9 @@ slice_bounds-render_script-start c = symbols-within c.args.text.now _ c.script_e
 pub render_script-requires : goal.render_script-requires
 render_script-requires c =
     let a = c.args in (
-    line_room (five a.nodes.now a.names.now a.lines.now a.pool.now a.journal.now) a.text.now a.out.now _ c.has_room.ensures (ap not c.if-not-has_room.false),
-    lines-room (five a.nodes.now a.names.now a.lines.now a.pool.now a.journal.now) a.text.now a.out.now _ c.has_room.ensures (ap not c.if-not-has_room.false)
-    _ c.script_end-end.ensures _ c.symbols_start-from.ensures,
+      line_room (five a.nodes.now a.names.now a.lines.now a.pool.now a.journal.now) a.text.now a.out.now _ c.has_room.ensures (ap not c.if-not-has_room.false),
+      lines-room (five a.nodes.now a.names.now a.lines.now a.pool.now a.journal.now) a.text.now a.out.now _ c.has_room.ensures (ap not c.if-not-has_room.false)
+          _ c.script_end-end.ensures _ c.symbols_start-from.ensures,
     )
 
 pub returns : goal.returns

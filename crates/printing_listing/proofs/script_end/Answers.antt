@@ -1,5 +1,4 @@
 -- `script_end` meets its contract. Assumes nothing.
-use borrow.Author.Rules.{rules}
 use Rattle.printing_listing.proofs.Inputs.{all_script, script_before}
 use Rattle.printing_listing.proofs.script_end.Goals as goal
 

@@ -1,5 +1,4 @@
 -- `symbols_start` meets its contract. Assumes nothing.
-use borrow.Author.Rules.{rules}
 use Rattle.printing_listing.proofs.Inputs.{symbols_none, symbols_some}
 use Rattle.printing_listing.proofs.symbols_start.Goals as goal
 

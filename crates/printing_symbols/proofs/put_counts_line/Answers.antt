@@ -1,5 +1,4 @@
 -- `put_counts_line` meets its contract. Assumes nothing.
-use borrow.Author.Rules.{rules}
 use native.Mathlib.Omega.{arith}
 use Rattle.printing.proofs.Digits.{few-digits}
 use Rattle.printing_symbols.proofs.Pieces.{counts_line-put}

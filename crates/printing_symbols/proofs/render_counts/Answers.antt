@@ -1,5 +1,4 @@
 -- `render_counts` meets its contract. Assumes nothing.
-use borrow.Author.Rules.{rules}
 use Rattle.book.specs.Layout.{five}
 use Rattle.book.specs.View.{view}
 use Rattle.printing_symbols.proofs.Counted.{both-counted, first_refused, second-refused}

@@ -1,7 +1,6 @@
 -- `put_numbers` meets its contract. Assumes nothing.
 use native.Mathlib.Numerals.{add-one, add-two, add-three, add-four}
 use native.Mathlib.Omega.{arith}
-use borrow.Author.Rules.{rules}
 use lib.ListN.{length-set}
 use Rattle.reading_rows.proofs.put_numbers.Goals as goal
 

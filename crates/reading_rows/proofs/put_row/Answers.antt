@@ -1,5 +1,4 @@
 -- `put_row` meets its contract. Assumes nothing.
-use borrow.Author.Rules.{rules}
 use Rattle.reading_rows.specs.Rows.{row}
 use Rattle.reading_rows.proofs.Tabling.{row_put}
 use Rattle.reading_rows.proofs.put_row.Goals as goal

@@ -1,5 +1,4 @@
 -- `reading_events` meets its contract. Assumes nothing.
-use borrow.Author.Rules.{rules}
 use Rattle.reading_rows.proofs.Tabling.{over-told, over-rows, within-told, within-rows}
 use Rattle.reading_rows.proofs.reading_events.Goals as goal
 

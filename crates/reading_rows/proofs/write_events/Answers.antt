@@ -1,9 +1,6 @@
 -- `write_events` meets its contract. The loop's invariant: the buffer's front holds the rows of the events passed. Assumes nothing.
-use Prim.Native.Nat.{◌+◌, ◌-◌}
-use native.Mathlib.Omega.{arith}
-use borrow.Author.Rules.{rules}
-use lib.ListN.{length}
-use Rattle.reading_rows.proofs.Tabling.{Tabled, tabled_start, tabled_more, end_told, end_rows, end_fits, refused-told, refused-rows, place-fits, refused-fits, room-told, room-rows, onward}
+use Prim.Native.Nat.{◌-◌}
+use Rattle.reading_rows.proofs.Tabling.{tabled_start, tabled_more, end_told, end_rows, end_fits, refused-told, refused-rows, place-fits, refused-fits, room-told, room-rows, onward}
 use Rattle.reading_rows.proofs.write_events.Goals as goal
 
 pub loop-no-init : goal.loop-no-init

@@ -1,9 +1,7 @@
 -- `write_events` meets its contract. The loop's invariant: the buffer's front holds the rows of the events passed. Assumes nothing.
 use Prim.Native.Nat.{◌+◌, ◌-◌}
-use native.Mathlib.Omega.{arith}
-use borrow.Author.Rules.{rules}
 use lib.ListN.{length}
-use Rattle.reading_rows.proofs.Tabling.{Tabled, tabled_start, tabled_more, end_told, end_rows, end_fits, refused-told, refused-rows, place-fits, refused-fits, room-told, room-rows, onward}
+use Rattle.reading_rows.proofs.Tabling.{Tabled}
 use Rattle.reading_rows.proofs.write_events.Given as goal
 
 abbrev pub invariant-loop-no : goal.invariant-loop-no

@@ -1,6 +1,5 @@
 -- `add` meets its contract, by the laws of AskedAdd. Assumes nothing.
-use borrow.Author.Rules.{rules}
-use Rattle.book.specs.Layout.{Buffers, five}
+use Rattle.book.specs.Layout.{five}
 use Rattle.trial_add.proofs.AskedAdd.{Taking, add_appended, add-no_book, add-rust, add_taking, add-unplaced, asks_append}
 use mathlib.Core.Path.{ap}
 use mathlib.Core.Bool.{not}

@@ -17,10 +17,10 @@ pub returns-then-kind-ne-EXPORT : goal.returns-then-kind-ne-EXPORT
 returns-then-kind-ne-EXPORT c =
     let a = c.args in
     rw (
-    lt-ltb a.node a.nodes (omega (arith, c.if-nodes-node.false)),
-    le-leb _ _ c.if-section-gt-LOCAL.false,
-    le-leb _ _ c.if-language-gt-CXX.false,
-    ne_eqb _ _ c.if-kind-ne-EXPORT.true,
+      lt-ltb a.node a.nodes (omega (arith, c.if-nodes-node.false)),
+      le-leb _ _ c.if-section-gt-LOCAL.false,
+      le-leb _ _ c.if-language-gt-CXX.false,
+      ne_eqb _ _ c.if-kind-ne-EXPORT.true,
     )
 
 pub returns-then-section-ne-GLOBAL : goal.returns-then-section-ne-GLOBAL
@@ -30,9 +30,9 @@ pub returns : goal.returns
 returns c =
     let a = c.args in
     rw (
-    lt-ltb a.node a.nodes (omega (arith, c.if-nodes-node.false)),
-    le-leb _ _ c.if-section-gt-LOCAL.false,
-    le-leb _ _ c.if-language-gt-CXX.false,
-    eq-eqb _ _ c.if-kind-ne-EXPORT.false,
-    eq-eqb _ _ c.if-section-ne-GLOBAL.false,
+      lt-ltb a.node a.nodes (omega (arith, c.if-nodes-node.false)),
+      le-leb _ _ c.if-section-gt-LOCAL.false,
+      le-leb _ _ c.if-language-gt-CXX.false,
+      eq-eqb _ _ c.if-kind-ne-EXPORT.false,
+      eq-eqb _ _ c.if-section-ne-GLOBAL.false,
     )

@@ -1,6 +1,5 @@
 -- `settle` meets its contract. Assumes nothing.
-use borrow.Author.Rules.{rules}
-use Rattle.book.specs.Layout.{Buffers, five}
+use Rattle.book.specs.Layout.{five}
 use Rattle.trial_settle.proofs.AskedSettle.{settle-answered, settle-laid, settle-refused}
 use mathlib.Core.Path.{ap}
 use mathlib.Core.Bool.{not}

@@ -1,8 +1,7 @@
 -- `strike` meets its contract, by the laws of AskedStrike. Assumes nothing.
 use mathlib.Core.Path.{refl}
 use native.Mathlib.Omega.{arith}
-use borrow.Author.Rules.{rules}
-use Rattle.book.specs.Layout.{Buffers, five}
+use Rattle.book.specs.Layout.{five}
 use Rattle.trial_strike.proofs.AskedStrike.{Roomy, Told, strike-done, strike-few, strike_line-room, strike-no_book, strike-no_room, strike-past, strike-roomy, strike-row_room, strike-rust, strike-struck, strike-told}
 use mathlib.Core.Path.{ap}
 use mathlib.Core.Bool.{not}

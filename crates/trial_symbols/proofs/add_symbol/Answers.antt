@@ -1,7 +1,6 @@
 -- `add_symbol` meets its contract, by the laws of AskedSymbol. Assumes nothing.
 use native.Mathlib.Omega.{arith}
-use borrow.Author.Rules.{rules}
-use Rattle.book.specs.Layout.{Buffers, five}
+use Rattle.book.specs.Layout.{five}
 use Rattle.trial_symbols.proofs.AskedSymbol.{Listed, lines-asks, symbol-added, symbol-kind, symbol-listed, symbol-long, symbol-no_book}
 use mathlib.Core.Path.{ap}
 use mathlib.Core.Bool.{not}

@@ -1,8 +1,7 @@
 -- `undo_by_value` meets its contract, by the laws of TakenBack and Answers. Assumes nothing.
-use borrow.Author.Rules.{rules}
 use mathlib.Core.Path.{◌≡◌, refl}
 use native.Mathlib.Omega.{arith}
-use Rattle.book.specs.Layout.{Buffers, five}
+use Rattle.book.specs.Layout.{five}
 use Rattle.trial.specs.Trial.{undo_asked}
 use Rattle.trial.proofs.Answers.{Shown, done_left, refused_left, shown}
 use Rattle.trial_undo.proofs.TakenBack.{undo_able, undo-done, undo-no_book, undo-nothing}

@@ -1,5 +1,4 @@
 -- `undo_latest` meets its contract, by the laws of Told. Assumes nothing.
-use borrow.Author.Rules.{rules}
 use Rattle.trial_undo.proofs.Told.{told-done, told-refused}
 use Rattle.trial_undo.proofs.undo_latest.Goals as goal
 

@@ -1,5 +1,4 @@
 -- `line_stands` meets its contract. Assumes nothing.
-use borrow.Author.Rules.{rules}
 use Rattle.book_building.proofs.TakenEvents.{handed}
 use Rattle.book_building.proofs.events.line_stands.Goals as goal
 

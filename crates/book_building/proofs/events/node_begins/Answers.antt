@@ -1,5 +1,4 @@
 -- `node_begins` meets its contract. Assumes nothing.
-use borrow.Author.Rules.{rules}
 use Rattle.book_building.proofs.TakenEvents.{handed}
 use Rattle.book_building.proofs.events.node_begins.Goals as goal
 

@@ -1,5 +1,4 @@
 -- `node_ends` meets its contract. Assumes nothing.
-use borrow.Author.Rules.{rules}
 use Rattle.book_building.proofs.TakenEvents.{handed}
 use Rattle.book_building.proofs.events.node_ends.Goals as goal
 

@@ -1,6 +1,5 @@
 -- `take_event` meets its contract, event by event. Assumes nothing.
 use native.Mathlib.Omega.{arith}
-use borrow.Author.Rules.{rules}
 use Rattle.book_building.proofs.TakenEvents.{line-asks, node-asks, parent-asks, took_body, took_closed, took_extern, took_line, took_node, took_parent, took_section}
 use Rattle.book_building.proofs.events.take_event.Goals as goal
 

@@ -1,5 +1,4 @@
 -- `mixed_behind` meets its contract. Assumes nothing.
-use borrow.Author.Rules.{rules}
 use borrow.Author.Tests.{eq-eqb, ne_eqb}
 use Rattle.book_building.proofs.lines.mixed_behind.Goals as goal
 

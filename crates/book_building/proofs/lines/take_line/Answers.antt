@@ -1,5 +1,4 @@
 -- `take_line` meets its contract: the token is refused, no row is left, or the line is there. Assumes nothing.
-use borrow.Author.Rules.{rules}
 use native.Mathlib.Omega.{arith}
 use Prim.Native.Nat.{◌-◌, ◌*◌}
 use mathlib.Core.List.{[]}
@@ -38,11 +37,11 @@ pub overflow_cast-size : goal.overflow_cast-size
 overflow_cast-size c =
     let a = c.args in
     omega (
-    arith,
-    line-ends a.g a.p a.section a.language a.token.now a.lines.now a.pool.now
-    c.edition_of.result c.edition_of.ensures c.put_token.result _
-    c.requires.0 c.put_token.ensures
-    _ _ c.in-As.is,
+      arith,
+      line-ends a.g a.p a.section a.language a.token.now a.lines.now a.pool.now
+          c.edition_of.result c.edition_of.ensures c.put_token.result _
+          c.requires.0 c.put_token.ensures
+          _ _ c.in-As.is,
     )
 
 pub put_line-requires : goal.put_line-requires
@@ -61,11 +60,11 @@ pub overflow_add-result-in-As : goal.overflow_add-result-in-As
 overflow_add-result-in-As c =
     let a = c.args in
     omega (
-    arith,
-    line-ends a.g a.p a.section a.language a.token.now a.lines.now a.pool.now
-    c.edition_of.result c.edition_of.ensures c.put_token.result _
-    c.requires.0 c.put_token.ensures
-    _ _ c.in-As.is,
+      arith,
+      line-ends a.g a.p a.section a.language a.token.now a.lines.now a.pool.now
+          c.edition_of.result c.edition_of.ensures c.put_token.result _
+          c.requires.0 c.put_token.ensures
+          _ _ c.in-As.is,
     )
 
 pub returns-in-Refused : goal.returns-in-Refused
@@ -79,10 +78,10 @@ pub returns-else-not-has_row : goal.returns-else-not-has_row
 returns-else-not-has_row c =
     let coded : let a = c.args in c.code_of-code.result ≡ standing_code c.class_number-k.result a.section a.language = c.code_of-code.ensures in
     let placed : let a = c.args in
-        c.put_line.new.lines
-        ≡ paste a.lines.now (line_width * a.g.lines)
-        (row_of_line (a.g.nodes - 1) c.code_of-code.result a.g.pool c.in-As.size (offset_at a.p))
-        line_width = c.put_line.ensures in
+    c.put_line.new.lines
+    ≡ paste a.lines.now (line_width * a.g.lines)
+    (row_of_line (a.g.nodes - 1) c.code_of-code.result a.g.pool c.in-As.size (offset_at a.p))
+    line_width = c.put_line.ensures in
     let a = c.args in
     line-added a.g a.p a.section a.language a.token.now a.lines.now a.pool.now
     c.edition_of.result c.edition_of.ensures c.put_token.result _

@@ -1,9 +1,8 @@
 -- `build` meets its contract. The loop's invariant, `Going`: the buffers hold what was read so far, and what is left to read decides. Each event moves
 -- on in the text. Assumes nothing.
 use Prim.Native.Nat.{◌+◌, ◌-◌}
-use borrow.Author.Rules.{rules}
 use lib.ListN.{length}
-use Rattle.book_opening.proofs.Opens.{Going, event_lies, finished-asks, going_ends, going_no, going_on, going_onward, going_refused, going_starts}
+use Rattle.book_opening.proofs.Opens.{Going}
 use Rattle.book_opening.proofs.events.build.Given as goal
 
 abbrev pub invariant-loop-n : goal.invariant-loop-n

@@ -1,5 +1,4 @@
 -- `finished` meets its contract. Assumes nothing.
-use borrow.Author.Rules.{rules}
 use Rattle.book_opening.proofs.States.{finished-counts}
 use Rattle.book_opening.proofs.events.finished.Goals as goal
 

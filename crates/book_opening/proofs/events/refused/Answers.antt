@@ -1,5 +1,4 @@
 -- `refused` meets its contract. Assumes nothing.
-use borrow.Author.Rules.{rules}
 use Rattle.book_opening.specs.Opening.{told}
 use Rattle.book_opening.proofs.events.refused.Goals as goal
 

@@ -1,6 +1,5 @@
 -- `line_end` meets its contract. Assumes nothing.
 use mathlib.Core.Path.{◌≡◌}
-use borrow.Author.Rules.{rules}
 use Rattle.numbers.specs.Signs.{line_feed}
 use Rattle.linker_script.specs.Finding.{first_from, is}
 use Rattle.desk_commands.proofs.Ends.{ends_here, ends_last}

@@ -2,13 +2,10 @@
 use Prim.Native.Nat.{◌-◌}
 use mathlib.Core.Path.{◌≡◌}
 use mathlib.Core.List.{[]}
-use mathlib.Core.Logic.{⊎_elim}
 use native.Mathlib.Omega.{arith}
-use borrow.Author.Rules.{rules}
-use borrow.Author.Tests.{not-false, not-true}
-use lib.ListN.{length, drop}
+use lib.ListN.{drop}
 use Rattle.desk_commands.specs.Parts.{digits}
-use Rattle.desk_commands.proofs.Numbers.{Read, digit_low, digits_end, digits-past, read_large, read_more, read_none, read_number, read-over, read-starts, sum_fits, value_fits}
+use Rattle.desk_commands.proofs.Numbers.{digit_low, digits_end, digits-past, read_large, read_more, read_none, read_number, read-over, read-starts, sum_fits, value_fits}
 use Rattle.desk_commands.proofs.parts.number_at.Goals as goal
 use Rattle.desk_commands.proofs.parts.number_at.Goals.{else-loop-i-test, then-loop-i-test+then-not-is_digit}
 
@@ -33,18 +30,18 @@ loop-i-preserved c = search read-over
 pub returns-then-i-at : goal.returns-then-i-at
 returns-then-i-at c =
     let ended : digits (drop c.loop-i.i c.args.line.now) ≡ [] =
-        elim c.loop-i-test.branch [ else-loop-i-test w ↦ search digits-past | then-loop-i-test+then-not-is_digit w ↦ search digits_end ] in
+    elim c.loop-i-test.branch [ else-loop-i-test w ↦ search digits-past | then-loop-i-test+then-not-is_digit w ↦ search digits_end ] in
     read_none c.loop-i.invariant ended (omega (arith, c.if-i-at.true))
 
 pub returns-then-n-ge-NUMBER_LIMIT : goal.returns-then-n-ge-NUMBER_LIMIT
 returns-then-n-ge-NUMBER_LIMIT c =
     let ended : digits (drop c.loop-i.i c.args.line.now) ≡ [] =
-        elim c.loop-i-test.branch [ else-loop-i-test w ↦ search digits-past | then-loop-i-test+then-not-is_digit w ↦ search digits_end ] in
+    elim c.loop-i-test.branch [ else-loop-i-test w ↦ search digits-past | then-loop-i-test+then-not-is_digit w ↦ search digits_end ] in
     read_large c.loop-i.invariant ended (omega (arith, c.if-n-ge-NUMBER_LIMIT.true))
 
 pub returns : goal.returns
 returns c =
     let ended : digits (drop c.loop-i.i c.args.line.now) ≡ [] =
-        elim c.loop-i-test.branch [ else-loop-i-test w ↦ search digits-past | then-loop-i-test+then-not-is_digit w ↦ search digits_end ] in
+    elim c.loop-i-test.branch [ else-loop-i-test w ↦ search digits-past | then-loop-i-test+then-not-is_digit w ↦ search digits_end ] in
     let inv = c.loop-i.invariant in
     read_number inv ended (omega (arith, c.if-i-at.false, inv.place)) (omega (arith, c.if-n-ge-NUMBER_LIMIT.false))

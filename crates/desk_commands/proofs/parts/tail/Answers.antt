@@ -1,5 +1,4 @@
 -- `tail` meets its contract. Assumes nothing.
-use borrow.Author.Rules.{rules}
 use Rattle.desk_commands.proofs.Behind.{tail_none, tail_some}
 use Rattle.desk_commands.proofs.parts.tail.Goals as goal
 

@@ -1,5 +1,4 @@
 -- `contains` meets its contract, by the laws of Members. Assumes nothing.
-use borrow.Author.Rules.{rules}
 use Rattle.export_list.proofs.Members.{list-no_book, list_other_kind, list-no_name, asks_match, list-within, list-without}
 use mathlib.Core.Path.{ap}
 use mathlib.Core.Bool.{not}

@@ -1,5 +1,4 @@
 -- `decided_locality` meets its contract, by the laws of Decided. Assumes nothing.
-use borrow.Author.Rules.{rules}
 use native.Mathlib.Omega.{arith}
 use Rattle.book.specs.Layout.{LineLies}
 use Rattle.lookups.proofs.Decided.{decider_global, decider_local, decider_lies, nothing_decides}

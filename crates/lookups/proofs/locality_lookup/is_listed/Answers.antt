@@ -1,8 +1,7 @@
 -- `is_listed` meets its contract. The loop's invariant: the lines from i on decide. Assumes nothing.
 use Prim.Native.Nat.{◌-◌}
 use native.Mathlib.Omega.{arith}
-use borrow.Author.Rules.{rules}
-use Rattle.lookups.proofs.Listing.{Listing, listing-starts, listing-lies, listing-local, listing-found, listing_other, listing_none}
+use Rattle.lookups.proofs.Listing.{listing-starts, listing-lies, listing-local, listing-found, listing_other, listing_none}
 use Rattle.lookups.proofs.locality_lookup.is_listed.Goals as goal
 
 pub loop-i-init : goal.loop-i-init

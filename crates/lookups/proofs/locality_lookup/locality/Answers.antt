@@ -1,5 +1,4 @@
 -- `locality` meets its contract: the check, then `locality_in_book`. Assumes nothing.
-use borrow.Author.Rules.{rules}
 use Rattle.lookups.proofs.Asked.{book-asked}
 use Rattle.lookups.proofs.AskedLocality.{locality-no_book}
 use Rattle.lookups.proofs.locality_lookup.locality.Goals as goal

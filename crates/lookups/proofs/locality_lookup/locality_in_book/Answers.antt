@@ -1,5 +1,4 @@
 -- `locality_in_book` meets its contract, by the laws of AskedLocality. Assumes nothing.
-use borrow.Author.Rules.{rules}
 use Rattle.lookups.proofs.Asked.{asks_decider}
 use Rattle.lookups.proofs.AskedLocality.{locality-export, locality-no_name, asks-listed, rust-listed, rust-unlisted, locality-decided}
 use Rattle.lookups.proofs.locality_lookup.locality_in_book.Goals as goal

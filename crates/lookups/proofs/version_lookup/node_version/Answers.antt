@@ -1,6 +1,5 @@
 -- `node_version` meets its contract. Assumes nothing.
 use mathlib.Core.Path.{ap, ◌∙◌}
-use borrow.Author.Rules.{rules}
 use borrow.Author.Tests.{eq-eqb, ne_eqb}
 use Rattle.lookups.specs.declared.answers.Version.TheVariants as version
 use Rattle.lookups.specs.Lookups.{index_of, node_version}

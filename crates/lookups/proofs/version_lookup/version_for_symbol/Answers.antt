@@ -1,5 +1,4 @@
 -- `version_for_symbol` meets its contract: the check, then `version_in_book`. Assumes nothing.
-use borrow.Author.Rules.{rules}
 use Rattle.lookups.proofs.Asked.{book-asked}
 use Rattle.lookups.proofs.AskedVersion.{version-no_book}
 use Rattle.lookups.proofs.version_lookup.version_for_symbol.Goals as goal

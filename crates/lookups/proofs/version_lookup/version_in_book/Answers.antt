@@ -1,5 +1,4 @@
 -- `version_in_book` meets its contract, by the laws of AskedVersion. Assumes nothing.
-use borrow.Author.Rules.{rules}
 use Rattle.lookups.proofs.Asked.{asks_decider}
 use Rattle.lookups.proofs.AskedVersion.{version-export, version-no_name, version-rust, asks-wanted, version_wanted, version-decided}
 use Rattle.lookups.proofs.version_lookup.version_in_book.Goals as goal

@@ -1,6 +1,5 @@
 -- `known_version` meets its contract. The loop's invariant: the nodes from i on have other names. Assumes nothing.
-use borrow.Author.Rules.{rules}
-use Rattle.lookups.proofs.LastNamed.{Backward, back_starts, back_lies, back_found, back_more, back_ends}
+use Rattle.lookups.proofs.LastNamed.{Backward}
 use Rattle.lookups.proofs.wanted.known_version.Given as goal
 
 abbrev pub invariant-loop-i : goal.invariant-loop-i

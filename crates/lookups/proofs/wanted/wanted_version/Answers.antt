@@ -1,5 +1,4 @@
 -- `wanted_version` meets its contract, by the laws of LastNamed. Assumes nothing.
-use borrow.Author.Rules.{rules}
 use Rattle.lookups.proofs.LastNamed.{wanted-empty, wanted-known}
 use Rattle.lookups.proofs.wanted.wanted_version.Goals as goal
 

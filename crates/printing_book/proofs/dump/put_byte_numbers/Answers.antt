@@ -1,8 +1,7 @@
 -- `put_byte_numbers` meets its contract. The loop's invariant: the numbers before `i` stand. Assumes nothing.
 use Prim.Native.Nat.{◌-◌}
-use borrow.Author.Rules.{rules}
 use native.Mathlib.Omega.{arith}
-use Rattle.printing_book.proofs.Numbers.{Numbered, byte_room, numbers_end, numbers_more, numbers_start}
+use Rattle.printing_book.proofs.Numbers.{byte_room, numbers_end, numbers_more, numbers_start}
 use Rattle.printing_book.proofs.dump.put_byte_numbers.Goals as goal
 
 pub loop-i-init : goal.loop-i-init

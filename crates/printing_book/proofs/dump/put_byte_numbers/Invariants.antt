@@ -1,8 +1,6 @@
 -- `put_byte_numbers` meets its contract. The loop's invariant: the numbers before `i` stand. Assumes nothing.
 use Prim.Native.Nat.{◌-◌}
-use borrow.Author.Rules.{rules}
-use native.Mathlib.Omega.{arith}
-use Rattle.printing_book.proofs.Numbers.{Numbered, byte_room, numbers_end, numbers_more, numbers_start}
+use Rattle.printing_book.proofs.Numbers.{Numbered}
 use Rattle.printing_book.proofs.dump.put_byte_numbers.Given as goal
 
 abbrev pub invariant-loop-i : goal.invariant-loop-i

@@ -1,7 +1,6 @@
 -- `put_numbers` meets its contract. The loop's invariant: the numbers before `i` stand. Assumes nothing.
 use Prim.Native.Nat.{◌-◌}
-use borrow.Author.Rules.{rules}
-use Rattle.printing_book.proofs.Numbers.{Numbered, number-room, numbers_end, numbers_more, numbers_start}
+use Rattle.printing_book.proofs.Numbers.{number-room, numbers_end, numbers_more, numbers_start}
 use Rattle.printing_book.proofs.dump.put_numbers.Goals as goal
 
 pub loop-i-init : goal.loop-i-init

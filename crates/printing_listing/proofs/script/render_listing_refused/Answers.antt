@@ -1,5 +1,4 @@
 -- `render_listing_refused` meets its contract. Assumes nothing.
-use borrow.Author.Rules.{rules}
 use Rattle.printing_listing.proofs.Scripts.{refused-listed}
 use Rattle.printing_listing.proofs.script.render_listing_refused.Goals as goal
 

@@ -1,5 +1,4 @@
 -- `render_opened` meets its contract. Assumes nothing.
-use borrow.Author.Rules.{rules}
 use Rattle.book.specs.Layout.{five}
 use Rattle.book.specs.View.{view}
 use Rattle.printing_listing.proofs.Scripts.{opened-listed, opened-refused, symbols-room}
@@ -16,9 +15,9 @@ pub render_symbols-requires : goal.render_symbols-requires
 render_symbols-requires c =
     let a = c.args in
     let p = c.render_counts-from in (
-    symbols-room (view a.c (five a.nodes.now a.names.now a.lines.now a.pool.now a.journal.now)) a.symbols.now
-    a.out.now c.requires.0 c.requires.1 p.ensures,
-    c.requires.2 c.if-refusal-ne0.false,
+      symbols-room (view a.c (five a.nodes.now a.names.now a.lines.now a.pool.now a.journal.now)) a.symbols.now
+          a.out.now c.requires.0 c.requires.1 p.ensures,
+      c.requires.2 c.if-refusal-ne0.false,
     )
 
 pub returns : goal.returns

@@ -1,5 +1,4 @@
 -- `put_answer` meets its contract. Assumes nothing.
-use borrow.Author.Rules.{rules}
 use native.Mathlib.Omega.{arith}
 use Rattle.book.specs.Layout.{five}
 use Rattle.book.specs.View.{view}

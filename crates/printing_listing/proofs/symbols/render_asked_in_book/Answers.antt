@@ -1,5 +1,4 @@
 -- `render_asked_in_book` meets its contract. Assumes nothing.
-use borrow.Author.Rules.{rules}
 use Rattle.book.specs.Layout.{five}
 use Rattle.book.specs.View.{view}
 use Rattle.lookups.specs.Lookups.{wanted_of}

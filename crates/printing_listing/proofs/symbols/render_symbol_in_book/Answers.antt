@@ -1,5 +1,4 @@
 -- `render_symbol_in_book` meets its contract. Assumes nothing.
-use borrow.Author.Rules.{rules}
 use Rattle.book.specs.Layout.{five}
 use Rattle.book.specs.View.{view}
 use Rattle.printing_symbols.proofs.Asked.{name-count, part_room, plain-put, split-put, version-fits, version-starts}

@@ -1,11 +1,9 @@
 -- `render_symbols` meets its contract. The loop's invariant: the answers to the lines before `at` stand, and the others are left. Assumes nothing.
 use Prim.Native.Nat.{◌-◌}
-use borrow.Author.Rules.{rules}
 use lib.ListN.{length}
-use native.Mathlib.Omega.{arith}
 use Rattle.book.specs.Layout.{five}
 use Rattle.book.specs.View.{view}
-use Rattle.printing_listing.proofs.Answers.{Answered, answers_end, answers_start, last_put, last_room, line_ends, line_put, line_room, line_starts, next_less, next_within}
+use Rattle.printing_listing.proofs.Answers.{Answered}
 use Rattle.printing_listing.proofs.symbols.render_symbols.Given as goal
 
 abbrev pub invariant-loop-at : goal.invariant-loop-at

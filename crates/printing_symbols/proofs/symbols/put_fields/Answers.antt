@@ -1,5 +1,4 @@
 -- `put_fields` meets its contract, case by case. Assumes nothing.
-use borrow.Author.Rules.{rules}
 use Rattle.printing_symbols.proofs.Fields.{index-global, index-local, index-nothing, index-refused, unversioned_global, unversioned_local, unversioned_nothing, unversioned_refused, version-refused}
 use Rattle.printing_symbols.proofs.symbols.put_fields.Goals as goal
 

@@ -1,5 +1,4 @@
 -- `put_symbol_line` meets its contract. Assumes nothing.
-use borrow.Author.Rules.{rules}
 use native.Mathlib.Omega.{arith}
 use Rattle.printing_symbols.proofs.Fields.{few-fields, symbol_line-put}
 use Rattle.printing_symbols.proofs.symbols.put_symbol_line.Goals as goal

@@ -1,5 +1,4 @@
 -- `wanted_why` meets its contract. Assumes nothing.
-use borrow.Author.Rules.{rules}
 use Rattle.reasons.proofs.asking.wanted_why.Goals as goal
 
 pub returns-in-Refused : goal.returns-in-Refused

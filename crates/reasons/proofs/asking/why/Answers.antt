@@ -1,5 +1,4 @@
 -- `why` meets its contract: the check, then `why_in_book`. Assumes nothing.
-use borrow.Author.Rules.{rules}
 use Rattle.lookups.proofs.Asked.{book-asked}
 use Rattle.reasons.proofs.AskedWhy.{why-no_book}
 use Rattle.reasons.proofs.asking.why.Goals as goal

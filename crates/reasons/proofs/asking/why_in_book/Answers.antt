@@ -1,5 +1,4 @@
 -- `why_in_book` meets its contract, by the laws of AskedWhy. Assumes nothing.
-use borrow.Author.Rules.{rules}
 use Rattle.lookups.proofs.AskedVersion.{asks-wanted}
 use Rattle.reasons.proofs.AskedWhy.{asks-ranked, asks-rust, why-barred, why-no_name, why-rust, why-ranked, why-wanted}
 use Rattle.reasons.proofs.asking.why_in_book.Goals as goal

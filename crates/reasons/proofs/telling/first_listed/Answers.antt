@@ -1,9 +1,7 @@
 -- `first_listed` meets its contract. The loop's invariant: the search goes on at line i. Assumes nothing.
 use Prim.Native.Nat.{◌-◌}
 use native.Mathlib.Omega.{arith}
-use borrow.Author.Rules.{rules}
-use Rattle.lookups.specs.Lookups.{listed_as}
-use Rattle.reasons.proofs.Firsts.{Firsts, firsts_starts, firsts_lies, firsts_none, listed-local, listed_here, listed_other}
+use Rattle.reasons.proofs.Firsts.{firsts_starts, firsts_lies, firsts_none, listed-local, listed_here, listed_other}
 use Rattle.reasons.proofs.telling.first_listed.Goals as goal
 
 pub loop-i-init : goal.loop-i-init

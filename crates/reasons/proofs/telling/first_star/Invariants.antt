@@ -1,8 +1,7 @@
 -- `first_star` meets its contract. The loop's invariant: the search goes on at line i. Assumes nothing.
 use Prim.Native.Nat.{◌-◌}
-use borrow.Author.Rules.{rules}
 use Rattle.book.specs.Sanity.{bare_star}
-use Rattle.reasons.proofs.Firsts.{Firsts, firsts_starts, firsts_none, star_here, star_other}
+use Rattle.reasons.proofs.Firsts.{Firsts}
 use Rattle.reasons.proofs.telling.first_star.Given as goal
 
 abbrev pub invariant-loop-i : goal.invariant-loop-i

@@ -1,5 +1,4 @@
 -- `is_bare_star` meets its contract. Assumes nothing.
-use borrow.Author.Rules.{rules}
 use borrow.Author.Tests.{eq-eqb, ne_eqb}
 use Rattle.book.specs.Sanity.{bare_star}
 use Rattle.reasons.proofs.telling.is_bare_star.Goals as goal
@@ -17,9 +16,9 @@ pub returns : goal.returns
 unfolding bare_star
 returns c =
     rw (
-    ← c.class_of.ensures,
-    eq-eqb _ _ c.if-class_of-ne-ALL_CLASS.false,
-    ← c.section_of.ensures,
-    eq-eqb _ _ c.if-section_of-ne-LOCAL.false,
-    ← c.language_of.ensures,
+      ← c.class_of.ensures,
+      eq-eqb _ _ c.if-class_of-ne-ALL_CLASS.false,
+      ← c.section_of.ensures,
+      eq-eqb _ _ c.if-section_of-ne-LOCAL.false,
+      ← c.language_of.ensures,
     )

@@ -1,5 +1,4 @@
 -- `line_reason` meets its contract. Assumes nothing.
-use borrow.Author.Rules.{rules}
 use Rattle.reasons.proofs.telling.line_reason.Goals as goal
 
 pub returns : goal.returns

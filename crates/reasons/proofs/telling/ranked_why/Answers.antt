@@ -1,6 +1,5 @@
 -- `ranked_why` meets its contract, by the laws of Tellings. Assumes nothing.
 use native.Mathlib.Omega.{arith}
-use borrow.Author.Rules.{rules}
 use Rattle.reasons.proofs.Tellings.{ranked-asks, ranked-line, ranked_none}
 use Rattle.reasons.proofs.telling.ranked_why.Goals as goal
 

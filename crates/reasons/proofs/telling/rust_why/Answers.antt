@@ -1,5 +1,4 @@
 -- `rust_why` meets its contract, by the laws of Tellings. Assumes nothing.
-use borrow.Author.Rules.{rules}
 use Rattle.lookups.specs.Lookups.{listed_as}
 use Rattle.book.specs.Sanity.{bare_star}
 use Rattle.reasons.proofs.Tellings.{first_asks, rust-listed, rust_none, rust-star}

@@ -5,12 +5,11 @@ use Prim.Native.Nat.{◌+◌, ◌*◌, ◌≤◌}
 use mathlib.Core.Path.{◌≡◌, sym, ◌∙◌}
 use mathlib.Core.List.{[], ◌∷◌}
 use mathlib.Core.Bool.{true}
-use borrow.Author.Tests.{not-true, not-false}
 use lib.Seq.{paste}
 use Rattle.numbers.specs.Limits.{pool_limit}
 use Rattle.storing.specs.Keeping.{keep}
 use Rattle.book.specs.Books.{add}
-use Rattle.book.specs.Layout.{Buffers, counts_with, edit_width, five, line_width, row_of_line, standing_code}
+use Rattle.book.specs.Layout.{counts_with, edit_width, five, line_width, row_of_line, standing_code}
 use Rattle.book.specs.View.{book_of}
 use Rattle.book.proofs.Views.{Layout, laid-packs}
 use Rattle.book_rooms.specs.Rooms.{edit_row, fits_row}
@@ -44,7 +43,7 @@ pub overflow_cast-size : goal.overflow_cast-size
 overflow_cast-size c =
     let layout : Layout c.args.c (let a = c.args in five a.nodes.now a.names.now a.lines.now a.pool.now a.journal.now) (book_of c.args.c (let a = c.args in five a.nodes.now a.names.now a.lines.now a.pool.now a.journal.now)) = laid-packs c.args.c (let a = c.args in five a.nodes.now a.names.now a.lines.now a.pool.now a.journal.now) c.requires.0 in
     let ends : c.args.c.pool + c.in-As.size ≤ pool_limit = append-ends layout (keep c.edition_of.result c.args.token.now)
-        c.put_token.result _ c.put_token.ensures _ _ c.in-As.is in
+    c.put_token.result _ c.put_token.ensures _ _ c.in-As.is in
     omega (arith, ends)
 
 pub put_line-requires : goal.put_line-requires
@@ -69,14 +68,14 @@ pub overflow_cast-size-in-As : goal.overflow_cast-size-in-As
 overflow_cast-size-in-As c =
     let layout : Layout c.args.c (let a = c.args in five a.nodes.now a.names.now a.lines.now a.pool.now a.journal.now) (book_of c.args.c (let a = c.args in five a.nodes.now a.names.now a.lines.now a.pool.now a.journal.now)) = laid-packs c.args.c (let a = c.args in five a.nodes.now a.names.now a.lines.now a.pool.now a.journal.now) c.requires.0 in
     let ends : c.args.c.pool + c.in-As.size ≤ pool_limit = append-ends layout (keep c.edition_of.result c.args.token.now)
-        c.put_token.result _ c.put_token.ensures _ _ c.in-As.is in
+    c.put_token.result _ c.put_token.ensures _ _ c.in-As.is in
     omega (arith, ends)
 
 pub overflow_add-c-in-As : goal.overflow_add-c-in-As
 overflow_add-c-in-As c =
     let layout : Layout c.args.c (let a = c.args in five a.nodes.now a.names.now a.lines.now a.pool.now a.journal.now) (book_of c.args.c (let a = c.args in five a.nodes.now a.names.now a.lines.now a.pool.now a.journal.now)) = laid-packs c.args.c (let a = c.args in five a.nodes.now a.names.now a.lines.now a.pool.now a.journal.now) c.requires.0 in
     let ends : c.args.c.pool + c.in-As.size ≤ pool_limit = append-ends layout (keep c.edition_of.result c.args.token.now)
-        c.put_token.result _ c.put_token.ensures _ _ c.in-As.is in
+    c.put_token.result _ c.put_token.ensures _ _ c.in-As.is in
     omega (arith, ends)
 
 pub overflow_add-c-in-As-2 : goal.overflow_add-c-in-As-2
@@ -104,12 +103,12 @@ returns-in-As c =
     let edit : let a = c.args in edit_row a.journal.now a.c.edits ≡ true = sym c.has_edit.ensures ∙ c.if-not-has_edit.false in
     let coded : let a = c.args in c.code_of-code.result ≡ standing_code c.class_number.result a.section a.language = c.code_of-code.ensures in
     let placed : let a = c.args in
-        c.put_line.new.lines
-        ≡ paste a.lines.now (line_width * a.c.lines) (row_of_line a.node c.code_of-code.result a.c.pool c.in-As.size 0) line_width = c.put_line.ensures in
+    c.put_line.new.lines
+    ≡ paste a.lines.now (line_width * a.c.lines) (row_of_line a.node c.code_of-code.result a.c.pool c.in-As.size 0) line_width = c.put_line.ensures in
     let noted : let a = c.args in
-        c.put_two.new.rows ≡ paste a.journal.now (edit_width * a.c.edits) (add ∷ a.c.lines ∷ []) edit_width = c.put_two.ensures in
+    c.put_two.new.rows ≡ paste a.journal.now (edit_width * a.c.edits) (add ∷ a.c.lines ∷ []) edit_width = c.put_two.ensures in
     let counted : let b = c.args.c in
-        c.counts_with.result ≡ counts_with b (b.lines + 1) (b.pool + c.in-As.size) (b.edits + 1) = c.counts_with.ensures in
+    c.counts_with.result ≡ counts_with b (b.lines + 1) (b.pool + c.in-As.size) (b.edits + 1) = c.counts_with.ensures in
     append_made layout _ _ _ _
     c.edition_of.result c.edition_of.ensures c.put_token.result _ c.put_token.ensures
     row edit _ _ _ _ _ _

@@ -1,5 +1,4 @@
 -- `refusal_without_row` meets its contract: `store_token` has no room at all. Assumes nothing.
-use borrow.Author.Rules.{rules}
 use Rattle.trial_add.proofs.Appending.{unplaced-refused, unplaced-stored}
 use Rattle.trial_add.proofs.adding.refusal_without_row.Goals as goal
 

@@ -1,7 +1,6 @@
 -- `none_struck` meets its contract. The loop's invariant: the lines from number i on decide. Assumes nothing.
 use Prim.Native.Nat.{◌-◌}
-use borrow.Author.Rules.{rules}
-use Rattle.trial_settle.proofs.Unstruck.{Unstruck, none_starts, none_stops, none_more, none_ends}
+use Rattle.trial_settle.proofs.Unstruck.{Unstruck}
 use Rattle.trial_settle.proofs.settling.none_struck.Given as goal
 
 abbrev pub invariant-loop-i : goal.invariant-loop-i

@@ -3,7 +3,7 @@ use Prim.Native.Nat.{◌+◌, ◌-◌, ◌*◌, ◌≤◌}
 use native.Mathlib.Omega.{arith}
 use lib.ListN.{get_or}
 use Rattle.book.specs.Layout.{line_width}
-use Rattle.trial_settle.proofs.Sifting.{Sifting, sift_starts, sift_fits, sift_skips, sift_keeps, sift_ends}
+use Rattle.trial_settle.proofs.Sifting.{sift_starts, sift_fits, sift_skips, sift_keeps, sift_ends}
 use Rattle.trial_settle.proofs.settling.pack_standing.Goals as goal
 
 pub loop-i-init : goal.loop-i-init

@@ -1,9 +1,6 @@
 -- `pack_standing` meets its contract. The loop's invariant: the first i lines are read, and those of them that stand are packed. Assumes nothing.
-use Prim.Native.Nat.{◌+◌, ◌-◌, ◌*◌, ◌≤◌}
-use native.Mathlib.Omega.{arith}
-use lib.ListN.{get_or}
-use Rattle.book.specs.Layout.{line_width}
-use Rattle.trial_settle.proofs.Sifting.{Sifting, sift_starts, sift_fits, sift_skips, sift_keeps, sift_ends}
+use Prim.Native.Nat.{◌-◌}
+use Rattle.trial_settle.proofs.Sifting.{Sifting}
 use Rattle.trial_settle.proofs.settling.pack_standing.Given as goal
 
 abbrev pub invariant-loop-i : goal.invariant-loop-i

@@ -1,6 +1,5 @@
 -- `settle_lines` meets its contract: nothing is changed where none is struck, or the lines that stand are packed. Assumes nothing.
-use borrow.Author.Rules.{rules}
-use Rattle.book.specs.Layout.{Buffers, five}
+use Rattle.book.specs.Layout.{five}
 use Rattle.trial_settle.proofs.Settles.{journal-part, journal-room, lines-asked, lines-room, settle-done, settle_none}
 use Rattle.trial_settle.proofs.settling.settle_lines.Goals as goal
 

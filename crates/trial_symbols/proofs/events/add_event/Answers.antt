@@ -1,8 +1,7 @@
 -- `add_event` meets its contract, event by event. Assumes nothing.
 use mathlib.Core.Path.{refl}
 use native.Mathlib.Omega.{arith}
-use borrow.Author.Rules.{rules}
-use Rattle.book.specs.Layout.{Buffers, five}
+use Rattle.book.specs.Layout.{five}
 use Rattle.book.specs.View.{book_of}
 use Rattle.book.proofs.Views.{Layout, laid-packs}
 use Rattle.trial.specs.Symbols.{add_event}

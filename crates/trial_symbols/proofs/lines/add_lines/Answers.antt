@@ -1,9 +1,8 @@
 -- `add_lines` meets its contract. The loop's invariant, `Going`: the buffers hold the book with the lines so far, and what is left to read decides. Each event
 -- moves on in the text. Assumes nothing.
-use Prim.Native.Nat.{◌+◌, ◌-◌}
+use Prim.Native.Nat.{◌-◌}
 use borrow.Author.Rules.{rules}
-use lib.ListN.{length}
-use Rattle.trial_symbols.proofs.AddedTexts.{Going, going_starts, going_ends, going_back, going_refused, going_no, going_onward, going_on}
+use Rattle.trial_symbols.proofs.AddedTexts.{going_starts, going_ends, going_back, going_refused, going_no, going_onward, going_on}
 use Rattle.trial_symbols.proofs.AddedTexts.{now_laid, some_nodes, event_lies}
 use Rattle.trial_symbols.proofs.lines.add_lines.Goals as goal
 

@@ -3,7 +3,6 @@ use Prim.Native.Nat.{◌+◌, ◌-◌, ◌*◌}
 use mathlib.Core.Path.{◌≡◌, refl}
 use mathlib.Core.List.{[], ◌∷◌}
 use native.Mathlib.Omega.{arith}
-use borrow.Author.Rules.{rules}
 use lib.Seq.{paste}
 use Rattle.book.specs.Layout.{counts_with, edit_width}
 use Rattle.trial_undo.proofs.Backs.{added_back, struck_back}

@@ -1,5 +1,4 @@
 -- `from_node` meets its contract. Assumes nothing.
-use borrow.Author.Rules.{rules}
 use mathlib.Core.Path.{refl}
 use Rattle.lookups.specs.Lookups.{index_of}
 use Rattle.lookups.proofs.index.VersionIndex.from_node.Goals as goal
