@@ -31,7 +31,8 @@ module _ (b : Buffers) (s d : List ℕ) {r : ℕ} {l : List ℕ} where
       let q = rw (script-part s end e, symbols-part s end e from f) at g in
       rw (le-ltb 65536 (length s) h) q
 
-  -- the same where what is printed is not written
+-- the same where what is printed is not written
+module _ (b : Buffers) (s d : List ℕ) {l : List ℕ} where
   pub too_long-stops : 65536 < length s → l ≡ front (refused_line too_long) d → StopsWithin (why_listing b s) d l
   unfolding why_listing input_opening why_printed put_over
   too_long-stops h e = rw (lt-ltb 65536 (length s) h) (record { told = refused_line too_long ∷ []; rest = []; parts = refl; left = e })
