@@ -1,9 +1,10 @@
 -- Where what the desk prints is not written: some of its lines were run, the rest were not (specs/Stops.antt). Assumes nothing.
 use Prim.Native.Nat.{ℕ, ◌+◌, ◌-◌, ◌<◌}
-use mathlib.Core.Path.{◌≡◌, refl, sym, ap, ◌∙◌}
+use mathlib.Core.Path.{◌≡◌, refl, ap, ◌∙◌}
 use mathlib.Core.List.{List, [], ◌∷◌, ◌++◌, append_assoc}
 use native.Mathlib.Omega.{arith}
 use lib.ListN.{length, take, drop}
+use Rattle.std.specs.Prelude.{Result, Ok, Err, OnOk, OnErr}
 use Rattle.input.specs.Splitting.{lines_in}
 use Rattle.book.specs.Books.{Book}
 use Rattle.book.specs.Layout.{Buffers}
@@ -17,6 +18,15 @@ use Rattle.histories.specs.Histories.{Lent}
 use Rattle.histories.specs.Demand.{lent_opening}
 use Rattle.rounds.specs.Rounds.{behind_opening, line_lent, lines_lent}
 use Rattle.trial_desk.specs.Stops.{DeskStops, RunsSome}
+
+-- what holds at any result
+pub at_ok : {T E P : Type 0} (r : Result T E) → P → OnOk r P
+at_ok (Ok x) p = p
+at_ok (Err e) p = tt
+
+pub at_err : {T E P : Type 0} (r : Result T E) → P → OnErr r P
+at_err (Ok x) p = tt
+at_err (Err e) p = p
 
 -- a line behind others
 line_behind : (text : List ℕ) (ls : List (List ℕ)) (x : Lent) (l : List ℕ) → line_lent text (lines_lent text x ls) l ≡ lines_lent text x (ls ++ l ∷ [])
