@@ -2,7 +2,7 @@
 use native.Mathlib.Omega.{arith}
 use borrow.Author.Rules.{rules}
 use Rattle.book.specs.Layout.{five}
-use Rattle.printing_listing.proofs.Inputs.{line_room, lines_room, not_listed, script-count, script-within, symbols-within, too_long_listed, whole_listed}
+use Rattle.printing_listing.proofs.Inputs.{line_room, lines-room, not_listed, script-count, script-within, symbols-within, too_long-listed, whole-listed}
 use Rattle.printing_listing.proofs.render_listing.Statement.{statement}
 use Rattle.printing_listing.proofs.render_listing.Tie as tie
 
@@ -33,7 +33,7 @@ returns-2 c =
     let at-args = at-has-room.before.before.before.before.before.before.before.before in
     let a = at-args.args in
     let r = at-too-long.render-too-long in
-    too_long_listed (five a.nodes.now a.names.now a.lines.now a.pool.now a.journal.now) a.text.now a.out.now _ at-has-room.has_room.ensures
+    too_long-listed (five a.nodes.now a.names.now a.lines.now a.pool.now a.journal.now) a.text.now a.out.now _ at-has-room.has_room.ensures
     at-if1.if1.false at-if2.if2.true r.result r.new.1.1.1.1.1.0
     (five r.new.0 r.new.1.0 r.new.1.1.0 r.new.1.1.1.0 r.new.1.1.1.1.0) r.ensures
 
@@ -71,7 +71,7 @@ render-script-requires c κs =
     let at-args = at-has-room.before.before.before.before.before.before.before.before in
     let a = at-args.args in (
       line_room (five a.nodes.now a.names.now a.lines.now a.pool.now a.journal.now) a.text.now a.out.now _ at-has-room.has_room.ensures at-if1.if1.false,
-      lines_room (five a.nodes.now a.names.now a.lines.now a.pool.now a.journal.now) a.text.now a.out.now _ at-has-room.has_room.ensures at-if1.if1.false
+      lines-room (five a.nodes.now a.names.now a.lines.now a.pool.now a.journal.now) a.text.now a.out.now _ at-has-room.has_room.ensures at-if1.if1.false
           _ at-script-end.script-end.ensures _ at-symbols-start.symbols-start.ensures,
     )
 
@@ -86,7 +86,7 @@ returns-3 c =
     let at-args = at-has-room.before.before.before.before.before.before.before.before in
     let a = at-args.args in
     let r = at-render-script.render-script in
-    whole_listed (five a.nodes.now a.names.now a.lines.now a.pool.now a.journal.now) a.text.now a.out.now _ at-has-room.has_room.ensures
+    whole-listed (five a.nodes.now a.names.now a.lines.now a.pool.now a.journal.now) a.text.now a.out.now _ at-has-room.has_room.ensures
     at-if1.if1.false _ at-script-end.script-end.ensures _ at-symbols-start.symbols-start.ensures (omega (arith, at-if2.if2.false))
     r.result r.new.1.1.1.1.1.1.1.0
     (five r.new.1.1.0 r.new.1.1.1.0 r.new.1.1.1.1.0 r.new.1.1.1.1.1.0 r.new.1.1.1.1.1.1.0) r.ensures

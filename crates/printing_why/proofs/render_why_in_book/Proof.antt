@@ -11,7 +11,7 @@ use Rattle.book.specs.View.{view}
 use Rattle.lookups.specs.Lookups.{wanted_of}
 use Rattle.input.specs.Splitting.{demangled_part}
 use Rattle.printing_why.specs.Splits.{raw_name, version_for}
-use Rattle.printing_why.proofs.SplitLines.{demangled-told, raw_is, raw-short, split-put, version_told}
+use Rattle.printing_why.proofs.SplitLines.{demangled-told, raw_is, raw-short, split-put, version-told}
 use Rattle.printing_why.proofs.render_why_in_book.Statement.{statement}
 use Rattle.printing_why.proofs.render_why_in_book.Tie as tie
 
@@ -45,7 +45,7 @@ versioned : (c : tie.After-part-behind)
 versioned c =
     let q = c.before.before.before in
     let p = symbol c in
-    version_told (line p) _ p.part_before.ensures _ q.part-before2.ensures (start p).args.c (held (start p)) (start p).pre.1
+    version-told (line p) _ p.part_before.ensures _ q.part-before2.ensures (start p).args.c (held (start p)) (start p).pre.1
     _ c.before.has-version.ensures _ c.part-behind.ensures
 
 -- ---- the exit

@@ -6,13 +6,13 @@ use Rattle.book.specs.Layout.{Buffers, five}
 use Rattle.trial_strike.proofs.AskedStrike.{
   Roomy,
   Told,
-  strike_done,
+  strike-done,
   strike-few,
   strike_line-room,
   strike-no_book,
-  strike_no_room,
+  strike-no_room,
   strike-past,
-  strike_roomy,
+  strike-roomy,
   strike-row_room,
   strike-rust,
   strike-struck,
@@ -39,7 +39,7 @@ line c = c.before.before.before.before.before.before.before
 roomy : (c : tie.Else5) → let s = start (line c) in Roomy s.args.c (lent s) s.args.line
 roomy c =
     let d = c.before.before.before.before in
-    strike_roomy (told (line c)) _ d.before.is-struck.ensures d.if4.false _ c.before.has-edit.ensures c.if5.false
+    strike-roomy (told (line c)) _ d.before.is-struck.ensures d.if4.false _ c.before.has-edit.ensures c.if5.false
 
 returns : tie.Need-returns
 returns c = strike-no_book _ _ _ _ c.before.is-book.ensures c.if1.true
@@ -57,12 +57,12 @@ returns-3 c =
 returns-5 : tie.Need-returns-5
 returns-5 c =
     let d = c.before.before.before.before in
-    strike_no_room (told d.before.before.before) _ d.before.is-struck.ensures d.if4.false _ c.before.has-edit.ensures c.if5.true
+    strike-no_room (told d.before.before.before) _ d.before.is-struck.ensures d.if4.false _ c.before.has-edit.ensures c.if5.true
 
 returns-6 : tie.Need-returns-6
 returns-6 c =
     let p = c.before.before.before.before in
-    strike_done (roomy p.before.before) _ _ _ c.counts_with.ensures refl p.put_two.ensures
+    strike-done (roomy p.before.before) _ _ _ c.counts_with.ensures refl p.put_two.ensures
 
 pub strike_spec : {M : Type 1} → statement M
 strike_spec =

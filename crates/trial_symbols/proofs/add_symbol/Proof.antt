@@ -2,7 +2,7 @@
 use native.Mathlib.Omega.{arith}
 use borrow.Author.Rules.{rules}
 use Rattle.book.specs.Layout.{Buffers, five}
-use Rattle.trial_symbols.proofs.AskedSymbol.{Listed, lines-asks, symbol_added, symbol-kind, symbol-listed, symbol-long, symbol-no_book}
+use Rattle.trial_symbols.proofs.AskedSymbol.{Listed, lines-asks, symbol-added, symbol-kind, symbol-listed, symbol-long, symbol-no_book}
 use Rattle.trial_symbols.proofs.add_symbol.Statement.{statement}
 use Rattle.trial_symbols.proofs.add_symbol.Tie as tie
 
@@ -33,7 +33,7 @@ returns-4 : tie.Need-returns-4
 returns-4 c =
     let v = c.before.before.before.before.before.before in
     let h = v.before.before.before.before.before in
-    symbol_added (listed h.before) (entry h.before).args.text.now _ (omega (arith, h.if3.false))
+    symbol-added (listed h.before) (entry h.before).args.text.now _ (omega (arith, h.if3.false))
     _ v.before.place_of.ensures _ _ v.add-lines.ensures
 
 pub add_symbol_spec : {M : Type 1} → statement M

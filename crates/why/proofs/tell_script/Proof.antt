@@ -2,8 +2,8 @@
 use native.Mathlib.Omega.{arith}
 use borrow.Author.Rules.{rules}
 use Rattle.book.specs.Layout.{five}
-use Rattle.printing_listing.proofs.Scripts.{script_held}
-use Rattle.why.proofs.Scripts.{opened_told, refused_told}
+use Rattle.printing_listing.proofs.Scripts.{script-held}
+use Rattle.why.proofs.Scripts.{opened-told, refused-told}
 use Rattle.why.proofs.tell_script.Statement.{statement}
 use Rattle.why.proofs.tell_script.Tie as tie
 
@@ -13,7 +13,7 @@ returns c =
     let at_open = at-if1.before.before.before.before.before.before.before.before.before.before.before.before in
     let a = at_open.before.before.before.before.before.before.before.before.before.before.before.before.before.args in
     let w = at_open.«open» in
-    refused_told (five a.nodes.now a.names.now a.lines.now a.pool.now a.journal.now) a.text.now w.result w.ensures.0
+    refused-told (five a.nodes.now a.names.now a.lines.now a.pool.now a.journal.now) a.text.now w.result w.ensures.0
     a.symbols.now a.out.now (omega (arith, at-if1.if1.true)) c.refuse.ensures
 
 tell-symbols-requires : tie.Need-tell-symbols-requires
@@ -23,7 +23,7 @@ tell-symbols-requires c κs =
     let at-args = at_open.before.before.before.before.before.before.before.before.before.before.before.before.before in
     let a = at-args.args in
     let w = at_open.«open» in (
-      script_held (five a.nodes.now a.names.now a.lines.now a.pool.now a.journal.now) a.text.now w.result w.ensures.0
+      script-held (five a.nodes.now a.names.now a.lines.now a.pool.now a.journal.now) a.text.now w.result w.ensures.0
           (omega (arith, at-if1.if1.false)) _ w.ensures.1,
       omega (arith, at-args.requires.0, at-if1.before.before.before.before.before.before.before.before.before.names.given),
       at-args.requires.1,
@@ -35,7 +35,7 @@ returns-2 c =
     let at_open = at-if1.before.before.before.before.before.before.before.before.before.before.before.before in
     let a = at_open.before.before.before.before.before.before.before.before.before.before.before.before.before.args in
     let w = at_open.«open» in
-    opened_told (five a.nodes.now a.names.now a.lines.now a.pool.now a.journal.now) a.text.now w.result w.ensures.0
+    opened-told (five a.nodes.now a.names.now a.lines.now a.pool.now a.journal.now) a.text.now w.result w.ensures.0
     a.symbols.now a.out.now (omega (arith, at-if1.if1.false)) _ w.ensures.1 c.tell-symbols.ensures
 
 pub tell_script_spec : {M : Type 1} → statement M

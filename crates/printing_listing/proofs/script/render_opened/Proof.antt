@@ -2,7 +2,7 @@
 use borrow.Author.Rules.{rules}
 use Rattle.book.specs.Layout.{five}
 use Rattle.book.specs.View.{view}
-use Rattle.printing_listing.proofs.Scripts.{opened_listed, opened_refused, symbols_room}
+use Rattle.printing_listing.proofs.Scripts.{opened-listed, opened-refused, symbols-room}
 use Rattle.printing_listing.proofs.script.render_opened.Statement.{statement}
 use Rattle.printing_listing.proofs.script.render_opened.Tie as tie
 
@@ -13,7 +13,7 @@ returns c =
     let at-args = at-if1.before.before.before.before.before.before.before.before in
     let a = at-args.args in
     let p = at-refused.put-refused-line in
-    opened_refused (view a.c (five a.nodes.now a.names.now a.lines.now a.pool.now a.journal.now)) a.symbols.now
+    opened-refused (view a.c (five a.nodes.now a.names.now a.lines.now a.pool.now a.journal.now)) a.symbols.now
     a.out.now at-args.requires.0 at-if1.if1.true p.ensures
 
 render-symbols-requires : tie.Need-render-symbols-requires
@@ -23,7 +23,7 @@ render-symbols-requires c κs =
     let at-args = at-if1.before.before.before.before.before.before.before.before in
     let a = at-args.args in
     let p = at-counts.render-counts in (
-      symbols_room (view a.c (five a.nodes.now a.names.now a.lines.now a.pool.now a.journal.now)) a.symbols.now
+      symbols-room (view a.c (five a.nodes.now a.names.now a.lines.now a.pool.now a.journal.now)) a.symbols.now
           a.out.now at-args.requires.0 at-args.requires.1 p.ensures,
       at-args.requires.2 at-if1.if1.false,
     )
@@ -37,7 +37,7 @@ returns-2 c =
     let a = at-args.args in
     let p = at-counts.render-counts in
     let q = at-symbols.render-symbols in
-    opened_listed (view a.c (five a.nodes.now a.names.now a.lines.now a.pool.now a.journal.now)) a.symbols.now
+    opened-listed (view a.c (five a.nodes.now a.names.now a.lines.now a.pool.now a.journal.now)) a.symbols.now
     a.out.now at-args.requires.0 at-args.requires.1 p.ensures at-if1.if1.false q.ensures
 
 pub render_opened_spec : {M : Type 1} → statement M

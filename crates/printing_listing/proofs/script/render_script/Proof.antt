@@ -1,7 +1,7 @@
 -- `render_script` meets its contract. Assumes nothing.
 use borrow.Author.Rules.{rules}
 use Rattle.book.specs.Layout.{five}
-use Rattle.printing_listing.proofs.Scripts.{script-held, script_listed}
+use Rattle.printing_listing.proofs.Scripts.{script-held, script-listed}
 use Rattle.printing_listing.proofs.script.render_script.Statement.{statement}
 use Rattle.printing_listing.proofs.script.render_script.Tie as tie
 
@@ -26,7 +26,7 @@ returns c =
     let a = at-args.args in
     let w = at_open.«open» in
     let p = at-opened.render-opened in
-    script_listed (five a.nodes.now a.names.now a.lines.now a.pool.now a.journal.now) a.script.now w.result w.ensures.0
+    script-listed (five a.nodes.now a.names.now a.lines.now a.pool.now a.journal.now) a.script.now w.result w.ensures.0
     a.symbols.now a.out.now (five w.last.1.0 w.last.1.1.0 w.last.1.1.1.0 w.last.1.1.1.1.0 w.last.1.1.1.1.1.0)
     w.ensures.1 p.ensures
 

@@ -5,7 +5,7 @@ use lib.ListN.{length}
 use native.Mathlib.Omega.{arith}
 use Rattle.book.specs.Layout.{five}
 use Rattle.book.specs.View.{view}
-use Rattle.printing_listing.proofs.Answers.{Answered, answers_end, answers_start, last_put, last_room, line-ends, line-put, line_room, line_starts, next_less, next_within}
+use Rattle.printing_listing.proofs.Answers.{Answered, answers_end, answers_start, last_put, last_room, line_ends, line_put, line_room, line_starts, next_less, next_within}
 use Rattle.printing_listing.proofs.symbols.render_symbols.Statement.{statement}
 use Rattle.printing_listing.proofs.symbols.render_symbols.Tie as tie
 
@@ -32,7 +32,7 @@ part-put-answer-start c =
 part-put-answer-end : tie.Need-slice-bounds-put-answer-end invariant-loop decreases-loop
 part-put-answer-end c =
     let at-find = c.before.before.before in
-    line-ends at-find.before.before.loop.invariant at-find.find.ensures c.before.p.given.1
+    line_ends at-find.before.before.loop.invariant at-find.find.ensures c.before.p.given.1
 
 put-answer-requires : tie.Need-put-answer-requires invariant-loop decreases-loop
 put-answer-requires c κs =
@@ -64,7 +64,7 @@ loop-again c =
     let at-find = at_p.before.before in
     let at-loop = at-find.before.before in
     let at-args = at-loop.before.before.before.before.before.before.before.before in
-    line-put at-loop.loop.invariant at-args.requires.0 at-find.find.ensures at_p.p.given.1 at-put-answer.put-answer.ensures
+    line_put at-loop.loop.invariant at-args.requires.0 at-find.find.ensures at_p.p.given.1 at-put-answer.put-answer.ensures
 
 put-answer-requires-2 : tie.Need-put-answer-requires-2 invariant-loop decreases-loop
 put-answer-requires-2 c κs =

@@ -16,7 +16,7 @@ use Rattle.book.proofs.Views.{Layout, laid-packs}
 use Rattle.book_rooms.specs.Rooms.{edit_row, fits_row}
 use Rattle.book_rooms.proofs.Rows.{edit_refusal, edit_within, row_number, row_within}
 use Rattle.classes.proofs.ClassNumbers.{class-few}
-use Rattle.trial_add.proofs.Appending.{append_editless, append_ends, append_made, append_refused, append_rowless, pool-asked}
+use Rattle.trial_add.proofs.Appending.{append_editless, append-ends, append_made, append-refused, append_rowless, pool-asked}
 use Rattle.trial_add.proofs.adding.append.Statement.{statement}
 use Rattle.trial_add.proofs.adding.append.Tie as tie
 
@@ -55,7 +55,7 @@ ends : (c : tie.After-class) → (edited (roomy (put c))).args.c.pool + c.class.
 ends c =
     let p = put c in
     let s = edited (roomy p) in
-    append_ends (layout s) (keep p.before.before.before.edition_of.result s.args.token.now)
+    append-ends (layout s) (keep p.before.before.before.edition_of.result s.args.token.now)
     p.put-token.result _ p.put-token.ensures _ _ c.class.given.1
 
 returns : tie.Need-returns
@@ -108,7 +108,7 @@ add-counts-with-3 c =
 returns-3 : tie.Need-returns-3
 returns-3 c =
     let p = c.before.before.before.before.before in
-    append_refused (layout (edited (roomy p))) _ _ _ _
+    append-refused (layout (edited (roomy p))) _ _ _ _
     p.before.before.before.edition_of.result p.before.before.before.edition_of.ensures p.put-token.result _ p.put-token.ensures _
     c.before.no.given.1
 

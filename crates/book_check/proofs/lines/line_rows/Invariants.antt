@@ -1,0 +1,12 @@
+-- `line_rows` meets its contract. The loop's invariant: row i starts at `at` and its bytes at o, and the rows from i on decide. Assumes nothing.
+use Prim.Native.Nat.{◌+◌, ◌-◌}
+use native.Mathlib.Omega.{arith}
+use borrow.Author.Rules.{rules}
+use Rattle.book_check.proofs.LineRows.{Lined, lines_start, start_wrong, size_wrong, line_wrong, line-right, end_wrong, lines_end}
+use Rattle.book_check.proofs.lines.line_rows.Given as goal
+
+abbrev pub invariant-loop-i : goal.invariant-loop-i
+invariant-loop-i l = Lined l.frame l.lines l.pool l.n l.p l.i l.at l.o
+
+abbrev pub decreases-loop-i : goal.decreases-loop-i
+decreases-loop-i l = l.n - l.i

@@ -1,0 +1,31 @@
+-- `glob_match_store` meets its contract. Assumes nothing.
+use Prim.Native.Nat.{◌≤◌}
+use native.Mathlib.Omega.{arith}
+use borrow.Author.Rules.{rules}
+use Rattle.numbers.specs.Classes.{all_class}
+use Rattle.numbers.specs.Limits.{token_limit}
+use Rattle.glob_match.proofs.Telling.{store-refused, store-done, store-small}
+use Rattle.glob_match.proofs.exports.glob_match_store.Goals as goal
+
+pub overflow_mul-result : goal.overflow_mul-result
+overflow_mul-result c =
+    let small : (c.class_number.result ≤ all_class) × (c.in-As.n ≤ token_limit) = store-small _ _ _ _ c.store_token.ensures.0 _ _ c.in-As.is _ c.class_number.ensures in
+    omega (arith, small)
+
+pub overflow_add-result : goal.overflow_add-result
+overflow_add-result c =
+    let small : (c.class_number.result ≤ all_class) × (c.in-As.n ≤ token_limit) = store-small _ _ _ _ c.store_token.ensures.0 _ _ c.in-As.is _ c.class_number.ensures in
+    omega (arith, small)
+
+pub overflow_mul-result-in-As : goal.overflow_mul-result-in-As
+overflow_mul-result-in-As c =
+    let small : (c.class_number.result ≤ all_class) × (c.in-As.n ≤ token_limit) = store-small _ _ _ _ c.store_token.ensures.0 _ _ c.in-As.is _ c.class_number.ensures in
+    omega (arith, small)
+
+pub returns-in-As : goal.returns-in-As
+returns-in-As c =
+    let a = c.store_token.ensures in
+    (store-done _ _ _ _ a.0 _ _ c.in-As.is _ c.class_number.ensures, a.1)
+
+pub returns-in-Refused : goal.returns-in-Refused
+returns-in-Refused c = search store-refused
