@@ -178,7 +178,8 @@ def main():
     names = half_turned() | names
     for path in files('.antt', 'specs', 'proofs'):
         text = read(path)
-        there = {a: b for a, b in names.items() if a not in imported(text)} | own(path, text)
+        taken = imported(text)
+        there = {a: b for a, b in names.items() if a not in taken} | own(path, text)
         made = turn(text, there)
         if made != text:
             with open(path, 'w', encoding='utf-8') as out:

@@ -1,16 +1,16 @@
 -- The three forms meet the laws of packing: what is written is read again, and what is read is what is written. Assumes nothing.
-use Prim.Native.Nat.{ℕ, ◌+◌, ◌*◌, ◌/◌, ◌%◌, ◌≤◌, ◌<◌}
-use mathlib.Core.Path.{◌≡◌, refl, ◌∙◌}
+use Prim.Native.Nat.{ℕ, ◌+◌, ◌/◌, ◌%◌, ◌≤◌, ◌<◌}
+use mathlib.Core.Path.{◌≡◌, refl}
 use mathlib.Core.List.{List, [], ◌∷◌, ◌++◌}
-use mathlib.Core.Bool.{Bool, true, false, ◌&&◌, false≢true, not}
+use mathlib.Core.Bool.{Bool, true, false, not}
 use native.Mathlib.Omega.{arith}
-use lib.Dec.{eqb, leb, ltb}
+use lib.Dec.{eqb}
 use borrow.Author.Tests.{eqb-true, eq-eqb, leb-false, leb-true, ltb-true, ne_eqb}
 use lib.ListN.{length, drop, get_or}
 use Rattle.lists.proofs.Tests.{both}
 use Rattle.packing.proofs.TableLaws.{Laws}
 use Rattle.book.specs.declared.Frame.{Frame}
-use Rattle.book.specs.Books.{Node, Line, Edit}
+use Rattle.book.specs.Books.{Line}
 use Rattle.book.specs.Edits.{stands}
 use Rattle.book.specs.Layout.{node_form, line_form, edit_form, code_of, has_mark, line_of, struck_mark}
 use Rattle.book.specs.Sanity.{in_range, line_ok, edit_ok}

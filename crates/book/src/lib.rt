@@ -1,6 +1,8 @@
 // The book: its counts and its frame, its kinds, the widths of its rows, a line's code and row, and a search of its nodes. Definitions: specs/Books.antt (the
 // book apart from buffers), specs/Layout.antt (how it stands in lent buffers), specs/Edits.antt, specs/Sanity.antt and specs/View.antt (what is one, and what
 // is refused 14), from document 01, 'The book' and 'Numbers that say no', and document 02, request 02.
+#![tactic(auto)]
+
 ghost use Rattle.std.specs.Prelude.{◌≡◌};
 ghost use Rattle.book.specs.Layout.{counts_with, frame_of, no_counts};
 

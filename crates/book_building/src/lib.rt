@@ -1,6 +1,8 @@
 // What each event of a reading makes of a book in lent buffers. Definitions: specs/Building.antt and specs/State.antt, from document 01, 'Reading', 'The book'
 // and 'Numbers that say no', and document 02, request 02. `take_node` and `take_parent` are for a caller who knows how far the book is. A line is taken in
 // `lines`, and whichever event it is in `events`.
+#![tactic(auto)]
+
 ghost use Rattle.std.specs.Prelude.{◌≡◌, true, ◌*◌, ◌≤◌, ◌<◌, length};
 ghost use Rattle.numbers.specs.Limits.{node_limit, script_limit};
 ghost use Rattle.packing.specs.Tables.{packs};

@@ -1,4 +1,6 @@
 // Whether lent buffers and counts hold a book: the question behind refusal 14, asked first by every function that takes a book.
+#![tactic(auto)]
+
 ghost use Rattle.std.specs.Prelude.{◌≡◌, true};
 ghost use Rattle.book.specs.Layout.{five};
 ghost use Rattle.book.specs.Sanity.{kind_good};

@@ -5,7 +5,7 @@ use mathlib.Core.List.{List, [], ◌∷◌, ◌++◌}
 use mathlib.Core.Bool.{true}
 use native.Mathlib.Omega.{arith}
 use borrow.Author.Tests.{leb-true, ltb-true}
-use lib.Dec.{leb, ltb}
+use lib.Dec.{ltb}
 use lib.ListN.{length, get_or, set, length-append, length-set}
 use Rattle.numbers.specs.Limits.{line_limit, node_limit, pool_limit}
 use Rattle.lists.proofs.Tests.{both}

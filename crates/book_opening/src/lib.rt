@@ -1,5 +1,7 @@
 // Opening a text into lent buffers: the events of its reading, taken one by one (the crate `book_building`). Definitions: specs/Opening.antt, from document 01,
 // 'Reading', 'Ranking' (the Rust kind), 'The book' and 'Numbers that say no'.
+#![tactic(auto)]
+
 ghost use Rattle.book.specs.Layout.{five};
 ghost use Rattle.book_opening.specs.State.{Opens};
 

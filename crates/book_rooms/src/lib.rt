@@ -1,4 +1,6 @@
 // Room for a row or for bytes more in lent buffers. Definitions: specs/Rooms.antt, from document 01, 'Numbers that say no' (8).
+#![tactic(auto)]
+
 ghost use Rattle.std.specs.Prelude.{◌≡◌, ◌≤◌};
 ghost use Rattle.storing.specs.Keeping.{keep};
 ghost use Rattle.book_rooms.specs.Rooms.{Put, edit_row, fits_row, pool_room};

@@ -1,5 +1,7 @@
 // A book that is lent as numbers and slices, the way a C program has it: its counts, six numbers, a number handed back, and what an edit answered.
 // Definitions: specs/Calls.antt.
+#![tactic(auto)]
+
 ghost use Rattle.std.specs.Prelude.{◌≡◌};
 ghost use Rattle.c_lending.specs.Calls.{Finishes, counts_put, lent_counts, number_told, value_left};
 

@@ -1,4 +1,6 @@
 // glob_match.rs: the class of a token. `classify` has the quote and `*` rules of `parse_matcher` too. Definitions: specs/Classes.antt, from document 01.
+#![tactic(auto)]
+
 ghost use Rattle.std.specs.Prelude.{◌≡◌, cond, false, ◌+◌, ◌≤◌, drop, length};
 ghost use Rattle.classes.specs.Classes.{class_number, class_of, escaped, lone_star, nonstar, quoted, scan, scanned, sign};
 

@@ -1,4 +1,6 @@
 // Writing into lent buffers: bytes, rows of numbers, and bytes moved down within their buffer.
+#![tactic(auto)]
+
 ghost use Rattle.std.specs.Prelude.{◌≡◌, [], ◌∷◌, ◌+◌, ◌≤◌, length, drop, take};
 ghost use Rattle.std.proofs.Math.Seq.{paste};
 

@@ -1,5 +1,7 @@
 // The counts of a version book, and its nodes. Definitions: specs/Questions.antt, from document 01, 'Ranking'. Every question asks first whether the buffers
 // hold a book (14).
+#![tactic(auto)]
+
 ghost use Rattle.std.specs.Prelude.{◌≡◌, [], ◌*◌, ◌≤◌, length};
 ghost use Rattle.numbers.specs.Limits.{node_limit};
 ghost use Rattle.packing.specs.Tables.{things};

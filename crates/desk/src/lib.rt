@@ -1,4 +1,6 @@
 // The release desk: a line of its input is read as a command, done on a trial book, and answered into a lent buffer. Definitions: specs/Desk.antt.
+#![tactic(auto)]
+
 ghost use Rattle.std.specs.Prelude.{◌≡◌, false, ◌≤◌, length};
 ghost use Rattle.lists.specs.Front.{front};
 ghost use Rattle.book.specs.Layout.{five};

@@ -1,4 +1,6 @@
 // The commands of the release desk, one a line of its input. Definitions: specs/Commands.antt.
+#![tactic(auto)]
+
 ghost use Rattle.std.specs.Prelude.{◌≡◌};
 ghost use Rattle.desk_commands.specs.Commands.{add_command, command_of, question_of, strike_command};
 

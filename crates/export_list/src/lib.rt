@@ -1,5 +1,7 @@
 // export_list.rs, the book's side: an export list opened into lent buffers, and whether it contains a name. Definitions: specs/Membership.antt, from document
 // 01, 'Ranking'; the opening's is that of the crate `book_opening`. The question asks first whether the buffers hold a book (14).
+#![tactic(auto)]
+
 ghost use Rattle.book.specs.Layout.{five};
 ghost use Rattle.book_opening.specs.Opening.{as_list};
 ghost use Rattle.book_opening.specs.State.{Opens};

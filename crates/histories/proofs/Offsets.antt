@@ -157,7 +157,8 @@ module _ (ls : List Line) where
       events_so e s d (event.Section k ∷ xs) t = events_so e s d xs t
       events_so e s d (event.Extern k l ∷ xs) t = events_so e s d xs t
       events_so e s d (event.Closed ∷ xs) t = events_so e s d xs t
-      events_so e s d (event.Line k l p n ∷ xs) t = events_so e s _ xs (kept_so d 0 global l (keep e (part s p n)) t)
+      events_so e s d (event.Line k l p n ∷ xs) t =
+          events_so e s (with_kept d 0 global l (keep e (part s p n))) xs (kept_so d 0 global l (keep e (part s p n)) t)
       events_so e s d (event.Parent p n ∷ xs) t = events_so e s d xs t
 
     back_so : (d : Desk) (es : List (List Line)) → Each (Cames h) es → Traced h d → Traced h (back_to d es)
@@ -181,7 +182,8 @@ module _ (ls : List Line) where
     leads_so : (e : Edition) (d : Desk) (xs : List Told) → (any has_added xs ≡ true → any has_added h ≡ true) → Traced h d → Traced h (leads e d xs)
     unfolding leads any
     leads_so e d [] f t = t
-    leads_so e d (x ∷ xs) f t = leads_so e _ xs (λ a. f (rw a (or-true (has_added x)))) (go (eqb x.number 0) refl)
+    leads_so e d (x ∷ xs) f t =
+        leads_so e (cond (eqb x.number 0) (follow e d x.call) d) xs (λ a. f (rw a (or-true (has_added x)))) (go (eqb x.number 0) refl)
       where
         go : (b : Bool) → eqb x.number 0 ≡ b → Traced h (cond b (follow e d x.call) d)
         go true z = follow_so e d x.call (λ a. f (rw (z, a))) t

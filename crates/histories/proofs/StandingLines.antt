@@ -1,6 +1,6 @@
 -- The lines that stand (`standing` of crate trial): struck lines decide nothing, so each lookup finds among them the line that it finds among all. Assumes
 -- nothing.
-use mathlib.Core.Path.{◌≡◌, refl, ap, ◌∙◌}
+use mathlib.Core.Path.{◌≡◌, refl, ◌∙◌}
 use mathlib.Core.List.{List, [], ◌∷◌, ◌++◌}
 use mathlib.Core.Bool.{Bool, true, false, ◌||◌}
 use lib.Seq.{append_snoc}

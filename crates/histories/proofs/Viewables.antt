@@ -6,12 +6,10 @@ use mathlib.Core.List.{List, [], ◌∷◌, ◌++◌}
 use mathlib.Core.Bool.{Bool, true, false, cond, not, ◌&&◌, true≢false}
 use mathlib.Core.Option.{some, none, some-injective}
 use native.Mathlib.Omega.{arith}
-use borrow.Author.Tests.{leb-true, le-leb, ltb-true}
-use lib.Dec.{eqb, leb, ltb}
+use borrow.Author.Tests.{leb-true, ltb-true}
+use lib.Dec.{eqb, ltb}
 use lib.ListN.{length, drop, set, take, length-append, length-set, take-append-drop}
-use Rattle.numbers.specs.Classes.{all_class}
 use Rattle.numbers.specs.Limits.{edit_limit}
-use Rattle.numbers.specs.Marks.{local}
 use Rattle.lists.proofs.Tests.{both}
 use Rattle.lists.specs.Each.{every}
 use Rattle.packing.specs.Tables.{packed}
@@ -20,7 +18,7 @@ use Rattle.book.specs.Books.{Book, Edit, Line, add, book_frame, no_line, rust}
 use Rattle.book.specs.declared.Frame.{Frame}
 use Rattle.book.specs.Edits.{add_back, all_back, journal_fits, line_at, marked, stands, strike_back, take_back}
 use Rattle.book.specs.Layout.{Buffers, edit_width, line_form}
-use Rattle.book.specs.Sanity.{content_good, edit_ok, in_range, kind_allows, kind_good, line_ok, nodes_good, sane}
+use Rattle.book.specs.Sanity.{edit_ok, kind_good, line_ok, nodes_good, sane}
 use Rattle.book_rooms.specs.Rooms.{edit_room, line_room}
 use Rattle.book_opened.proofs.Opened.{Viewable}
 use Rattle.trial.specs.Trial.{standing, with_line}

@@ -10,16 +10,26 @@ use Rattle.export_list.specs.Membership.{membership_refusal, membership_value}
 use Rattle.c_lending.specs.Calls.{Replies, counts_row, flag}
 use Rattle.histories.specs.Histories.{Call, adds, adds_symbol, settles, strikes, undoes, Lent}
 use Rattle.histories_calls.specs.Interfaces.{Interface, RunOf, SeenEdit, SeenOpening, SeenQuestion, exit}
-use Rattle.c_api.proofs.openings.tuno_open_version_script
-use Rattle.c_api.proofs.openings.tuno_open_export_list
-use Rattle.c_api.proofs.edits.tuno_add
-use Rattle.c_api.proofs.edits.tuno_strike
-use Rattle.c_api.proofs.edits.tuno_undo
-use Rattle.c_api.proofs.edits.tuno_settle
-use Rattle.c_api.proofs.edits.tuno_add_symbol
-use Rattle.c_api.proofs.questions.tuno_version_for_symbol
-use Rattle.c_api.proofs.questions.tuno_locality
-use Rattle.c_api.proofs.questions.tuno_contains
+use Rattle.c_api.specs.contracts.openings.tuno_open_version_script
+use Rattle.c_api.proofs.openings.tuno_open_version_script.Reads as tuno_open_version_script_reads
+use Rattle.c_api.specs.contracts.openings.tuno_open_export_list
+use Rattle.c_api.proofs.openings.tuno_open_export_list.Reads as tuno_open_export_list_reads
+use Rattle.c_api.specs.contracts.edits.tuno_add
+use Rattle.c_api.proofs.edits.tuno_add.Reads as tuno_add_reads
+use Rattle.c_api.specs.contracts.edits.tuno_strike
+use Rattle.c_api.proofs.edits.tuno_strike.Reads as tuno_strike_reads
+use Rattle.c_api.specs.contracts.edits.tuno_undo
+use Rattle.c_api.proofs.edits.tuno_undo.Reads as tuno_undo_reads
+use Rattle.c_api.specs.contracts.edits.tuno_settle
+use Rattle.c_api.proofs.edits.tuno_settle.Reads as tuno_settle_reads
+use Rattle.c_api.specs.contracts.edits.tuno_add_symbol
+use Rattle.c_api.proofs.edits.tuno_add_symbol.Reads as tuno_add_symbol_reads
+use Rattle.c_api.specs.contracts.questions.tuno_version_for_symbol
+use Rattle.c_api.proofs.questions.tuno_version_for_symbol.Reads as tuno_version_for_symbol_reads
+use Rattle.c_api.specs.contracts.questions.tuno_locality
+use Rattle.c_api.proofs.questions.tuno_locality.Reads as tuno_locality_reads
+use Rattle.c_api.specs.contracts.questions.tuno_contains
+use Rattle.c_api.proofs.questions.tuno_contains.Reads as tuno_contains_reads
 
 -- six buffers, the counts first
 pub record Six : Type 0 where
@@ -32,8 +42,8 @@ in_six x = record { counts = counts_row x.counts; buffers = x.buffers }
 
 -- ---- openings: 0, or the refusal's number and 256 times its place
 pub data OpeningRun : Type 0 where
-  script : RunOf tuno_open_version_script.ended tuno_open_version_script.Reads.Post → OpeningRun
-  list : RunOf tuno_open_export_list.ended tuno_open_export_list.Reads.Post → OpeningRun
+  script : RunOf tuno_open_version_script.ended tuno_open_version_script_reads.Post → OpeningRun
+  list : RunOf tuno_open_export_list.ended tuno_open_export_list_reads.Post → OpeningRun
 
 abbrev pub opening_seen : How → Buffers → List ℕ → ℕ → List ℕ → Buffers → SeenOpening Six
 opening_seen how b s r c' b' = record { how = how; buffers = b; text = s; number = r; left = record { counts = c'; buffers = b' } }
@@ -50,11 +60,11 @@ opens (list f) =
 
 -- ---- edits: 0, or the refusal's number
 pub data EditRun : Type 0 where
-  add_run : RunOf tuno_add.ended tuno_add.Reads.Post → EditRun
-  strike_run : RunOf tuno_strike.ended tuno_strike.Reads.Post → EditRun
-  undo_run : RunOf tuno_undo.ended tuno_undo.Reads.Post → EditRun
-  settle_run : RunOf tuno_settle.ended tuno_settle.Reads.Post → EditRun
-  add_symbol_run : RunOf tuno_add_symbol.ended tuno_add_symbol.Reads.Post → EditRun
+  add_run : RunOf tuno_add.ended tuno_add_reads.Post → EditRun
+  strike_run : RunOf tuno_strike.ended tuno_strike_reads.Post → EditRun
+  undo_run : RunOf tuno_undo.ended tuno_undo_reads.Post → EditRun
+  settle_run : RunOf tuno_settle.ended tuno_settle_reads.Post → EditRun
+  add_symbol_run : RunOf tuno_add_symbol.ended tuno_add_symbol_reads.Post → EditRun
 
 abbrev pub edit_seen : List ℕ → Buffers → Call → ℕ → List ℕ → Buffers → SeenEdit Six
 edit_seen c b k r c' b' = record { lent = record { counts = c; buffers = b }; call = k; number = r; left = record { counts = c'; buffers = b' } }
@@ -88,13 +98,13 @@ abbrev pub question_seen : {Q A : Type 0} → List ℕ → Buffers → Q → (A 
 question_seen c b q answers = record { lent = record { counts = c; buffers = b }; asked = q; answers = answers }
 
 abbrev pub VersionRun : Type 0
-VersionRun = RunOf tuno_version_for_symbol.ended tuno_version_for_symbol.Reads.Post
+VersionRun = RunOf tuno_version_for_symbol.ended tuno_version_for_symbol_reads.Post
 
 abbrev pub LocalityRun : Type 0
-LocalityRun = RunOf tuno_locality.ended tuno_locality.Reads.Post
+LocalityRun = RunOf tuno_locality.ended tuno_locality_reads.Post
 
 abbrev pub MemberRun : Type 0
-MemberRun = RunOf tuno_contains.ended tuno_contains.Reads.Post
+MemberRun = RunOf tuno_contains.ended tuno_contains_reads.Post
 
 abbrev pub exports : Interface
 exports = record {

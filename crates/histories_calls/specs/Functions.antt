@@ -14,22 +14,32 @@ use Rattle.trial.specs.Changes.{edit_refusal}
 use Rattle.uniqueness.specs.Promises.{Undo}
 use Rattle.histories.specs.Histories.{Call, adds, adds_symbol, settles, strikes, undoes, Lent}
 use Rattle.histories_calls.specs.Interfaces.{Interface, RunOf, SeenEdit, SeenOpening, SeenQuestion, exit}
-use Rattle.version_script.proofs.open as script-open
-use Rattle.export_list.proofs.open as List-open
-use Rattle.trial_add.proofs.add
-use Rattle.trial_strike.proofs.strike
+use Rattle.version_script.specs.contracts.open as script_open
+use Rattle.version_script.proofs.open.Reads as script_open_reads
+use Rattle.export_list.specs.contracts.open as list_open
+use Rattle.export_list.proofs.open.Reads as list_open_reads
+use Rattle.trial_add.specs.contracts.add
+use Rattle.trial_add.proofs.add.Reads as add_reads
+use Rattle.trial_strike.specs.contracts.strike
+use Rattle.trial_strike.proofs.strike.Reads as strike_reads
 use Rattle.trial_undo.specs.contracts.undo
-use Rattle.trial_undo.proofs.undo_latest
-use Rattle.trial_settle.proofs.settle
-use Rattle.trial_symbols.proofs.add_symbol
-use Rattle.lookups.proofs.version_lookup.version_for_symbol
-use Rattle.lookups.proofs.locality_lookup.locality
-use Rattle.export_list.proofs.lookups.contains
+use Rattle.trial_undo.specs.contracts.undo_latest
+use Rattle.trial_undo.proofs.undo_latest.Reads as undo_latest_reads
+use Rattle.trial_settle.specs.contracts.settle
+use Rattle.trial_settle.proofs.settle.Reads as settle_reads
+use Rattle.trial_symbols.specs.contracts.add_symbol
+use Rattle.trial_symbols.proofs.add_symbol.Reads as add_symbol_reads
+use Rattle.lookups.specs.contracts.version_lookup.version_for_symbol
+use Rattle.lookups.proofs.version_lookup.version_for_symbol.Reads as version_for_symbol_reads
+use Rattle.lookups.specs.contracts.locality_lookup.locality
+use Rattle.lookups.proofs.locality_lookup.locality.Reads as locality_reads
+use Rattle.export_list.specs.contracts.lookups.contains
+use Rattle.export_list.proofs.lookups.contains.Reads as contains_reads
 
 -- ---- openings
 pub data OpeningRun : Type 0 where
-  script : RunOf script-open.ended script-open.Reads.Post → OpeningRun
-  list : RunOf List-open.ended List-open.Reads.Post → OpeningRun
+  script : RunOf script_open.ended script_open_reads.Post → OpeningRun
+  list : RunOf list_open.ended list_open_reads.Post → OpeningRun
 
 -- the counts are those that are answered
 abbrev pub opening_seen : How → Buffers → List ℕ → Opened → Buffers → SeenOpening Lent
@@ -48,12 +58,12 @@ opens (list f) =
 -- ---- edits. `undo`, to which the counts are lent, is proved by a walk by hand: its promise is the one that its clauses are shown to say (`undo-says` of
 -- `uniqueness`)
 pub data EditRun : Type 0 where
-  add_run : RunOf add.ended add.Reads.Post → EditRun
-  strike_run : RunOf strike.ended strike.Reads.Post → EditRun
+  add_run : RunOf add.ended add_reads.Post → EditRun
+  strike_run : RunOf strike.ended strike_reads.Post → EditRun
   undo_run : RunOf undo.ended Undo → EditRun
-  undo_latest_run : RunOf undo_latest.ended undo_latest.Reads.Post → EditRun
-  settle_run : RunOf settle.ended settle.Reads.Post → EditRun
-  add_symbol_run : RunOf add_symbol.ended add_symbol.Reads.Post → EditRun
+  undo_latest_run : RunOf undo_latest.ended undo_latest_reads.Post → EditRun
+  settle_run : RunOf settle.ended settle_reads.Post → EditRun
+  add_symbol_run : RunOf add_symbol.ended add_symbol_reads.Post → EditRun
 
 -- the counts behind an edit to which c were given: those that it answers, or where it is refused c again
 abbrev pub counts_behind : Counts → Edited → Counts
@@ -105,13 +115,13 @@ abbrev pub question_seen : {Q A : Type 0} → Counts → Buffers → Q → A →
 question_seen c b q r = record { lent = record { counts = c; buffers = b }; asked = q; answers = λ a. r ≡ a }
 
 abbrev pub VersionRun : Type 0
-VersionRun = RunOf version_for_symbol.ended version_for_symbol.Reads.Post
+VersionRun = RunOf version_for_symbol.ended version_for_symbol_reads.Post
 
 abbrev pub LocalityRun : Type 0
-LocalityRun = RunOf locality.ended locality.Reads.Post
+LocalityRun = RunOf locality.ended locality_reads.Post
 
 abbrev pub MemberRun : Type 0
-MemberRun = RunOf contains.ended contains.Reads.Post
+MemberRun = RunOf contains.ended contains_reads.Post
 
 abbrev pub library : Interface
 library = record {

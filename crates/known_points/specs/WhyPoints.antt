@@ -1,6 +1,6 @@
 -- Known points of document 02, request 03: the line that is named, of the definitions that the code is proved to meet. proofs/WhyTheorem.antt proves the table.
 -- Assumes nothing.
-use Rattle.std.specs.Prelude.{ℕ, ◌≡◌, List}
+use Rattle.std.specs.Prelude.{ℕ, ◌≡◌}
 use Prim.Native.String.{String}
 use Rattle.std.proofs.Math.Option.{Option, some, none}
 use Rattle.numbers.specs.Classes.{all_class, exact_class, nonstar_class, star_class}
@@ -10,7 +10,6 @@ use Rattle.lists.specs.Texts.{codes}
 use Rattle.book.specs.Books.{Book}
 use Rattle.book.specs.Layout.{Buffers}
 use Rattle.book_opening.specs.Opening.{Opening, opens, declined}
-use Rattle.ranking.specs.Matching.{Name}
 use Rattle.reasons.specs.declared.Why.{Why}
 use Rattle.reasons.specs.declared.Why.TheVariants as why
 use Rattle.reasons.specs.Why.{why_asked}

@@ -1,6 +1,8 @@
 // What the readers above ask of the bytes of a text: the byte at a place, the last `};`, the end of a token without its blanks; and what is found and
 // where a skip ends, as answers. The searches for a byte stand in `searching`, the skip function of linker_script.rs in `comments`; specs/ has the
 // definitions of all of them. A text is a slice, a place a number; every place is answered, also past the end.
+#![tactic(auto)]
+
 ghost use Rattle.std.specs.Prelude.{◌≡◌, ◌≤◌, length, get_or, take};
 ghost use Rattle.linker_script.specs.Finding.{last_close};
 ghost use Rattle.linker_script.specs.Trim.{white, trim_end};

@@ -2,13 +2,13 @@
 use Prim.Native.Nat.{ℕ, zero, suc, ◌+◌, ◌<◌, ◌≤◌}
 use mathlib.Core.Path.{◌≡◌, refl}
 use mathlib.Core.List.{List, [], ◌∷◌}
-use mathlib.Core.Bool.{Bool, true, ◌&&◌}
-use lib.ListN.{length, get_or, drop, drop_of_length-le}
+use mathlib.Core.Bool.{true, ◌&&◌}
+use lib.ListN.{length, drop, drop_of_length-le}
 use lib.Seq.{drop-cons, drop-drop}
 use native.Mathlib.Nat.{add_assoc}
 use native.Mathlib.Numerals.{add-one}
 use native.Mathlib.Omega.{arith}
-use Rattle.lists.specs.Pieces.{Piece, Reader, piece_at, pieces, pieces_past, sound, sound_past}
+use Rattle.lists.specs.Pieces.{Reader, piece_at, pieces, pieces_past, sound, sound_past}
 
 module _ {A B : Type 0} (read : Reader A B) where
   pub pieces_past-drop : (k : ℕ) (s : List A) → pieces_past read k s ≡ pieces read (drop k s)

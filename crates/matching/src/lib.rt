@@ -1,6 +1,8 @@
 // The matcher, on the stored bytes of a pattern. It remembers its latest star alone: where a test fails, or the pattern ends before the name, that star
 // takes one character more. So it makes at most as many tests as the pattern has elements, times one more than the name has characters, and it needs no
 // stack for its stars. A test of a bracket reads the bracket's bytes. Definitions: specs/Tests.antt, from document 02 (request 07).
+#![tactic(auto)]
+
 ghost use Rattle.std.specs.Prelude.{◌≡◌, [], ◌+◌, ◌<◌, ◌≤◌, length, drop};
 ghost use Rattle.numbers.specs.Limits.{token_limit, name_limit};
 ghost use Rattle.pattern.specs.Patterns.{elements, matches};

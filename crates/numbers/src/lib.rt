@@ -1,5 +1,7 @@
 // The numbers of document 01, each under one name: limits, refusals, classes, sections and languages. The same names stand in specs/, and each promise that
 // uses one of these constants cites its name there, so the two are shown equal wherever they are used.
+#![tactic(auto)]
+
 ghost use Rattle.std.specs.Prelude.{◌≡◌};
 ghost use Rattle.numbers.specs.Editions.{edition_by};
 

@@ -1,5 +1,7 @@
 // Lent buffers: clearing them, asking whether their rest is zero, and whether bytes are the same. What a buffer holds, and how rows and bytes are packed,
 // is defined once for every buffer: specs/Padding.antt and specs/Tables.antt.
+#![tactic(auto)]
+
 ghost use Rattle.std.specs.Prelude.{◌≡◌, drop};
 ghost use Rattle.lists.specs.Same.{same};
 ghost use Rattle.packing.specs.Padding.{all_zero, zeroed};

@@ -1,5 +1,7 @@
 // What is refused of a pattern: bytes that are not UTF-8, or a bracket that is not closed. It is asked of the bytes that are, or will be, stored. Of a token
 // these are not written yet, so the walk reads a `^` behind `[` as the `!` that it becomes; runs of stars close no bracket and open none.
+#![tactic(auto)]
+
 ghost use Rattle.std.specs.Prelude.{◌≡◌, false, ◌≤◌, length};
 ghost use Rattle.utf8.specs.Utf8.{chars};
 ghost use Rattle.pattern.specs.Patterns.{refusal, shape_refusal};

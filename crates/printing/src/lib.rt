@@ -1,4 +1,6 @@
 // Numbers and bytes put into a lent buffer, for what the programs print. Definitions: specs/Printing.antt.
+#![tactic(auto)]
+
 ghost use Rattle.std.specs.Prelude.{◌≡◌, ◌+◌, ◌≤◌, length};
 ghost use Rattle.printing.specs.Printing.{Begins, Puts, decimal, numbered, refused_answer, refused_fields, refused_line, spaced};
 

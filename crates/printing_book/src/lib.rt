@@ -1,5 +1,7 @@
 // What the release desk shows of a book, put into a lent buffer: how much room it takes, and the counts. Definitions: specs/Shown.antt, which has the lines and
 // the dump too. These functions are `desk`'s own leaves: they ask for room.
+#![tactic(auto)]
+
 ghost use Rattle.std.specs.Prelude.{◌≡◌, ◌≤◌, length};
 ghost use Rattle.printing.specs.Printing.{Begins};
 ghost use Rattle.printing_book.specs.Shown.{counts_shown, shown_room};

@@ -1,12 +1,10 @@
 -- The answers to the symbols' lines, one at a turn of `render_symbols`: what a line answers, how long it is, and how it is put behind those before it.
 -- Assumes nothing.
-use Prim.Native.Nat.{ℕ, suc, ◌+◌, ◌*◌, ◌-◌, ◌<◌, ◌≤◌}
+use Prim.Native.Nat.{ℕ, ◌+◌, ◌*◌, ◌-◌, ◌<◌, ◌≤◌}
 use mathlib.Core.Path.{◌≡◌, refl, sym, ap, ◌∙◌}
-use mathlib.Core.List.{List, [], ◌∷◌, ◌++◌, append_assoc, append-nil}
-use mathlib.Core.Bool.{Bool, true, false, cond}
+use mathlib.Core.List.{List, [], ◌++◌, append_assoc, append-nil}
 use mathlib.Core.Option.{Option}
 use native.Mathlib.Omega.{arith}
-use lib.Dec.{eqb}
 use lib.ListN.{length, take, drop, length-append, length-drop, length-take, drop_of_length-le}
 use lib.Seq.{take_all}
 use Rattle.numbers.specs.Signs.{line_feed}
@@ -14,7 +12,7 @@ use Rattle.lists.specs.Front.{front}
 use Rattle.linker_script.specs.declared.Found.{Found}
 use Rattle.linker_script.specs.declared.Found.TheVariants.{Here, Nowhere}
 use Rattle.linker_script.specs.Finding.{first_from, is}
-use Rattle.linker_script.proofs.Searches.{First, drop_next, first_within}
+use Rattle.linker_script.proofs.Searches.{First, first_within}
 use Rattle.book.specs.Books.{Book}
 use Rattle.ranking.specs.Matching.{name_of}
 use Rattle.lookups.specs.Lookups.{locality_asked, version_asked}

@@ -1,4 +1,6 @@
 // The whole of what verlist prints, into a lent buffer.
+#![tactic(auto)]
+
 ghost use Rattle.std.specs.Prelude.{◌≡◌, cond, ◌+◌, ◌≤◌, leb, length};
 ghost use Rattle.book.specs.Layout.{five};
 ghost use Rattle.input.specs.Splitting.{mark, part_before};

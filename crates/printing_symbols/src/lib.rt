@@ -1,5 +1,7 @@
 // A line that verlist prints, at the start of a lent buffer: the counts'. Definitions: specs/Lines.antt, from document 01, 'Known points' (the program
 // `verlist`), which has the symbols' lines too. A line asks for room: whoever prints for a user sees first that there is, and answers 8 where there is not.
+#![tactic(auto)]
+
 ghost use Rattle.std.specs.Prelude.{◌≤◌, length};
 ghost use Rattle.book.specs.Layout.{five};
 ghost use Rattle.book.specs.View.{view};

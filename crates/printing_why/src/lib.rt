@@ -1,5 +1,7 @@
 // What is printed of why a name has its version, into a lent buffer: the answer to a symbol's line. Definitions: specs/Splits.antt, specs/WhyLine.antt and
 // specs/Whys.antt, from document 02, request 03. The pieces of a line stand in `fields`. These functions ask for room.
+#![tactic(auto)]
+
 ghost use Rattle.std.specs.Prelude.{◌≡◌, true, false, cond, ◌+◌, ◌≤◌, eqb, ltb, length, drop};
 ghost use Rattle.book.specs.Books.{export};
 ghost use Rattle.book.specs.Layout.{five};

@@ -1,6 +1,8 @@
 // A line's place in 01's ranking, as one number, and what is asked of a name before it is looked up. The search for the line that decides stands in
 // `finding`. Definitions: specs/Matching.antt, specs/Walk.antt, specs/Ranks.antt and specs/Names.antt, from document 01, 'Ranking'; that no offset is
 // seen: specs/Offsets.antt, from document 02, request 02.
+#![tactic(auto)]
+
 ghost use Rattle.std.specs.Prelude.{◌≡◌, [], ◌≤◌, ◌<◌};
 ghost use Rattle.numbers.specs.Limits.{node_limit};
 ghost use Rattle.book.specs.Layout.{line_of};

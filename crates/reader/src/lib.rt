@@ -1,5 +1,7 @@
 // The reader that holds the script and its place: thin functions over `next_event`, and one with plain parameters that goes through them, `step`, for
-// who reads a text by it. The borrow checker covers no function over a struct that holds a reference, so each is proved by a walk of its code by hand.
+// who reads a text by it.
+#![tactic(auto)]
+
 ghost use Rattle.std.specs.Prelude.{◌≡◌};
 ghost use Rattle.linker_script.specs.Finding.{last_close};
 ghost use Rattle.reading.specs.Scripts.{next};

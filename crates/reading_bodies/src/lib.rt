@@ -1,5 +1,7 @@
 // Bodies, and what a script or a list has beside them, as steps of a reading that stands behind a skip: it knows the byte there. The leaves are
 // `reading_matchers`. Definitions: specs/, from document 01, 'Reading'.
+#![tactic(auto)]
+
 ghost use Rattle.std.specs.Prelude.{◌≡◌};
 ghost use Rattle.reading_bodies.specs.Bodies.{end_behind, name_to, node_at, script_at, parent_at};
 ghost use Rattle.reading_bodies.specs.Bodies.{node_end, sole_end, inside_body, body_at, sole_at, list_at};

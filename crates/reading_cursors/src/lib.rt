@@ -1,5 +1,7 @@
 // Where a reading stands, what a step of it answers, a cursor's moves, and the places of the grammar (`places`). Definitions: specs/Moves.antt and
 // specs/Places.antt. `move_to`, `with_section` and `with_language` are leaves of the reader. Fields are copied, so that each function is covered.
+#![tactic(auto)]
+
 ghost use Rattle.std.specs.Prelude.{◌≡◌};
 ghost use Rattle.reading_cursors.specs.Moves.{in_language, in_section, moved, skip_at, start};
 

@@ -1,4 +1,6 @@
 // Matchers: tokens and extern blocks, the leaves of the reader's steps. Definitions: specs/Matchers.antt, from document 01, 'Reading'.
+#![tactic(auto)]
+
 ghost use Rattle.std.specs.Prelude.{◌≡◌, ◌<◌, ◌≤◌, length};
 ghost use Rattle.linker_script.specs.Finding.{last_close};
 ghost use Rattle.linker_script.specs.Parts.{behind};

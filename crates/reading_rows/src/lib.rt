@@ -1,4 +1,6 @@
 // The events of a text as rows of numbers, for a host in another language, read by a `Reader`. Definitions: specs/Rows.antt.
+#![tactic(auto)]
+
 ghost use Rattle.std.specs.Prelude.{◌≡◌, [], ◌∷◌, ◌+◌, ◌/◌, ◌≤◌, length};
 ghost use Rattle.std.proofs.lemmas.List.Edits.{sets};
 ghost use Rattle.numbers.specs.Editions.{reld};

@@ -1,5 +1,7 @@
 // Words, names and the ends of tokens, which are a matter of the edition: the leaves of the reader. Definitions: specs/Tokens.antt, from document 01,
 // 'Reading'.
+#![tactic(auto)]
+
 ghost use Rattle.std.specs.Prelude.{◌≡◌, ◌+◌, ◌<◌};
 ghost use Rattle.linker_script.specs.Finding.{last_close};
 ghost use Rattle.reading_tokens.specs.Tokens.{stands_at, name_end, to_semicolon, to_brace, to_either, bare_extern_end, bare_end, bare_skip};

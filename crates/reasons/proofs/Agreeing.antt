@@ -6,7 +6,7 @@ use mathlib.Core.Bool.{Bool, true, false, cond, ◌&&◌, true≢false}
 use mathlib.Core.Logic.{◌⊎◌, inl, inr}
 use mathlib.Core.Option.{Option, some, none}
 use native.Mathlib.Omega.{arith}
-use borrow.Author.Tests.{eq-eqb, ne_eqb, eqb-true, eqb-false}
+use borrow.Author.Tests.{eq-eqb, ne_eqb, eqb-true}
 use lib.Dec.{eqb}
 use lib.ListN.{length}
 use Rattle.numbers.specs.Marks.{global, local}
@@ -34,7 +34,7 @@ use Rattle.export_list.specs.Membership.{contains_asked, member_of}
 use Rattle.export_list.proofs.Members.{match_at, match_none}
 use Rattle.reasons.specs.declared.Why.TheVariants as why
 use Rattle.reasons.specs.Named.{FirstListed, FirstStar, LookupsAgree, locality_off, membership_off, version_off}
-use Rattle.reasons.specs.Why.{barred, by_wanted_told, is_wanted, line_told, rust_deciding, wanted_told, why_asked, why_of, why_refusal}
+use Rattle.reasons.specs.Why.{line_told, rust_deciding, wanted_told, why_asked, why_of, why_refusal}
 use Rattle.reasons.proofs.FirstLines.{first_exactly, first_nothing, rust_exactly}
 
 -- a node's version is no refusal

@@ -2,12 +2,10 @@
 use Prim.Native.Nat.{ℕ}
 use mathlib.Core.Path.{◌≡◌, refl, sym, ap, ◌∙◌}
 use mathlib.Core.List.{List}
-use mathlib.Core.Bool.{Bool, true, false, and-false}
-use mathlib.Core.Logic.{◌↔◌}
+use mathlib.Core.Bool.{true, false, and-false}
 use mathlib.Core.Option.{Option, some, none}
 use native.Mathlib.Omega.{arith}
 use borrow.Author.Tests.{eq-eqb, ne_eqb}
-use lib.Dec.{eqb}
 use Rattle.lists.proofs.Tests.{both}
 use Rattle.book.specs.Books.{Line, Book, regular, rust}
 use Rattle.book.specs.Edits.{line_at}
@@ -21,7 +19,7 @@ use Rattle.ranking.proofs.Deciders.{deciding_exactly, deciding-nothing}
 use Rattle.lookups.specs.Lookups.{listed_as, long_wanted, wanted_version}
 use Rattle.reasons.specs.declared.Reason.{Reason}
 use Rattle.reasons.specs.declared.Why.TheVariants as why
-use Rattle.reasons.specs.Named.{Explained, Explains, Told}
+use Rattle.reasons.specs.Named.{Explains}
 use Rattle.reasons.specs.Why.{line_told, reason, rust_deciding, wanted_told, why_asked, why_of}
 use Rattle.reasons.proofs.Agreeing.{some_first}
 use Rattle.reasons.proofs.FirstLines.{rust_exactly}

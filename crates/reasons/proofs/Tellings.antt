@@ -1,9 +1,9 @@
 -- A line that was found is told from its row (specs/Why.antt). Assumes nothing.
 use Prim.Native.Nat.{ℕ, ◌+◌, ◌*◌, ◌≤◌, ◌<◌}
-use mathlib.Core.Path.{◌≡◌, refl, sym, ap, ◌∙◌}
+use mathlib.Core.Path.{◌≡◌, ap, ◌∙◌}
 use mathlib.Core.List.{List, []}
 use mathlib.Core.Bool.{Bool, true}
-use mathlib.Core.Option.{Option, some, none}
+use mathlib.Core.Option.{Option, some}
 use native.Mathlib.Omega.{arith}
 use lib.ListN.{length, get_or}
 use Rattle.numbers.specs.Limits.{line_limit}
@@ -16,7 +16,7 @@ use Rattle.book.proofs.LineRows.{Row, line_row, lines-count, row_line}
 use Rattle.ranking.specs.declared.Deciding.{Deciding}
 use Rattle.ranking.specs.declared.Deciding.TheVariants as answer
 use Rattle.ranking.specs.Matching.{name_of}
-use Rattle.ranking.specs.Walk.{decided, deciding_among, first_line, or_else}
+use Rattle.ranking.specs.Walk.{decided, deciding_among, first_line}
 use Rattle.ranking.proofs.Answers.{decided_line, decided_none}
 use Rattle.ranking.proofs.Deciders.{Looked, found, missing, looked}
 use Rattle.lookups.proofs.Decided.{decider_below, decider_row, one_found}

@@ -1,5 +1,5 @@
 -- What request 03 says of the line that is named, and that version, locality and membership are read off it. Assumes nothing.
-use Rattle.std.specs.Prelude.{ℕ, ◌<◌, ◌≡◌, List, [], ◌∷◌, true, false, cond, ◌↔◌, ◌⊎◌, eqb, length}
+use Rattle.std.specs.Prelude.{ℕ, ◌<◌, ◌≡◌, List, [], true, false, cond, ◌↔◌, ◌⊎◌, eqb, length}
 use Rattle.std.proofs.Math.Option.{Option, some, none}
 use Rattle.numbers.specs.Marks.{global}
 use Rattle.numbers.specs.Refusals.{unknown_version, wrong_kind}

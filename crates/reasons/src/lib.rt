@@ -1,6 +1,8 @@
 // Why a name has its version: the line that decides, and what is told of it. Definitions: specs/Why.antt, from document 02, request 03; that the line is the
 // one that the request names, and that version, locality and membership are read off it: specs/Named.antt. The question is asked in `asking`, over the lines
 // that `telling` finds and tells of.
+#![tactic(auto)]
+
 pub mod asking;
 pub mod telling;
 

@@ -2,12 +2,12 @@
 -- Assumes nothing.
 use Prim.Native.Nat.{ℕ, zero, suc, ◌+◌, ◌<◌, ◌≤◌}
 use mathlib.Core.Path.{◌≡◌, refl, sym, ap, ap₂, ◌∙◌}
-use mathlib.Core.List.{List, [], ◌∷◌, ◌++◌}
+use mathlib.Core.List.{List, [], ◌∷◌}
 use mathlib.Core.Bool.{Bool, true, false, not, cond, ◌&&◌, and-false, false≢true}
 use native.Mathlib.Decide.{ℕ_discrete}
 use borrow.Author.Tests.{eq-eqb, eqb-true, ne_eqb, not-true}
 use lib.Dec.{eqb}
-use lib.ListN.{length, get_or, take, drop, drop_of_length-le}
+use lib.ListN.{length, get_or, drop, drop_of_length-le}
 use Rattle.lists.specs.Front.{front}
 use Rattle.lists.specs.Same.{same}
 use Rattle.lists.proofs.SameLaws.{same_refl}
@@ -17,7 +17,6 @@ use Rattle.pattern.specs.Patterns.{element}
 use Rattle.pattern.specs.Storing.{stored_byte, negated_from, negated, stored}
 use Rattle.pattern.specs.Runs.{squeezed, squeezed_past}
 use Rattle.storing.specs.Post.{pair, plain, plain_from}
-use Rattle.storing.proofs.Answers.{copied}
 use Rattle.storing.proofs.Keeping.{byte_here}
 
 -- ---- `is_plain`: what is left from i on decides, behind the byte p

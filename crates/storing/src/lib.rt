@@ -1,6 +1,8 @@
 // glob_match.rs: the bytes that are stored of a token, at the front of a lent buffer. What is refused writes nothing. `store_token` has the whole way from
 // a token to its stored bytes. It asks the token's limit; what it calls does not ask it again. Definitions: specs/Keeping.antt and specs/Answers.antt, from
 // document 01 and request 01 of document 02.
+#![tactic(auto)]
+
 ghost use Rattle.std.specs.Prelude.{◌≡◌, ◌≤◌, length};
 ghost use Rattle.lists.specs.Front.{front};
 ghost use Rattle.pattern.specs.Storing.{stored_byte};

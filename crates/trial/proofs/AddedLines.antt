@@ -6,9 +6,9 @@ use mathlib.Core.List.{List, [], ◌∷◌, ◌++◌}
 use mathlib.Core.Bool.{Bool, true, false, cond, true≢false}
 use native.Mathlib.Omega.{arith}
 use borrow.Author.Tests.{eq-eqb, leb-true, ltb-true}
-use lib.Dec.{eqb, leb, ltb}
+use lib.Dec.{eqb, ltb}
 use lib.ListN.{length, length-append}
-use Rattle.numbers.specs.Limits.{edit_limit, line_limit, pool_limit}
+use Rattle.numbers.specs.Limits.{edit_limit}
 use Rattle.numbers.specs.Marks.{global}
 use Rattle.lists.proofs.Tests.{both}
 use Rattle.lists.specs.Each.{every}
@@ -19,7 +19,7 @@ use Rattle.classes.specs.Classes.{class_number}
 use Rattle.storing.specs.Keeping.{kept, keep}
 use Rattle.book.specs.declared.Frame.{Frame}
 use Rattle.book.specs.Books.{Book, Edit, Line, Node, add, book_frame, edition_of, export, new_line, regular, rust}
-use Rattle.book.specs.Layout.{Buffers, edit_width, line_form, line_width}
+use Rattle.book.specs.Layout.{Buffers, edit_width, line_form}
 use Rattle.book.specs.Sanity.{edit_ok, in_range, kind_allows, line_ok, nodes_good, offset_good}
 use Rattle.book.specs.View.{Fits}
 use Rattle.book_rooms.specs.Rooms.{edit_room, fits_row, line_room, pool_room}

@@ -1,5 +1,7 @@
 // What an edit of a trial book answers. Definitions of every edit: specs/Trial.antt, from document 01, 'The book'; of what it answers and leaves in lent
 // buffers: specs/Changes.antt; of what it makes of the lines' offsets: specs/Offsets.antt, from document 02, request 02.
+#![tactic(auto)]
+
 use book::Counts;
 
 // The counts of the book behind the edit, or the number that says no.

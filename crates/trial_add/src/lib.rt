@@ -1,6 +1,8 @@
 // "Add (node, section, language, token)" of the trial book. A refusal changes nothing. Definitions: trial/specs/Trial.antt (`add_asked`), from document 01,
 // 'The book'. It asks first whether the buffers hold a book (14); what it does then stands in `adding`. What it makes of the lines' offsets (02,
 // request 02): trial/specs/Offsets.antt.
+#![tactic(auto)]
+
 ghost use Rattle.std.specs.Prelude.{◌≡◌};
 ghost use Rattle.book.specs.Layout.{five};
 ghost use Rattle.trial.specs.Changes.{Answers};

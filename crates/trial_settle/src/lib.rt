@@ -1,5 +1,7 @@
 // Settle, of the trial book. A refusal changes nothing. Definitions: trial/specs/Trial.antt (`settle_asked`), from document 01, 'The book'. It asks first
 // whether the buffers hold a book (14); what it does then stands in `settling`. What it makes of the lines' offsets (02, request 02): trial/specs/Offsets.antt.
+#![tactic(auto)]
+
 ghost use Rattle.book.specs.Layout.{five};
 ghost use Rattle.trial.specs.Changes.{Answers};
 ghost use Rattle.trial.specs.Trial.{settle_asked};

@@ -1,5 +1,7 @@
 // Strike, of the trial book. A refusal changes nothing. Definitions: trial/specs/Trial.antt (`strike_asked`), from document 01, 'The book'. It asks first
 // whether the buffers hold a book (14). What it makes of the lines' offsets (02, request 02): trial/specs/Offsets.antt.
+#![tactic(auto)]
+
 ghost use Rattle.book.specs.Layout.{five};
 ghost use Rattle.trial.specs.Changes.{Answers};
 ghost use Rattle.trial.specs.Trial.{strike_asked};

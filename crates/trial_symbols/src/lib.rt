@@ -1,6 +1,8 @@
 // export_list.rs, the book's side: "`add_symbol` on an export list is one add per line, all or none." Definitions: trial/specs/Symbols.antt, from document 01,
 // 'The book'. It asks first whether the buffers hold a book (14); what it does then stands in `lines`. What it makes of the lines' offsets (02,
 // request 02): trial/specs/Offsets.antt.
+#![tactic(auto)]
+
 ghost use Rattle.std.specs.Prelude.{◌≡◌};
 ghost use Rattle.book.specs.Layout.{five};
 ghost use Rattle.trial.specs.Changes.{Answers};

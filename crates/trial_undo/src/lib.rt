@@ -2,6 +2,8 @@
 // value goes through it by `undo_latest`. A refusal changes nothing. Definitions: trial/specs/Trial.antt, from document 01, 'The book'. It is asked first
 // whether the buffers hold a book (14); what is done then stands in `taking_back`. What it makes of the lines' offsets (02, request 02):
 // trial/specs/Offsets.antt.
+#![tactic(auto)]
+
 ghost use Rattle.book.specs.Layout.{five};
 ghost use Rattle.trial.specs.Changes.{Answers, Updates};
 ghost use Rattle.trial.specs.Trial.{undo_asked};

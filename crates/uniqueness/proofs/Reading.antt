@@ -9,195 +9,238 @@ use Rattle.linker_script.specs.Trim.{trim_end}
 use Rattle.uniqueness.specs.Unique.{Unique, UniqueAs}
 use Rattle.uniqueness.specs.Promises.{Trimmed}
 use Rattle.uniqueness.proofs.Same.{◌▹◌, same}
-use Rattle.numbers.proofs.edition_by
-use Rattle.linker_script.proofs.byte_at
-use Rattle.linker_script.proofs.last_close
-use Rattle.linker_script.proofs.trimmed_length
-use Rattle.linker_script.proofs.trim_ascii_end
-use Rattle.linker_script.proofs.searching.find
-use Rattle.linker_script.proofs.comments.find_pair
-use Rattle.linker_script.proofs.comments.skip_comments_and_whitespace
-use Rattle.utf8.proofs.character_at
-use Rattle.utf8.proofs.is_utf8
-use Rattle.reading_tokens.proofs.try_take
-use Rattle.reading_tokens.proofs.parse_token
-use Rattle.reading_tokens.proofs.to_semicolon
-use Rattle.reading_tokens.proofs.extern_end
-use Rattle.reading_tokens.proofs.bare_extern_end
-use Rattle.reading_tokens.proofs.bare_end
-use Rattle.reading_tokens.proofs.bare_skip
-use Rattle.reading_tokens.proofs.names.is_named
-use Rattle.reading_cursors.proofs.start_at
-use Rattle.reading_cursors.proofs.move_to
-use Rattle.reading_cursors.proofs.with_section
-use Rattle.reading_cursors.proofs.with_language
-use Rattle.reading_cursors.proofs.skip_at
-use Rattle.reading_matchers.proofs.in_extern
-use Rattle.reading_matchers.proofs.in_bare
-use Rattle.reading_matchers.proofs.parse_matcher
-use Rattle.reading_matchers.proofs.parse_bare_matcher
-use Rattle.reading_bodies.proofs.node_at
-use Rattle.reading_bodies.proofs.script_at
-use Rattle.reading_bodies.proofs.body_at
-use Rattle.reading_bodies.proofs.sole_at
-use Rattle.reading_bodies.proofs.list_at
-use Rattle.reading.proofs.scripts.next_event
-use Rattle.reading_rows.proofs.reading_events
-use Rattle.input.proofs.positions.position_of
-use Rattle.input.proofs.splitting.find_mark
-use Rattle.input.proofs.splitting.find_at
-use Rattle.input.proofs.splitting.part_before
-use Rattle.input.proofs.splitting.part_behind
-use Rattle.desk_commands.proofs.parts.number_at
-use Rattle.desk_commands.proofs.parts.tail
-use Rattle.desk_commands.proofs.parts.line_end
-use Rattle.desk_commands.proofs.command_of
+use Rattle.numbers.specs.contracts.edition_by
+use Rattle.numbers.proofs.edition_by.Reads as edition_by_reads
+use Rattle.linker_script.specs.contracts.byte_at
+use Rattle.linker_script.proofs.byte_at.Reads as byte_at_reads
+use Rattle.linker_script.specs.contracts.last_close
+use Rattle.linker_script.proofs.last_close.Reads as last_close_reads
+use Rattle.linker_script.specs.contracts.trimmed_length
+use Rattle.linker_script.proofs.trimmed_length.Reads as trimmed_length_reads
+use Rattle.linker_script.specs.contracts.trim_ascii_end
+use Rattle.linker_script.proofs.trim_ascii_end.Reads as trim_ascii_end_reads
+use Rattle.linker_script.specs.contracts.searching.find
+use Rattle.linker_script.proofs.searching.find.Reads as find_reads
+use Rattle.linker_script.specs.contracts.comments.find_pair
+use Rattle.linker_script.proofs.comments.find_pair.Reads as find_pair_reads
+use Rattle.linker_script.specs.contracts.comments.skip_comments_and_whitespace
+use Rattle.linker_script.proofs.comments.skip_comments_and_whitespace.Reads as skip_comments_and_whitespace_reads
+use Rattle.utf8.specs.contracts.character_at
+use Rattle.utf8.proofs.character_at.Reads as character_at_reads
+use Rattle.utf8.specs.contracts.is_utf8
+use Rattle.utf8.proofs.is_utf8.Reads as is_utf8_reads
+use Rattle.reading_tokens.specs.contracts.try_take
+use Rattle.reading_tokens.proofs.try_take.Reads as try_take_reads
+use Rattle.reading_tokens.specs.contracts.parse_token
+use Rattle.reading_tokens.proofs.parse_token.Reads as parse_token_reads
+use Rattle.reading_tokens.specs.contracts.to_semicolon
+use Rattle.reading_tokens.proofs.to_semicolon.Reads as to_semicolon_reads
+use Rattle.reading_tokens.specs.contracts.extern_end
+use Rattle.reading_tokens.proofs.extern_end.Reads as extern_end_reads
+use Rattle.reading_tokens.specs.contracts.bare_extern_end
+use Rattle.reading_tokens.proofs.bare_extern_end.Reads as bare_extern_end_reads
+use Rattle.reading_tokens.specs.contracts.bare_end
+use Rattle.reading_tokens.proofs.bare_end.Reads as bare_end_reads
+use Rattle.reading_tokens.specs.contracts.bare_skip
+use Rattle.reading_tokens.proofs.bare_skip.Reads as bare_skip_reads
+use Rattle.reading_tokens.specs.contracts.names.is_named
+use Rattle.reading_tokens.proofs.names.is_named.Reads as is_named_reads
+use Rattle.reading_cursors.specs.contracts.start_at
+use Rattle.reading_cursors.proofs.start_at.Reads as start_at_reads
+use Rattle.reading_cursors.specs.contracts.move_to
+use Rattle.reading_cursors.proofs.move_to.Reads as move_to_reads
+use Rattle.reading_cursors.specs.contracts.with_section
+use Rattle.reading_cursors.proofs.with_section.Reads as with_section_reads
+use Rattle.reading_cursors.specs.contracts.with_language
+use Rattle.reading_cursors.proofs.with_language.Reads as with_language_reads
+use Rattle.reading_cursors.specs.contracts.skip_at
+use Rattle.reading_cursors.proofs.skip_at.Reads as skip_at_reads
+use Rattle.reading_matchers.specs.contracts.in_extern
+use Rattle.reading_matchers.proofs.in_extern.Reads as in_extern_reads
+use Rattle.reading_matchers.specs.contracts.in_bare
+use Rattle.reading_matchers.proofs.in_bare.Reads as in_bare_reads
+use Rattle.reading_matchers.specs.contracts.parse_matcher
+use Rattle.reading_matchers.proofs.parse_matcher.Reads as parse_matcher_reads
+use Rattle.reading_matchers.specs.contracts.parse_bare_matcher
+use Rattle.reading_matchers.proofs.parse_bare_matcher.Reads as parse_bare_matcher_reads
+use Rattle.reading_bodies.specs.contracts.node_at
+use Rattle.reading_bodies.proofs.node_at.Reads as node_at_reads
+use Rattle.reading_bodies.specs.contracts.script_at
+use Rattle.reading_bodies.proofs.script_at.Reads as script_at_reads
+use Rattle.reading_bodies.specs.contracts.body_at
+use Rattle.reading_bodies.proofs.body_at.Reads as body_at_reads
+use Rattle.reading_bodies.specs.contracts.sole_at
+use Rattle.reading_bodies.proofs.sole_at.Reads as sole_at_reads
+use Rattle.reading_bodies.specs.contracts.list_at
+use Rattle.reading_bodies.proofs.list_at.Reads as list_at_reads
+use Rattle.reading.specs.contracts.scripts.next_event
+use Rattle.reading.proofs.scripts.next_event.Reads as next_event_reads
+use Rattle.reading_rows.specs.contracts.reading_events
+use Rattle.reading_rows.proofs.reading_events.Reads as reading_events_reads
+use Rattle.input.specs.contracts.positions.position_of
+use Rattle.input.proofs.positions.position_of.Reads as position_of_reads
+use Rattle.input.specs.contracts.splitting.find_mark
+use Rattle.input.proofs.splitting.find_mark.Reads as find_mark_reads
+use Rattle.input.specs.contracts.splitting.find_at
+use Rattle.input.proofs.splitting.find_at.Reads as find_at_reads
+use Rattle.input.specs.contracts.splitting.part_before
+use Rattle.input.proofs.splitting.part_before.Reads as part_before_reads
+use Rattle.input.specs.contracts.splitting.part_behind
+use Rattle.input.proofs.splitting.part_behind.Reads as part_behind_reads
+use Rattle.desk_commands.specs.contracts.parts.number_at
+use Rattle.desk_commands.proofs.parts.number_at.Reads as number_at_reads
+use Rattle.desk_commands.specs.contracts.parts.tail
+use Rattle.desk_commands.proofs.parts.tail.Reads as tail_reads
+use Rattle.desk_commands.specs.contracts.parts.line_end
+use Rattle.desk_commands.proofs.parts.line_end.Reads as line_end_reads
+use Rattle.desk_commands.specs.contracts.command_of
+use Rattle.desk_commands.proofs.command_of.Reads as command_of_reads
 
 -- ---- numbers
-pub edition_by_unique : Unique edition_by.ended edition_by.Reads.Post
+pub edition_by_unique : Unique edition_by.ended edition_by_reads.Post
 edition_by_unique κs a x y v w p q = (same p q, refl)
 
 -- ---- linker_script
-pub byte_at_unique : Unique byte_at.ended byte_at.Reads.Post
+pub byte_at_unique : Unique byte_at.ended byte_at_reads.Post
 byte_at_unique κs a x y v w p q = (same p q, refl)
 
-pub last_close_unique : Unique last_close.ended last_close.Reads.Post
+pub last_close_unique : Unique last_close.ended last_close_reads.Post
 last_close_unique κs a x y v w p q = (same p q, refl)
 
 -- its promise is of the part of the text that it leaves, which is as long as it says
 trimmed-long : (s : List ℕ) (r : ℕ) → Trimmed s r → r ≡ length (trim_end s)
 trimmed-long s r e = sym (length-take-le r s e.0) ∙ ap length e.1
 
-pub trimmed_length_unique : Unique trimmed_length.ended trimmed_length.Reads.Post
+pub trimmed_length_unique : Unique trimmed_length.ended trimmed_length_reads.Post
 trimmed_length_unique κs a x y v w p q = (same (trimmed-long a.0.now x p) (trimmed-long a.0.now y q), refl)
 
 -- where the slice lies, and what it holds
-pub trim_ascii_end_unique : UniqueAs trim_ascii_end.ended (λ κs. (ℕ × ℕ) × List ℕ) (λ κs r. (r.ref_ptr, r.now)) trim_ascii_end.Reads.Post
+pub trim_ascii_end_unique : UniqueAs trim_ascii_end.ended (λ κs. (ℕ × ℕ) × List ℕ) (λ κs r. (r.ref_ptr, r.now)) trim_ascii_end_reads.Post
 trim_ascii_end_unique κs a x y v w p q = (λ i. (same p.1 q.1 i, same p.0 q.0 i), refl)
 
 -- ---- linker_script: searching
-pub find_unique : Unique find.ended find.Reads.Post
+pub find_unique : Unique find.ended find_reads.Post
 find_unique κs a x y v w p q = (same p q, refl)
 
 -- ---- linker_script: comments
-pub find_pair_unique : Unique find_pair.ended find_pair.Reads.Post
+pub find_pair_unique : Unique find_pair.ended find_pair_reads.Post
 find_pair_unique κs a x y v w p q = (same p q, refl)
 
-pub skip_comments_and_whitespace_unique : Unique skip_comments_and_whitespace.ended skip_comments_and_whitespace.Reads.Post
+pub skip_comments_and_whitespace_unique : Unique skip_comments_and_whitespace.ended skip_comments_and_whitespace_reads.Post
 skip_comments_and_whitespace_unique κs a x y v w p q = (same p q, refl)
 
 -- ---- utf8
-pub character_at_unique : Unique character_at.ended character_at.Reads.Post
+pub character_at_unique : Unique character_at.ended character_at_reads.Post
 character_at_unique κs a x y v w p q = (same p q, refl)
 
-pub is_utf8_unique : Unique is_utf8.ended is_utf8.Reads.Post
+pub is_utf8_unique : Unique is_utf8.ended is_utf8_reads.Post
 is_utf8_unique κs a x y v w p q = (same p q, refl)
 
 -- ---- reading_tokens
-pub try_take_unique : Unique try_take.ended try_take.Reads.Post
+pub try_take_unique : Unique try_take.ended try_take_reads.Post
 try_take_unique κs a x y v w p q = (same p q, refl)
 
-pub parse_token_unique : Unique parse_token.ended parse_token.Reads.Post
+pub parse_token_unique : Unique parse_token.ended parse_token_reads.Post
 parse_token_unique κs a x y v w p q = (same p q, refl)
 
-pub to_semicolon_unique : Unique to_semicolon.ended to_semicolon.Reads.Post
+pub to_semicolon_unique : Unique to_semicolon.ended to_semicolon_reads.Post
 to_semicolon_unique κs a x y v w p q = (same p q, refl)
 
-pub extern_end_unique : Unique extern_end.ended extern_end.Reads.Post
+pub extern_end_unique : Unique extern_end.ended extern_end_reads.Post
 extern_end_unique κs a x y v w p q = (same p q, refl)
 
-pub bare_extern_end_unique : Unique bare_extern_end.ended bare_extern_end.Reads.Post
+pub bare_extern_end_unique : Unique bare_extern_end.ended bare_extern_end_reads.Post
 bare_extern_end_unique κs a x y v w p q = (same p q, refl)
 
-pub bare_end_unique : Unique bare_end.ended bare_end.Reads.Post
+pub bare_end_unique : Unique bare_end.ended bare_end_reads.Post
 bare_end_unique κs a x y v w p q = (same p q, refl)
 
-pub bare_skip_unique : Unique bare_skip.ended bare_skip.Reads.Post
+pub bare_skip_unique : Unique bare_skip.ended bare_skip_reads.Post
 bare_skip_unique κs a x y v w p q = (same p q, refl)
 
-pub is_named_unique : Unique is_named.ended is_named.Reads.Post
+pub is_named_unique : Unique is_named.ended is_named_reads.Post
 is_named_unique κs a x y v w p q = (same p q, refl)
 
 -- ---- reading_cursors
-pub start_at_unique : Unique start_at.ended start_at.Reads.Post
+pub start_at_unique : Unique start_at.ended start_at_reads.Post
 start_at_unique κs a x y v w p q = (same p q, refl)
 
-pub move_to_unique : Unique move_to.ended move_to.Reads.Post
+pub move_to_unique : Unique move_to.ended move_to_reads.Post
 move_to_unique κs a x y v w p q = (same p q, refl)
 
-pub with_section_unique : Unique with_section.ended with_section.Reads.Post
+pub with_section_unique : Unique with_section.ended with_section_reads.Post
 with_section_unique κs a x y v w p q = (same p q, refl)
 
-pub with_language_unique : Unique with_language.ended with_language.Reads.Post
+pub with_language_unique : Unique with_language.ended with_language_reads.Post
 with_language_unique κs a x y v w p q = (same p q, refl)
 
-pub skip_at_unique : Unique skip_at.ended skip_at.Reads.Post
+pub skip_at_unique : Unique skip_at.ended skip_at_reads.Post
 skip_at_unique κs a x y v w p q = (same p q, refl)
 
 -- ---- reading_matchers
-pub in_extern_unique : Unique in_extern.ended in_extern.Reads.Post
+pub in_extern_unique : Unique in_extern.ended in_extern_reads.Post
 in_extern_unique κs a x y v w p q = (same p q, refl)
 
-pub in_bare_unique : Unique in_bare.ended in_bare.Reads.Post
+pub in_bare_unique : Unique in_bare.ended in_bare_reads.Post
 in_bare_unique κs a x y v w p q = (same p q, refl)
 
-pub parse_matcher_unique : Unique parse_matcher.ended parse_matcher.Reads.Post
+pub parse_matcher_unique : Unique parse_matcher.ended parse_matcher_reads.Post
 parse_matcher_unique κs a x y v w p q = (same p q, refl)
 
-pub parse_bare_matcher_unique : Unique parse_bare_matcher.ended parse_bare_matcher.Reads.Post
+pub parse_bare_matcher_unique : Unique parse_bare_matcher.ended parse_bare_matcher_reads.Post
 parse_bare_matcher_unique κs a x y v w p q = (same p q, refl)
 
 -- ---- reading_bodies
-pub node_at_unique : Unique node_at.ended node_at.Reads.Post
+pub node_at_unique : Unique node_at.ended node_at_reads.Post
 node_at_unique κs a x y v w p q = (same p q, refl)
 
-pub script_at_unique : Unique script_at.ended script_at.Reads.Post
+pub script_at_unique : Unique script_at.ended script_at_reads.Post
 script_at_unique κs a x y v w p q = (same p q, refl)
 
-pub body_at_unique : Unique body_at.ended body_at.Reads.Post
+pub body_at_unique : Unique body_at.ended body_at_reads.Post
 body_at_unique κs a x y v w p q = (same p q, refl)
 
-pub sole_at_unique : Unique sole_at.ended sole_at.Reads.Post
+pub sole_at_unique : Unique sole_at.ended sole_at_reads.Post
 sole_at_unique κs a x y v w p q = (same p q, refl)
 
-pub list_at_unique : Unique list_at.ended list_at.Reads.Post
+pub list_at_unique : Unique list_at.ended list_at_reads.Post
 list_at_unique κs a x y v w p q = (same p q, refl)
 
 -- ---- reading
-pub next_event_unique : Unique next_event.ended next_event.Reads.Post
+pub next_event_unique : Unique next_event.ended next_event_reads.Post
 next_event_unique κs a x y v w p q = (same p q, refl)
 
 -- ---- reading_rows
-pub reading_events_unique : Unique reading_events.ended reading_events.Reads.Post
+pub reading_events_unique : Unique reading_events.ended reading_events_reads.Post
 reading_events_unique κs a x y v w p q = (same p.0 q.0, λ i. tt ▹ tt ▹ same p.1 q.1 i ▹ tt)
 
 -- ---- input
-pub position_of_unique : Unique position_of.ended position_of.Reads.Post
+pub position_of_unique : Unique position_of.ended position_of_reads.Post
 position_of_unique κs a x y v w p q = (same p q, refl)
 
-pub find_mark_unique : Unique find_mark.ended find_mark.Reads.Post
+pub find_mark_unique : Unique find_mark.ended find_mark_reads.Post
 find_mark_unique κs a x y v w p q = (same p q, refl)
 
-pub find_at_unique : Unique find_at.ended find_at.Reads.Post
+pub find_at_unique : Unique find_at.ended find_at_reads.Post
 find_at_unique κs a x y v w p q = (same p q, refl)
 
-pub part_before_unique : UniqueAs part_before.ended (λ κs. List ℕ) (λ κs r. r.now) part_before.Reads.Post
+pub part_before_unique : UniqueAs part_before.ended (λ κs. List ℕ) (λ κs r. r.now) part_before_reads.Post
 part_before_unique κs a x y v w p q = (same p q, refl)
 
-pub part_behind_unique : UniqueAs part_behind.ended (λ κs. List ℕ) (λ κs r. r.now) part_behind.Reads.Post
+pub part_behind_unique : UniqueAs part_behind.ended (λ κs. List ℕ) (λ κs r. r.now) part_behind_reads.Post
 part_behind_unique κs a x y v w p q = (same p q, refl)
 
 -- ---- desk_commands: parts
-pub number_at_unique : Unique number_at.ended number_at.Reads.Post
+pub number_at_unique : Unique number_at.ended number_at_reads.Post
 number_at_unique κs a x y v w p q = (same p q, refl)
 
 -- what the slice holds; where it lies is not promised
-pub tail_unique : UniqueAs tail.ended (λ κs. List ℕ) (λ κs r. r.now) tail.Reads.Post
+pub tail_unique : UniqueAs tail.ended (λ κs. List ℕ) (λ κs r. r.now) tail_reads.Post
 tail_unique κs a x y v w p q = (same p q, refl)
 
-pub line_end_unique : Unique line_end.ended line_end.Reads.Post
+pub line_end_unique : Unique line_end.ended line_end_reads.Post
 line_end_unique κs a x y v w p q = (same p q, refl)
 
 -- ---- desk_commands
-pub command_of_unique : Unique command_of.ended command_of.Reads.Post
+pub command_of_unique : Unique command_of.ended command_of_reads.Post
 command_of_unique κs a x y v w p q = (same p q, refl)

@@ -4,16 +4,15 @@
 use Prim.Native.Nat.{ℕ, zero, suc, ◌+◌, ◌<◌, ◌≤◌}
 use mathlib.Core.Path.{◌≡◌, refl, sym, ap, ◌∙◌}
 use mathlib.Core.List.{List, [], ◌∷◌}
-use mathlib.Core.Bool.{Bool, true, false, cond, ◌&&◌, false≢true}
+use mathlib.Core.Bool.{Bool, true, false, cond, ◌&&◌}
 use native.Mathlib.Omega.{arith}
-use borrow.Author.Tests.{lt-ltb, le-leb}
 use lib.ListN.{length, get_or, drop, length-drop}
 use Rattle.lists.specs.Pieces.{Piece}
 use Rattle.lists.proofs.PiecesLaws.{pieces-cons, sound-cons}
 use Rattle.utf8.specs.Utf8.{character, none, when, tail, two, three, four, starts, read, chars, utf8}
-use Rattle.utf8.specs.At.{placed, character_at}
+use Rattle.utf8.specs.At.{character_at}
 use Rattle.utf8.specs.declared.Character.{Character}
-use Rattle.utf8.proofs.Forms.{Tail, Two, Three, Four, starts-each, tail_is, tail-true}
+use Rattle.utf8.proofs.Forms.{Tail, starts-each, tail_is, tail-true}
 use Rattle.utf8.proofs.Walk.{within}
 
 -- the tails at the front of a text

@@ -1,5 +1,7 @@
 // UTF-8 (RFC 3629): the character at a place of a text with the place behind it, and whether a text is UTF-8. It knows of
 // no pattern and no book. Definitions: specs/Utf8.antt. No function has a `requires` that a caller outside has to meet.
+#![tactic(auto)]
+
 ghost use Rattle.std.specs.Prelude.{◌≡◌, ◌&&◌, ◌+◌, ◌<◌, ◌≤◌, length, get_or};
 ghost use Rattle.utf8.specs.Utf8.{scalar, tail, two, three, four, starts, none, character, utf8};
 ghost use Rattle.utf8.specs.At.{placed, character_at};

@@ -1,5 +1,7 @@
 // version_script.rs, the book's side: a version script opened into lent buffers. Definitions: those of the crate `book_opening`. Its counts and its nodes are
 // asked in counting.
+#![tactic(auto)]
+
 ghost use Rattle.book.specs.Layout.{five};
 ghost use Rattle.book_opening.specs.Opening.{as_script};
 ghost use Rattle.book_opening.specs.State.{Opens};

@@ -1,5 +1,4 @@
 -- `is_book` meets its contract, by the laws of Holding. Assumes nothing.
-use borrow.Author.Rules.{rules}
 use Rattle.book_check.proofs.Holding.{laid-fails, asks-laid, asks-nodes, asks-journal, names_fail, kind-fails, steps_decide}
 use mathlib.Core.Path.{ap}
 use mathlib.Core.Bool.{not}

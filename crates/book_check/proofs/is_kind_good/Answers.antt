@@ -1,6 +1,5 @@
 -- `is_kind_good` meets its contract, by the laws of Holding. Assumes nothing.
 use native.Mathlib.Omega.{arith}
-use borrow.Author.Rules.{rules}
 use Rattle.book_check.proofs.Holding.{lines-room, regular-passes, more_nodes, rust-edited, star_decides, export_decides}
 use Rattle.book_check.proofs.is_kind_good.Goals as goal
 

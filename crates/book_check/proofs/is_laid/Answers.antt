@@ -1,5 +1,4 @@
 -- `is_laid` meets its contract, by the laws of Holding. Assumes nothing.
-use borrow.Author.Rules.{rules}
 use Rattle.book_check.proofs.Holding.{limits_fail, nodes_fail, lines_fail, journal_decides}
 use Rattle.book_check.proofs.is_laid.Goals as goal
 

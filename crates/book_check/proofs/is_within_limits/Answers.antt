@@ -1,7 +1,6 @@
 -- `is_within_limits` meets its contract, by the laws of Holding. Assumes nothing.
 use Prim.Native.Nat.{◌≤◌}
 use native.Mathlib.Omega.{arith}
-use borrow.Author.Rules.{rules}
 use Rattle.numbers.specs.Limits.{line_limit, node_limit, pool_limit}
 use Rattle.book_check.proofs.Holding.{nodes-over, lines-over, pool-over, edits_decide}
 use Rattle.book_check.proofs.is_within_limits.Goals as goal

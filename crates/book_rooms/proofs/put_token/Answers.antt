@@ -1,5 +1,4 @@
 -- `put_token` meets its contract: the part of the pool behind what is there is lent to `store_token`. Assumes nothing.
-use borrow.Author.Rules.{rules}
 use native.Mathlib.Omega.{arith}
 use Rattle.storing.specs.Keeping.{keep}
 use Rattle.book_rooms.proofs.Putting.{put-part, room-length}

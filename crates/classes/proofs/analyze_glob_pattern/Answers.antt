@@ -1,12 +1,5 @@
 -- `analyze_glob_pattern` meets its contract. The loop's invariant: what is left decides. Assumes nothing.
 use Prim.Native.Nat.{◌-◌}
-use mathlib.Core.Bool.{false}
-use mathlib.Core.Path.{◌≡◌}
-use native.Mathlib.Omega.{arith}
-use borrow.Author.Rules.{rules}
-use lib.ListN.{length, drop}
-use Rattle.classes.specs.Classes.{scan}
-use Rattle.classes.specs.declared.Class.TheVariants.{Exact}
 use Rattle.classes.proofs.Scanning.{scan-plain, scan-star, scan-escape, scan_on, scan_end}
 use Rattle.classes.proofs.analyze_glob_pattern.Goals as goal
 

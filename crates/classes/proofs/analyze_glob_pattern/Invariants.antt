@@ -2,12 +2,9 @@
 use Prim.Native.Nat.{◌-◌}
 use mathlib.Core.Bool.{false}
 use mathlib.Core.Path.{◌≡◌}
-use native.Mathlib.Omega.{arith}
-use borrow.Author.Rules.{rules}
 use lib.ListN.{length, drop}
 use Rattle.classes.specs.Classes.{scan}
 use Rattle.classes.specs.declared.Class.TheVariants.{Exact}
-use Rattle.classes.proofs.Scanning.{scan-plain, scan-star, scan-escape, scan_on, scan_end}
 use Rattle.classes.proofs.analyze_glob_pattern.Given as goal
 
 abbrev pub invariant-loop-i : goal.invariant-loop-i

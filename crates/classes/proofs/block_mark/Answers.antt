@@ -1,8 +1,6 @@
 -- `block_mark` meets its contract. Assumes nothing.
 use Prim.Native.Nat.{◌-◌}
-use native.Mathlib.Omega.{arith}
-use borrow.Author.Rules.{rules}
-use Rattle.classes.proofs.Scanning.{Block, block_start, block_on, block_end}
+use Rattle.classes.proofs.Scanning.{block_start, block_on, block_end}
 use Rattle.classes.proofs.block_mark.Goals as goal
 
 pub loop-i-init : goal.loop-i-init

@@ -1,8 +1,6 @@
 -- `block_mark` meets its contract. Assumes nothing.
 use Prim.Native.Nat.{◌-◌}
-use native.Mathlib.Omega.{arith}
-use borrow.Author.Rules.{rules}
-use Rattle.classes.proofs.Scanning.{Block, block_start, block_on, block_end}
+use Rattle.classes.proofs.Scanning.{Block}
 use Rattle.classes.proofs.block_mark.Given as goal
 
 abbrev pub invariant-loop-i : goal.invariant-loop-i

@@ -1,5 +1,4 @@
 -- `classify` meets its contract. Assumes nothing.
-use borrow.Author.Rules.{rules}
 use Rattle.classes.proofs.Scanning.{class-quoted, class_all, class-scanned}
 use Rattle.classes.proofs.classify.Goals as goal
 

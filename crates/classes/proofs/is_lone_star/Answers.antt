@@ -1,5 +1,4 @@
 -- `is_lone_star` meets its contract. Assumes nothing.
-use borrow.Author.Rules.{rules}
 use Rattle.classes.proofs.Scanning.{lone_star-one, lone_star_not}
 use Rattle.classes.proofs.is_lone_star.Goals as goal
 

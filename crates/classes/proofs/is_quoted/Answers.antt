@@ -1,6 +1,5 @@
 -- `is_quoted` meets its contract. Assumes nothing.
 use native.Mathlib.Omega.{arith}
-use borrow.Author.Rules.{rules}
 use Rattle.classes.proofs.Scanning.{quoted-short, quoted-opens, quoted-closes}
 use Rattle.classes.proofs.is_quoted.Goals as goal
 

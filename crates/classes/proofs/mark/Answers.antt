@@ -1,5 +1,4 @@
 -- `mark` meets its contract. Assumes nothing.
-use borrow.Author.Rules.{rules}
 use Rattle.classes.specs.Classes.{nonstar, sign}
 use Rattle.classes.proofs.Scanning.{mark_byte}
 use Rattle.classes.proofs.mark.Goals as goal

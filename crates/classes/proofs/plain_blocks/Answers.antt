@@ -2,8 +2,7 @@
 use Prim.Native.Nat.{◌-◌}
 use mathlib.Core.Path.{refl}
 use native.Mathlib.Omega.{arith}
-use lib.ListN.{length}
-use Rattle.classes.proofs.Scanning.{Blocks, blocks_on, blocks_end}
+use Rattle.classes.proofs.Scanning.{blocks_on, blocks_end}
 use Rattle.classes.proofs.plain_blocks.Goals as goal
 
 pub loop-i-init : goal.loop-i-init

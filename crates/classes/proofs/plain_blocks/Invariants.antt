@@ -1,9 +1,7 @@
 -- `plain_blocks` meets its contract. Assumes nothing.
 use Prim.Native.Nat.{◌-◌}
-use mathlib.Core.Path.{refl}
-use native.Mathlib.Omega.{arith}
 use lib.ListN.{length}
-use Rattle.classes.proofs.Scanning.{Blocks, blocks_on, blocks_end}
+use Rattle.classes.proofs.Scanning.{Blocks}
 use Rattle.classes.proofs.plain_blocks.Given as goal
 
 abbrev pub invariant-loop-i : goal.invariant-loop-i

@@ -1,5 +1,4 @@
 -- `with_byte` meets its contract. Assumes nothing.
-use borrow.Author.Rules.{rules}
 use Rattle.classes.proofs.Scanning.{scanned-escape, scanned-nonstar, scanned_same}
 use Rattle.classes.proofs.with_byte.Goals as goal
 

@@ -1,8 +1,6 @@
 -- `move_down` meets its contract. The loop's invariant: i bytes are moved. Assumes nothing.
 use Prim.Native.Nat.{◌-◌}
-use native.Mathlib.Omega.{arith}
-use borrow.Author.Rules.{rules}
-use Rattle.copying.proofs.Stores.{Moved, move_none, move-starts, move_more, move-ends}
+use Rattle.copying.proofs.Stores.{Moved}
 use Rattle.copying.proofs.move_down.Given as goal
 
 abbrev pub invariant-loop-i : goal.invariant-loop-i

@@ -1,9 +1,7 @@
 -- `put_bytes` meets its contract. The loop's invariant: i bytes are pasted. Assumes nothing.
 use Prim.Native.Nat.{◌-◌}
 use native.Mathlib.Omega.{arith}
-use borrow.Author.Rules.{rules}
-use lib.ListN.{length}
-use Rattle.packing.proofs.Pasting.{Pasted, paste-starts, paste_more, paste-ends}
+use Rattle.packing.proofs.Pasting.{paste-starts, paste_more, paste-ends}
 use Rattle.copying.proofs.put_bytes.Goals as goal
 
 pub loop-i-init : goal.loop-i-init

@@ -1,6 +1,5 @@
 -- `put_three` meets its contract: three stores are a paste. Assumes nothing.
 use native.Mathlib.Omega.{arith}
-use borrow.Author.Rules.{rules}
 use lib.ListN.{length-set}
 use Rattle.copying.proofs.Stores.{three_stored}
 use Rattle.copying.proofs.put_three.Goals as goal

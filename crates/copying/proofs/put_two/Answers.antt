@@ -1,6 +1,5 @@
 -- `put_two` meets its contract: two stores are a paste. Assumes nothing.
 use native.Mathlib.Omega.{arith}
-use borrow.Author.Rules.{rules}
 use lib.ListN.{length-set}
 use Rattle.copying.proofs.Stores.{two_stored}
 use Rattle.copying.proofs.put_two.Goals as goal

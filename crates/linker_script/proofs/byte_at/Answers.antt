@@ -1,5 +1,4 @@
 -- `byte_at` meets its contract. Assumes nothing.
-use borrow.Author.Rules.{rules}
 use lib.ListN.{get_or-eq_default}
 use Rattle.linker_script.proofs.Searches.{byte_any}
 use Rattle.linker_script.proofs.byte_at.Goals as goal

@@ -1,7 +1,6 @@
 -- `last_close` meets its contract. The loop's invariant: no `};` ends at i or behind it. Assumes nothing.
 use native.Mathlib.Omega.{arith}
-use borrow.Author.Rules.{rules}
-use Rattle.linker_script.proofs.Searches.{Behind, behind_all, behind_none, behind_other, behind_open, behind_ends}
+use Rattle.linker_script.proofs.Searches.{behind_all, behind_none, behind_other, behind_open, behind_ends}
 use Rattle.linker_script.proofs.last_close.Goals as goal
 
 pub loop-i-init : goal.loop-i-init

@@ -1,7 +1,5 @@
 -- `last_close` meets its contract. The loop's invariant: no `};` ends at i or behind it. Assumes nothing.
-use native.Mathlib.Omega.{arith}
-use borrow.Author.Rules.{rules}
-use Rattle.linker_script.proofs.Searches.{Behind, behind_all, behind_none, behind_other, behind_open, behind_ends}
+use Rattle.linker_script.proofs.Searches.{Behind}
 use Rattle.linker_script.proofs.last_close.Given as goal
 
 abbrev pub invariant-loop-i : goal.invariant-loop-i

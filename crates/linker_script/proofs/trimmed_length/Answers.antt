@@ -1,6 +1,5 @@
 -- `trimmed_length` meets its contract. The loop's invariant: the bytes from e on are blanks. Assumes nothing.
-use borrow.Author.Rules.{rules}
-use Rattle.linker_script.proofs.Trimming.{Kept, kept_all, kept_less, kept-ends, kept_none}
+use Rattle.linker_script.proofs.Trimming.{kept_all, kept_less, kept-ends, kept_none}
 use Rattle.linker_script.proofs.trimmed_length.Goals as goal
 
 pub loop-e-init : goal.loop-e-init

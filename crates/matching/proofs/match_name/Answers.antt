@@ -1,6 +1,5 @@
 -- `match_name` meets its contract: each need is a turn of proofs/Turns.antt. Assumes nothing.
-use borrow.Author.Rules.{rules}
-use Rattle.matching.proofs.Turns.{Held, steps_left, held_start, held_end, held-takes, takes-fits, takes_less, held_last, held-star, star_less, fails-fits, held_none, held_back, back_less}
+use Rattle.matching.proofs.Turns.{held_start, held_end, held-takes, takes-fits, takes_less, held_last, held-star, star_less, fails-fits, held_none, held_back, back_less}
 use Rattle.matching.proofs.match_name.Goals as goal
 
 pub loop-i-init : goal.loop-i-init

@@ -1,6 +1,5 @@
 -- `match_name` meets its contract: each need is a turn of proofs/Turns.antt. Assumes nothing.
-use borrow.Author.Rules.{rules}
-use Rattle.matching.proofs.Turns.{Held, steps_left, held_start, held_end, held-takes, takes-fits, takes_less, held_last, held-star, star_less, fails-fits, held_none, held_back, back_less}
+use Rattle.matching.proofs.Turns.{Held, steps_left}
 use Rattle.matching.proofs.match_name.Given as goal
 
 abbrev pub invariant-loop-i : goal.invariant-loop-i

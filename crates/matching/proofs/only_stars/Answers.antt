@@ -1,8 +1,6 @@
 -- `only_stars` meets its contract. Assumes nothing.
 use Prim.Native.Nat.{◌-◌}
-use borrow.Author.Rules.{rules}
-use lib.ListN.{length}
-use Rattle.matching.proofs.Turns.{Stars, stars_start, stars_end, stars_no, stars_on, stars_less}
+use Rattle.matching.proofs.Turns.{stars_start, stars_end, stars_no, stars_on, stars_less}
 use Rattle.matching.proofs.only_stars.Goals as goal
 
 pub loop-at-init : goal.loop-at-init

@@ -1,8 +1,7 @@
 -- `only_stars` meets its contract. Assumes nothing.
 use Prim.Native.Nat.{◌-◌}
-use borrow.Author.Rules.{rules}
 use lib.ListN.{length}
-use Rattle.matching.proofs.Turns.{Stars, stars_start, stars_end, stars_no, stars_on, stars_less}
+use Rattle.matching.proofs.Turns.{Stars}
 use Rattle.matching.proofs.only_stars.Given as goal
 
 abbrev pub invariant-loop-at : goal.invariant-loop-at

@@ -1,9 +1,8 @@
 -- `clear_bytes` meets its contract. The loop's invariant: the buffer is zero up to i. Assumes nothing.
 use Prim.Native.Nat.{◌-◌}
 use native.Mathlib.Omega.{arith}
-use borrow.Author.Rules.{rules}
-use lib.ListN.{length, length-set}
-use Rattle.packing.proofs.Loops.{Cleared, clear_starts, clear_more, clear_ends}
+use lib.ListN.{length-set}
+use Rattle.packing.proofs.Loops.{clear_starts, clear_more, clear_ends}
 use Rattle.packing.proofs.clear_bytes.Goals as goal
 
 pub loop-i-init : goal.loop-i-init

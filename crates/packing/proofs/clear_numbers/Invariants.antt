@@ -1,9 +1,7 @@
 -- `clear_numbers` meets its contract. The loop's invariant: the buffer is zero up to i. Assumes nothing.
 use Prim.Native.Nat.{◌-◌}
-use native.Mathlib.Omega.{arith}
-use borrow.Author.Rules.{rules}
-use lib.ListN.{length, length-set}
-use Rattle.packing.proofs.Loops.{Cleared, clear_starts, clear_more, clear_ends}
+use lib.ListN.{length}
+use Rattle.packing.proofs.Loops.{Cleared}
 use Rattle.packing.proofs.clear_numbers.Given as goal
 
 abbrev pub invariant-loop-i : goal.invariant-loop-i

@@ -1,8 +1,7 @@
 -- `same_bytes` meets its contract. The loop's invariant: both have one length, and are equal from i on. Assumes nothing.
 use native.Mathlib.Omega.{arith}
-use borrow.Author.Rules.{rules}
 use Rattle.lists.proofs.SameLaws.{same_lengths}
-use Rattle.packing.proofs.Loops.{Alike, same_starts, same_stops, same_more, same_ends}
+use Rattle.packing.proofs.Loops.{same_starts, same_stops, same_more, same_ends}
 use Rattle.packing.proofs.same_bytes.Goals as goal
 
 pub returns-then-a-b : goal.returns-then-a-b

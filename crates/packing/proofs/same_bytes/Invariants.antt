@@ -1,8 +1,5 @@
 -- `same_bytes` meets its contract. The loop's invariant: both have one length, and are equal from i on. Assumes nothing.
-use native.Mathlib.Omega.{arith}
-use borrow.Author.Rules.{rules}
-use Rattle.lists.proofs.SameLaws.{same_lengths}
-use Rattle.packing.proofs.Loops.{Alike, same_starts, same_stops, same_more, same_ends}
+use Rattle.packing.proofs.Loops.{Alike}
 use Rattle.packing.proofs.same_bytes.Given as goal
 
 abbrev pub invariant-loop-i : goal.invariant-loop-i

@@ -1,9 +1,7 @@
 -- `zero_numbers` meets its contract. The loop's invariant: what is left from i on decides. Assumes nothing.
 use Prim.Native.Nat.{◌-◌}
-use native.Mathlib.Omega.{arith}
-use borrow.Author.Rules.{rules}
 use lib.ListN.{length}
-use Rattle.packing.proofs.Loops.{ZerosLeft, zero-starts, zero_stops, zero_more, zero-ends}
+use Rattle.packing.proofs.Loops.{ZerosLeft}
 use Rattle.packing.proofs.zero_numbers.Given as goal
 
 abbrev pub invariant-loop-i : goal.invariant-loop-i

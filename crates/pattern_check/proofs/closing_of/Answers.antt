@@ -1,6 +1,5 @@
 -- `closing_of` meets its contract, by the laws of Closings. Assumes nothing.
 use native.Mathlib.Omega.{arith}
-use borrow.Author.Rules.{rules}
 use Rattle.pattern_check.proofs.Closings.{mark-fits, end_fits, stays_open, closes}
 use Rattle.pattern_check.proofs.closing_of.Goals as goal
 

@@ -1,5 +1,4 @@
 -- `pattern_refusal` meets its contract, by the laws of Refusals. Assumes nothing.
-use borrow.Author.Rules.{rules}
 use Rattle.pattern_check.proofs.Refusals.{refuses-bytes, refuses_shape}
 use Rattle.pattern_check.proofs.pattern_refusal.Goals as goal
 

@@ -1,10 +1,7 @@
 -- `shape_refusal` meets its contract, by the laws of Refusals. The loop's invariant: what is left decides. Assumes nothing.
 use Prim.Native.Nat.{◌-◌}
-use mathlib.Core.Path.{refl}
-use borrow.Author.Rules.{rules}
-use lib.ListN.{length}
 use Rattle.utf8.proofs.Ascii.{walk-within}
-use Rattle.pattern_check.proofs.Refusals.{Decides, walk_less, walk-one, walk-open, walk-bracket, bracket_less, walk_ends}
+use Rattle.pattern_check.proofs.Refusals.{walk_less, walk-one, walk-open, walk-bracket, bracket_less, walk_ends}
 use Rattle.pattern_check.proofs.shape_refusal.Goals as goal
 
 pub loop-at-smaller-then-f-ne91 : goal.loop-at-smaller-then-f-ne91

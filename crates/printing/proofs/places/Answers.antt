@@ -1,6 +1,6 @@
 -- `places` meets its contract. The loop's invariant: the digits of `rest` are left to count. Assumes nothing.
 use borrow.Author.Rules.{rules}
-use Rattle.printing.proofs.Digits.{Counting, count-ends, count_more, count_room, count-starts}
+use Rattle.printing.proofs.Digits.{count-ends, count_more, count_room, count-starts}
 use Rattle.printing.proofs.places.Goals as goal
 
 pub loop-rest-init : goal.loop-rest-init

@@ -1,6 +1,5 @@
 -- `places` meets its contract. The loop's invariant: the digits of `rest` are left to count. Assumes nothing.
-use borrow.Author.Rules.{rules}
-use Rattle.printing.proofs.Digits.{Counting, count-ends, count_more, count_room, count-starts}
+use Rattle.printing.proofs.Digits.{Counting}
 use Rattle.printing.proofs.places.Given as goal
 
 abbrev pub invariant-loop-rest : goal.invariant-loop-rest

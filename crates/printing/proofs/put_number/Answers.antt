@@ -3,7 +3,7 @@ use Prim.Native.Nat.{◌≤◌}
 use mathlib.Core.Path.{refl}
 use borrow.Author.Rules.{rules}
 use native.Mathlib.Omega.{arith}
-use Rattle.printing.proofs.Digits.{Filling, few-places, fill-ends, fill_more, fill-starts, fill-within}
+use Rattle.printing.proofs.Digits.{few-places, fill-ends, fill_more, fill-starts, fill-within}
 use Rattle.printing.proofs.put_number.Goals as goal
 
 pub overflow_add-end : goal.overflow_add-end

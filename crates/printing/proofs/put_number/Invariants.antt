@@ -1,9 +1,5 @@
 -- `put_number` meets its contract. The loop's invariant: the digits behind i stand, and those of `rest` are left to be written. Assumes nothing.
-use Prim.Native.Nat.{◌≤◌}
-use mathlib.Core.Path.{refl}
-use borrow.Author.Rules.{rules}
-use native.Mathlib.Omega.{arith}
-use Rattle.printing.proofs.Digits.{Filling, few-places, fill-ends, fill_more, fill-starts, fill-within}
+use Rattle.printing.proofs.Digits.{Filling}
 use Rattle.printing.proofs.put_number.Given as goal
 
 abbrev pub invariant-loop-i : goal.invariant-loop-i

@@ -1,5 +1,4 @@
 -- `put_refused_fields` meets its contract. Assumes nothing.
-use borrow.Author.Rules.{rules}
 use Rattle.lists.specs.Texts.{codes}
 use Rattle.printing.specs.Printing.{refused_fields}
 use Rattle.printing.proofs.put_refused_fields.Goals as goal

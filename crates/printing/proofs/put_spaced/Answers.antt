@@ -1,5 +1,4 @@
 -- `put_spaced` meets its contract. Assumes nothing.
-use borrow.Author.Rules.{rules}
 use Rattle.printing.proofs.Pieces.{spaced-put}
 use Rattle.printing.proofs.put_spaced.Goals as goal
 

@@ -1,6 +1,5 @@
 -- `put_text` meets its contract. Assumes nothing.
 use mathlib.Core.Path.{refl, ◌∙◌}
-use borrow.Author.Rules.{rules}
 use Rattle.printing.proofs.Pieces.{pasted}
 use Rattle.printing.proofs.put_text.Goals as goal
 

@@ -1,7 +1,6 @@
 -- `show_counts` meets its contract: behind each call the counts stand as far as to one of them. Assumes nothing.
 use Prim.Native.Nat.{ℕ, ◌≤◌}
 use mathlib.Core.List.{List, ◌∷◌}
-use borrow.Author.Rules.{rules}
 use native.Mathlib.Omega.{arith}
 use lib.ListN.{length}
 use Rattle.numbers.specs.Signs.{space}
@@ -28,7 +27,7 @@ put_spaced-d-requires c =
     let Stands : ℕ → (Counts → List ℕ) → List ℕ → ℕ → Type 0 = λ m text l r. Placed c.args.out.now 0 m (text c.args.c) l r in
     let kind : Stands 15 to_kind c.put_spaced-a.new.out c.put_spaced-a.result = spaced-placed _ 0 kind_word c.args.c.kind (omega (arith, ample)) c.put_spaced-a.ensures in
     let nodes : Stands 32 to_nodes c.put_spaced-b.new.out c.put_spaced-b.result = let p = kind in
-        spaced_behind p (space ∷ nodes_word) c.args.c.nodes (omega (arith, ample)) c.put_spaced-b.ensures in
+    spaced_behind p (space ∷ nodes_word) c.args.c.nodes (omega (arith, ample)) c.put_spaced-b.ensures in
     room_behind nodes 6 (omega (arith, ample))
 
 pub put_spaced-e-requires : goal.put_spaced-e-requires
@@ -37,9 +36,9 @@ put_spaced-e-requires c =
     let Stands : ℕ → (Counts → List ℕ) → List ℕ → ℕ → Type 0 = λ m text l r. Placed c.args.out.now 0 m (text c.args.c) l r in
     let kind : Stands 15 to_kind c.put_spaced-a.new.out c.put_spaced-a.result = spaced-placed _ 0 kind_word c.args.c.kind (omega (arith, ample)) c.put_spaced-a.ensures in
     let nodes : Stands 32 to_nodes c.put_spaced-b.new.out c.put_spaced-b.result = let p = kind in
-        spaced_behind p (space ∷ nodes_word) c.args.c.nodes (omega (arith, ample)) c.put_spaced-b.ensures in
+    spaced_behind p (space ∷ nodes_word) c.args.c.nodes (omega (arith, ample)) c.put_spaced-b.ensures in
     let names : Stands 49 to_names c.put_spaced-d.new.out c.put_spaced-d.result = let p = nodes in
-        spaced_behind p (space ∷ names_word) c.args.c.names (omega (arith, ample)) c.put_spaced-d.ensures in
+    spaced_behind p (space ∷ names_word) c.args.c.names (omega (arith, ample)) c.put_spaced-d.ensures in
     room_behind names 6 (omega (arith, ample))
 
 pub put_spaced-f-requires : goal.put_spaced-f-requires
@@ -48,11 +47,11 @@ put_spaced-f-requires c =
     let Stands : ℕ → (Counts → List ℕ) → List ℕ → ℕ → Type 0 = λ m text l r. Placed c.args.out.now 0 m (text c.args.c) l r in
     let kind : Stands 15 to_kind c.put_spaced-a.new.out c.put_spaced-a.result = spaced-placed _ 0 kind_word c.args.c.kind (omega (arith, ample)) c.put_spaced-a.ensures in
     let nodes : Stands 32 to_nodes c.put_spaced-b.new.out c.put_spaced-b.result = let p = kind in
-        spaced_behind p (space ∷ nodes_word) c.args.c.nodes (omega (arith, ample)) c.put_spaced-b.ensures in
+    spaced_behind p (space ∷ nodes_word) c.args.c.nodes (omega (arith, ample)) c.put_spaced-b.ensures in
     let names : Stands 49 to_names c.put_spaced-d.new.out c.put_spaced-d.result = let p = nodes in
-        spaced_behind p (space ∷ names_word) c.args.c.names (omega (arith, ample)) c.put_spaced-d.ensures in
+    spaced_behind p (space ∷ names_word) c.args.c.names (omega (arith, ample)) c.put_spaced-d.ensures in
     let lines : Stands 66 to_lines c.put_spaced-e.new.out c.put_spaced-e.result = let p = names in
-        spaced_behind p (space ∷ lines_word) c.args.c.lines (omega (arith, ample)) c.put_spaced-e.ensures in
+    spaced_behind p (space ∷ lines_word) c.args.c.lines (omega (arith, ample)) c.put_spaced-e.ensures in
     room_behind lines 5 (omega (arith, ample))
 
 pub put_spaced-g-requires : goal.put_spaced-g-requires
@@ -61,13 +60,13 @@ put_spaced-g-requires c =
     let Stands : ℕ → (Counts → List ℕ) → List ℕ → ℕ → Type 0 = λ m text l r. Placed c.args.out.now 0 m (text c.args.c) l r in
     let kind : Stands 15 to_kind c.put_spaced-a.new.out c.put_spaced-a.result = spaced-placed _ 0 kind_word c.args.c.kind (omega (arith, ample)) c.put_spaced-a.ensures in
     let nodes : Stands 32 to_nodes c.put_spaced-b.new.out c.put_spaced-b.result = let p = kind in
-        spaced_behind p (space ∷ nodes_word) c.args.c.nodes (omega (arith, ample)) c.put_spaced-b.ensures in
+    spaced_behind p (space ∷ nodes_word) c.args.c.nodes (omega (arith, ample)) c.put_spaced-b.ensures in
     let names : Stands 49 to_names c.put_spaced-d.new.out c.put_spaced-d.result = let p = nodes in
-        spaced_behind p (space ∷ names_word) c.args.c.names (omega (arith, ample)) c.put_spaced-d.ensures in
+    spaced_behind p (space ∷ names_word) c.args.c.names (omega (arith, ample)) c.put_spaced-d.ensures in
     let lines : Stands 66 to_lines c.put_spaced-e.new.out c.put_spaced-e.result = let p = names in
-        spaced_behind p (space ∷ lines_word) c.args.c.lines (omega (arith, ample)) c.put_spaced-e.ensures in
+    spaced_behind p (space ∷ lines_word) c.args.c.lines (omega (arith, ample)) c.put_spaced-e.ensures in
     let pool : Stands 82 to_pool c.put_spaced-f.new.out c.put_spaced-f.result = let p = lines in
-        spaced_behind p (space ∷ pool_word) c.args.c.pool (omega (arith, ample)) c.put_spaced-f.ensures in
+    spaced_behind p (space ∷ pool_word) c.args.c.pool (omega (arith, ample)) c.put_spaced-f.ensures in
     room_behind pool 6 (omega (arith, ample))
 
 pub put_text-requires : goal.put_text-requires
@@ -76,15 +75,15 @@ put_text-requires c =
     let Stands : ℕ → (Counts → List ℕ) → List ℕ → ℕ → Type 0 = λ m text l r. Placed c.args.out.now 0 m (text c.args.c) l r in
     let kind : Stands 15 to_kind c.put_spaced-a.new.out c.put_spaced-a.result = spaced-placed _ 0 kind_word c.args.c.kind (omega (arith, ample)) c.put_spaced-a.ensures in
     let nodes : Stands 32 to_nodes c.put_spaced-b.new.out c.put_spaced-b.result = let p = kind in
-        spaced_behind p (space ∷ nodes_word) c.args.c.nodes (omega (arith, ample)) c.put_spaced-b.ensures in
+    spaced_behind p (space ∷ nodes_word) c.args.c.nodes (omega (arith, ample)) c.put_spaced-b.ensures in
     let names : Stands 49 to_names c.put_spaced-d.new.out c.put_spaced-d.result = let p = nodes in
-        spaced_behind p (space ∷ names_word) c.args.c.names (omega (arith, ample)) c.put_spaced-d.ensures in
+    spaced_behind p (space ∷ names_word) c.args.c.names (omega (arith, ample)) c.put_spaced-d.ensures in
     let lines : Stands 66 to_lines c.put_spaced-e.new.out c.put_spaced-e.result = let p = names in
-        spaced_behind p (space ∷ lines_word) c.args.c.lines (omega (arith, ample)) c.put_spaced-e.ensures in
+    spaced_behind p (space ∷ lines_word) c.args.c.lines (omega (arith, ample)) c.put_spaced-e.ensures in
     let pool : Stands 82 to_pool c.put_spaced-f.new.out c.put_spaced-f.result = let p = lines in
-        spaced_behind p (space ∷ pool_word) c.args.c.pool (omega (arith, ample)) c.put_spaced-f.ensures in
+    spaced_behind p (space ∷ pool_word) c.args.c.pool (omega (arith, ample)) c.put_spaced-f.ensures in
     let edits : Stands 99 to_edits c.put_spaced-g.new.out c.put_spaced-g.result = let p = pool in
-        spaced_behind p (space ∷ edits_word) c.args.c.edits (omega (arith, ample)) c.put_spaced-g.ensures in
+    spaced_behind p (space ∷ edits_word) c.args.c.edits (omega (arith, ample)) c.put_spaced-g.ensures in
     end_room c.args.c ample edits
 
 pub shape_of-out : goal.shape_of-out
@@ -93,15 +92,15 @@ shape_of-out c =
     let Stands : ℕ → (Counts → List ℕ) → List ℕ → ℕ → Type 0 = λ m text l r. Placed c.args.out.now 0 m (text c.args.c) l r in
     let kind : Stands 15 to_kind c.put_spaced-a.new.out c.put_spaced-a.result = spaced-placed _ 0 kind_word c.args.c.kind (omega (arith, ample)) c.put_spaced-a.ensures in
     let nodes : Stands 32 to_nodes c.put_spaced-b.new.out c.put_spaced-b.result = let p = kind in
-        spaced_behind p (space ∷ nodes_word) c.args.c.nodes (omega (arith, ample)) c.put_spaced-b.ensures in
+    spaced_behind p (space ∷ nodes_word) c.args.c.nodes (omega (arith, ample)) c.put_spaced-b.ensures in
     let names : Stands 49 to_names c.put_spaced-d.new.out c.put_spaced-d.result = let p = nodes in
-        spaced_behind p (space ∷ names_word) c.args.c.names (omega (arith, ample)) c.put_spaced-d.ensures in
+    spaced_behind p (space ∷ names_word) c.args.c.names (omega (arith, ample)) c.put_spaced-d.ensures in
     let lines : Stands 66 to_lines c.put_spaced-e.new.out c.put_spaced-e.result = let p = names in
-        spaced_behind p (space ∷ lines_word) c.args.c.lines (omega (arith, ample)) c.put_spaced-e.ensures in
+    spaced_behind p (space ∷ lines_word) c.args.c.lines (omega (arith, ample)) c.put_spaced-e.ensures in
     let pool : Stands 82 to_pool c.put_spaced-f.new.out c.put_spaced-f.result = let p = lines in
-        spaced_behind p (space ∷ pool_word) c.args.c.pool (omega (arith, ample)) c.put_spaced-f.ensures in
+    spaced_behind p (space ∷ pool_word) c.args.c.pool (omega (arith, ample)) c.put_spaced-f.ensures in
     let edits : Stands 99 to_edits c.put_spaced-g.new.out c.put_spaced-g.result = let p = pool in
-        spaced_behind p (space ∷ edits_word) c.args.c.edits (omega (arith, ample)) c.put_spaced-g.ensures in
+    spaced_behind p (space ∷ edits_word) c.args.c.edits (omega (arith, ample)) c.put_spaced-g.ensures in
     counts-long c.args.c ample edits c.put_text.ensures
 
 pub returns : goal.returns
@@ -110,13 +109,13 @@ returns c =
     let Stands : ℕ → (Counts → List ℕ) → List ℕ → ℕ → Type 0 = λ m text l r. Placed c.args.out.now 0 m (text c.args.c) l r in
     let kind : Stands 15 to_kind c.put_spaced-a.new.out c.put_spaced-a.result = spaced-placed _ 0 kind_word c.args.c.kind (omega (arith, ample)) c.put_spaced-a.ensures in
     let nodes : Stands 32 to_nodes c.put_spaced-b.new.out c.put_spaced-b.result = let p = kind in
-        spaced_behind p (space ∷ nodes_word) c.args.c.nodes (omega (arith, ample)) c.put_spaced-b.ensures in
+    spaced_behind p (space ∷ nodes_word) c.args.c.nodes (omega (arith, ample)) c.put_spaced-b.ensures in
     let names : Stands 49 to_names c.put_spaced-d.new.out c.put_spaced-d.result = let p = nodes in
-        spaced_behind p (space ∷ names_word) c.args.c.names (omega (arith, ample)) c.put_spaced-d.ensures in
+    spaced_behind p (space ∷ names_word) c.args.c.names (omega (arith, ample)) c.put_spaced-d.ensures in
     let lines : Stands 66 to_lines c.put_spaced-e.new.out c.put_spaced-e.result = let p = names in
-        spaced_behind p (space ∷ lines_word) c.args.c.lines (omega (arith, ample)) c.put_spaced-e.ensures in
+    spaced_behind p (space ∷ lines_word) c.args.c.lines (omega (arith, ample)) c.put_spaced-e.ensures in
     let pool : Stands 82 to_pool c.put_spaced-f.new.out c.put_spaced-f.result = let p = lines in
-        spaced_behind p (space ∷ pool_word) c.args.c.pool (omega (arith, ample)) c.put_spaced-f.ensures in
+    spaced_behind p (space ∷ pool_word) c.args.c.pool (omega (arith, ample)) c.put_spaced-f.ensures in
     let edits : Stands 99 to_edits c.put_spaced-g.new.out c.put_spaced-g.result = let p = pool in
-        spaced_behind p (space ∷ edits_word) c.args.c.edits (omega (arith, ample)) c.put_spaced-g.ensures in
+    spaced_behind p (space ∷ edits_word) c.args.c.edits (omega (arith, ample)) c.put_spaced-g.ensures in
     counts_put c.args.c ample edits c.put_text.ensures

@@ -1,5 +1,4 @@
 -- `shown_room` meets its contract. Assumes nothing.
-use borrow.Author.Rules.{rules}
 use native.Mathlib.Omega.{arith}
 use Rattle.printing_book.specs.Shown.{shown_room}
 use Rattle.printing_book.proofs.shown_room.Goals as goal

@@ -2,7 +2,6 @@
 use Prim.Native.Nat.{ℕ, ◌-◌, ◌*◌}
 use mathlib.Core.Path.{ap}
 use mathlib.Core.List.{[]}
-use borrow.Author.Rules.{rules}
 use native.Mathlib.Omega.{arith}
 use Rattle.numbers.specs.Classes.{nonstar_class}
 use Rattle.book.specs.Layout.{line_of}

@@ -1,5 +1,4 @@
 -- `parent_at` meets its contract. A `;` that was found lies within the text, from p on. Assumes nothing.
-use borrow.Author.Rules.{rules}
 use Rattle.reading_bodies.proofs.Deciding.{no_parent, parent-goes, parent-long, parent-fits}
 use Rattle.reading_bodies.proofs.parent_at.Goals as goal
 

@@ -1,5 +1,4 @@
 -- `skip_at` meets its contract. Assumes nothing.
-use borrow.Author.Rules.{rules}
 use Rattle.reading_cursors.proofs.skip_at.Goals as goal
 
 pub returns : goal.returns

@@ -1,5 +1,4 @@
 -- `bare_line` meets its contract. Assumes nothing.
-use borrow.Author.Rules.{rules}
 use Rattle.reading_matchers.proofs.Exits.{bare-refused, bare-open, bare-goes}
 use Rattle.reading_matchers.proofs.bare_line.Goals as goal
 

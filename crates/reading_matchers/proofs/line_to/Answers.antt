@@ -1,5 +1,4 @@
 -- `line_to` meets its contract. Assumes nothing.
-use borrow.Author.Rules.{rules}
 use Rattle.reading_matchers.proofs.Exits.{line_refused, line-open, line-goes}
 use Rattle.reading_matchers.proofs.line_to.Goals as goal
 

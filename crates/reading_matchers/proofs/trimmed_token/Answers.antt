@@ -1,5 +1,4 @@
 -- `trimmed_token` meets its contract. Assumes nothing.
-use borrow.Author.Rules.{rules}
 use Rattle.reading_tokens.proofs.Words.{trimmed-outside, trimmed-empty, trimmed_rest, trimmed-part}
 use Rattle.reading_matchers.proofs.trimmed_token.Goals as goal
 

@@ -1,6 +1,5 @@
 -- `bare_end` meets its contract. Assumes nothing.
 use native.Mathlib.Omega.{arith}
-use borrow.Author.Rules.{rules}
 use Rattle.reading_tokens.proofs.Enders.{bare-to_brace, bare_at_once, bare_all}
 use Rattle.reading_tokens.proofs.bare_end.Goals as goal
 

@@ -1,5 +1,4 @@
 -- `bare_extern_end` meets its contract. Assumes nothing.
-use borrow.Author.Rules.{rules}
 use Rattle.reading_tokens.proofs.Enders.{bare-none_left, bare_some_left}
 use Rattle.reading_tokens.proofs.bare_extern_end.Goals as goal
 

@@ -1,5 +1,4 @@
 -- `bare_skip` meets its contract. Assumes nothing.
-use borrow.Author.Rules.{rules}
 use Rattle.reading_tokens.proofs.Enders.{skip-from-brace, skip_from_start}
 use Rattle.reading_tokens.proofs.bare_skip.Goals as goal
 

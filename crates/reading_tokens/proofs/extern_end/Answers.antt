@@ -1,6 +1,5 @@
 -- `extern_end` meets its contract. Assumes nothing.
 use native.Mathlib.Omega.{arith}
-use borrow.Author.Rules.{rules}
 use Rattle.reading_tokens.proofs.Enders.{extern-none_left, extern_at-once, extern-closed, extern-no_semicolon, extern-apart}
 use Rattle.reading_tokens.proofs.extern_end.Goals as goal
 

@@ -1,9 +1,5 @@
 -- `parse_token` meets its contract. The loop's invariant: the name from i on decides. Assumes nothing.
 use Prim.Native.Nat.{◌-◌}
-use mathlib.Core.Path.{◌≡◌, refl}
-use borrow.Author.Rules.{rules}
-use lib.ListN.{length}
-use Rattle.reading_tokens.specs.Tokens.{name_end}
 use Rattle.reading_tokens.proofs.Words.{name_all, name_stops, name-goes}
 use Rattle.reading_tokens.proofs.parse_token.Goals as goal
 

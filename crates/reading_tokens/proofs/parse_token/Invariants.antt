@@ -1,10 +1,8 @@
 -- `parse_token` meets its contract. The loop's invariant: the name from i on decides. Assumes nothing.
 use Prim.Native.Nat.{◌-◌}
-use mathlib.Core.Path.{◌≡◌, refl}
-use borrow.Author.Rules.{rules}
+use mathlib.Core.Path.{◌≡◌}
 use lib.ListN.{length}
 use Rattle.reading_tokens.specs.Tokens.{name_end}
-use Rattle.reading_tokens.proofs.Words.{name_all, name_stops, name-goes}
 use Rattle.reading_tokens.proofs.parse_token.Given as goal
 
 abbrev pub invariant-loop-i : goal.invariant-loop-i

@@ -1,5 +1,4 @@
 -- `to_brace` meets its contract. Assumes nothing.
-use borrow.Author.Rules.{rules}
 use Rattle.reading_tokens.proofs.Enders.{brace_behind, brace_at_once, brace-missing}
 use Rattle.reading_tokens.proofs.to_brace.Goals as goal
 

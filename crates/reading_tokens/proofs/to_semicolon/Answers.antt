@@ -1,6 +1,5 @@
 -- `to_semicolon` meets its contract. Assumes nothing.
 use native.Mathlib.Omega.{arith}
-use borrow.Author.Rules.{rules}
 use Rattle.reading_tokens.proofs.Enders.{semicolon_behind, semicolon_at_once, semicolon-missing}
 use Rattle.reading_tokens.proofs.to_semicolon.Goals as goal
 

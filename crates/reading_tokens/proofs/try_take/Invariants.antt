@@ -1,11 +1,8 @@
 -- `try_take` meets its contract. The loop's invariant: what is left of the word and of the text decides. Assumes nothing.
 use Prim.Native.Nat.{◌-◌}
-use mathlib.Core.Path.{◌≡◌, refl}
-use native.Mathlib.Omega.{arith}
-use borrow.Author.Rules.{rules}
+use mathlib.Core.Path.{◌≡◌}
 use lib.ListN.{length, drop}
 use Rattle.reading_tokens.specs.Tokens.{begins, stands_at}
-use Rattle.reading_tokens.proofs.Words.{word_ends, text-ends, byte_differs, byte_same}
 use Rattle.reading_tokens.proofs.try_take.Given as goal
 
 abbrev pub invariant-loop-i : goal.invariant-loop-i

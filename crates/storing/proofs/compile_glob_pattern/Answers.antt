@@ -1,6 +1,5 @@
 -- `compile_glob_pattern` meets its contract. Assumes nothing.
 use mathlib.Core.Path.{◌≡◌}
-use borrow.Author.Rules.{rules}
 use lib.Dec.{leb}
 use lib.ListN.{length}
 use Rattle.pattern.specs.Patterns.{refusal}

@@ -1,11 +1,7 @@
 -- `copy_unescaped` meets its contract. The loop's invariant: the buffer's front holds the bytes passed, without their escapes. Assumes nothing.
-use Prim.Native.Nat.{◌-◌, ◌≤◌}
-use mathlib.Core.Logic.{⊎_elim}
+use Prim.Native.Nat.{◌-◌}
 use native.Mathlib.Omega.{arith}
-use borrow.Author.Rules.{rules}
-use lib.ListN.{length, drop}
-use Rattle.lists.proofs.FrontLaws.{Written, written_start, written-room, written_more, written_end}
-use Rattle.storing.specs.Keeping.{unescape}
+use Rattle.lists.proofs.FrontLaws.{written_start, written-room, written_more, written_end}
 use Rattle.storing.proofs.Keeping.{unescape_some, unescape-goes, unescape-stays, unescape_stays_last, unescape_end}
 use Rattle.storing.proofs.copy_unescaped.Goals as goal
 use Rattle.storing.proofs.copy_unescaped.Goals.{then-src-i-eq92+else-j-src, else-src-i-eq92}
@@ -24,14 +20,13 @@ pub bounds-out-n-in-loop-i : goal.bounds-out-n-in-loop-i
 bounds-out-n-in-loop-i c = search (written-room, unescape_some)
 
 pub loop-i-preserved : goal.loop-i-preserved
-loop-i-preserved c =
-    (
-      omega arith,
-      elim c.if-src-i-eq92.branch [
-        then-src-i-eq92+else-j-src w ↦ search (written_more, unescape_stays_last)
-      | else-src-i-eq92 w ↦ search (written_more, unescape-stays)
-      ],
-    )
+loop-i-preserved c = (
+  omega arith,
+  elim c.if-src-i-eq92.branch [
+    | then-src-i-eq92+else-j-src w ↦ search (written_more, unescape_stays_last)
+    | else-src-i-eq92 w ↦ search (written_more, unescape-stays)
+  ],
+)
 
 pub returns : goal.returns
 returns c = search (written_end, unescape_end)

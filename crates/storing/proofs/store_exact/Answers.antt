@@ -1,5 +1,4 @@
 -- `store_exact` meets its contract. Assumes nothing.
-use borrow.Author.Rules.{rules}
 use Rattle.storing.proofs.Answers.{full_answer, full_buffer, room_answer, room_buffer, copied}
 use Rattle.storing.proofs.store_exact.Goals as goal
 

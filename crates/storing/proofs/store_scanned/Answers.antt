@@ -1,5 +1,4 @@
 -- `store_scanned` meets its contract. Assumes nothing.
-use borrow.Author.Rules.{rules}
 use Rattle.storing.proofs.Answers.{all_answer, all_buffer, same_answer, same_buffer}
 use Rattle.storing.proofs.Keeping.{keep_lone, keep_exact, keep-escaped, keep_non_star, keep-star, keep_all}
 use Rattle.storing.proofs.store_scanned.Goals as goal

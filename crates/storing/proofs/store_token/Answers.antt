@@ -1,5 +1,4 @@
 -- `store_token` meets its contract. Assumes nothing.
-use borrow.Author.Rules.{rules}
 use Rattle.storing.specs.Answers.{keep_answer, keep_buffer}
 use Rattle.storing.proofs.Answers.{same_answer, same_buffer}
 use Rattle.storing.proofs.Keeping.{keep-over, keep-quoted, keep-unquoted}

@@ -1,5 +1,4 @@
 -- `unescape_pattern` meets its contract. Assumes nothing.
-use borrow.Author.Rules.{rules}
 use Rattle.storing.proofs.Answers.{full_answer, full_buffer, room_answer, room_buffer}
 use Rattle.storing.proofs.unescape_pattern.Goals as goal
 

@@ -1,9 +1,6 @@
 -- `unescaped_length` meets its contract. The loop's invariant: the bytes counted, with those that are left, are all. Assumes nothing.
 use Prim.Native.Nat.{◌-◌}
-use native.Mathlib.Omega.{arith}
-use borrow.Author.Rules.{rules}
-use lib.ListN.{length}
-use Rattle.storing.proofs.Keeping.{Counted, counted_start, counted-goes, counted-stays, counted_end}
+use Rattle.storing.proofs.Keeping.{counted_start, counted-goes, counted-stays, counted_end}
 use Rattle.storing.proofs.unescaped_length.Goals as goal
 
 pub loop-i-init : goal.loop-i-init

@@ -1,9 +1,7 @@
 -- `unescaped_length` meets its contract. The loop's invariant: the bytes counted, with those that are left, are all. Assumes nothing.
 use Prim.Native.Nat.{◌-◌}
-use native.Mathlib.Omega.{arith}
-use borrow.Author.Rules.{rules}
 use lib.ListN.{length}
-use Rattle.storing.proofs.Keeping.{Counted, counted_start, counted-goes, counted-stays, counted_end}
+use Rattle.storing.proofs.Keeping.{Counted}
 use Rattle.storing.proofs.unescaped_length.Given as goal
 
 abbrev pub invariant-loop-i : goal.invariant-loop-i

@@ -1,6 +1,5 @@
 -- `found` meets its contract. Assumes nothing.
 use mathlib.Core.Path.{refl}
-use borrow.Author.Rules.{rules}
 use Rattle.utf8.specs.Utf8.{character}
 use Rattle.utf8.proofs.found.Goals as goal
 

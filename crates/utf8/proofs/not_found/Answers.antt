@@ -1,6 +1,5 @@
 -- `not_found` meets its contract. Assumes nothing.
 use mathlib.Core.Path.{refl}
-use borrow.Author.Rules.{rules}
 use Rattle.utf8.specs.Utf8.{none}
 use Rattle.utf8.proofs.not_found.Goals as goal
 

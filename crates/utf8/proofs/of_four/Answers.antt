@@ -1,5 +1,4 @@
 -- `of_four` meets its contract: it refuses where a test of `four` fails. Assumes nothing.
-use borrow.Author.Rules.{rules}
 use Rattle.utf8.specs.Utf8.{four}
 use Rattle.utf8.proofs.Exits.{tests}
 use Rattle.utf8.proofs.of_four.Goals as goal

@@ -1,5 +1,4 @@
 -- `of_many` meets its contract: it goes by the first byte as `starts` does. Assumes nothing.
-use borrow.Author.Rules.{rules}
 use Rattle.utf8.specs.Utf8.{starts}
 use Rattle.utf8.proofs.Exits.{ways}
 use Rattle.utf8.proofs.of_many.Goals as goal

@@ -1,5 +1,4 @@
 -- `of_three` meets its contract: it refuses where a test of `three` fails. Assumes nothing.
-use borrow.Author.Rules.{rules}
 use Rattle.utf8.specs.Utf8.{three}
 use Rattle.utf8.proofs.Exits.{tests}
 use Rattle.utf8.proofs.of_three.Goals as goal

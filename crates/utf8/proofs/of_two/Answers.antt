@@ -1,5 +1,4 @@
 -- `of_two` meets its contract: it refuses where a test of `two` fails. Assumes nothing.
-use borrow.Author.Rules.{rules}
 use Rattle.utf8.specs.Utf8.{two}
 use Rattle.utf8.proofs.Exits.{tests}
 use Rattle.utf8.proofs.of_two.Goals as goal

@@ -1,7 +1,6 @@
 -- `first_named` meets its contract. The loop's invariant: the search goes on from node i. Assumes nothing.
 use Prim.Native.Nat.{◌-◌}
-use borrow.Author.Rules.{rules}
-use Rattle.book.proofs.NodeRows.{Searching, search_starts, search_lies, search_found, search_more, search_ends}
+use Rattle.book.proofs.NodeRows.{search_starts, search_lies, search_found, search_more, search_ends}
 use Rattle.book.proofs.nodes.first_named.Goals as goal
 
 pub loop-i-init : goal.loop-i-init

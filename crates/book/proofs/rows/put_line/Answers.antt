@@ -1,6 +1,5 @@
 -- `put_line` meets its contract: five stores are a paste. Assumes nothing.
 use native.Mathlib.Omega.{arith}
-use borrow.Author.Rules.{rules}
 use lib.ListN.{length-set}
 use Rattle.book.proofs.LineRows.{row-stored}
 use Rattle.book.proofs.rows.put_line.Goals as goal

@@ -1,9 +1,7 @@
 -- `edit_rows` meets its contract. The loop's invariant: the rows from i on decide. Assumes nothing.
 use Prim.Native.Nat.{◌-◌}
-use mathlib.Core.Logic.{⊎_elim}
 use native.Mathlib.Omega.{arith}
-use borrow.Author.Rules.{rules}
-use Rattle.book_check.proofs.JournalChecks.{Listed, edits_start, edit_wrong, edit_add, edit_strike, edits_end}
+use Rattle.book_check.proofs.JournalChecks.{edits_start, edit_wrong, edit_add, edit_strike, edits_end}
 use Rattle.book_check.proofs.journal.edit_rows.Goals as goal
 use Rattle.book_check.proofs.journal.edit_rows.Goals.{then-what-ne1+else-what-ne2, else-what-ne1}
 
@@ -19,8 +17,8 @@ pub loop-i-preserved : goal.loop-i-preserved
 loop-i-preserved c =
     let z = c.loop-i.invariant in
     elim c.if-what-ne1.branch [
-      then-what-ne1+else-what-ne2 w ↦ edit_strike _ _ _ _ z (omega arith) (omega arith) w.if-what-ne1.true (omega (arith, w.if-what-ne2.false))
-    | else-what-ne1 w ↦ search edit_add
+      | then-what-ne1+else-what-ne2 w ↦ edit_strike _ _ _ _ z (omega arith) (omega arith) w.if-what-ne1.true (omega (arith, w.if-what-ne2.false))
+      | else-what-ne1 w ↦ search edit_add
     ]
 
 pub returns : goal.returns

@@ -1,9 +1,6 @@
 -- `edit_rows` meets its contract. The loop's invariant: the rows from i on decide. Assumes nothing.
 use Prim.Native.Nat.{◌-◌}
-use mathlib.Core.Logic.{⊎_elim}
-use native.Mathlib.Omega.{arith}
-use borrow.Author.Rules.{rules}
-use Rattle.book_check.proofs.JournalChecks.{Listed, edits_start, edit_wrong, edit_add, edit_strike, edits_end}
+use Rattle.book_check.proofs.JournalChecks.{Listed}
 use Rattle.book_check.proofs.journal.edit_rows.Given as goal
 
 abbrev pub invariant-loop-i : goal.invariant-loop-i

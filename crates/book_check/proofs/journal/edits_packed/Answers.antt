@@ -1,5 +1,4 @@
 -- `edits_packed` meets its contract. Assumes nothing.
-use borrow.Author.Rules.{rules}
 use Rattle.book_check.proofs.JournalChecks.{edits-short, edits_left}
 use Rattle.book_check.proofs.journal.edits_packed.Goals as goal
 

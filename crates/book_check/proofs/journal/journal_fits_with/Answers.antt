@@ -1,10 +1,9 @@
 -- `journal_fits_with` meets its contract. The loop's invariant: the t edits that are left, from the lines as they are now, decide. Assumes nothing.
 use Prim.Native.Nat.{◌+◌, ◌-◌, ◌*◌}
-use mathlib.Core.Path.{◌≡◌, refl}
+use mathlib.Core.Path.{refl}
 use native.Mathlib.Omega.{arith}
-use borrow.Author.Rules.{rules}
-use lib.ListN.{length, length-set}
-use Rattle.book_check.proofs.JournalChecks.{Backward, backward_starts, backward_ends, edit_out, add_early, add-struck, add-taken, strike_stood, strike-taken}
+use lib.ListN.{length-set}
+use Rattle.book_check.proofs.JournalChecks.{backward_starts, backward_ends, edit_out, add_early, add-struck, add-taken, strike_stood, strike-taken}
 use mathlib.Core.Path.{ap}
 use mathlib.Core.Bool.{not}
 use Rattle.book_check.proofs.journal.journal_fits_with.Goals as goal
@@ -27,23 +26,21 @@ pub returns-then-not-stands : goal.returns-then-not-stands
 returns-then-not-stands c = search add-struck
 
 pub loop-t-preserved-then-what-eq1 : goal.loop-t-preserved-then-what-eq1
-loop-t-preserved-then-what-eq1 c =
-    (
-    c.loop-t.invariant.0,
-    add-taken c.loop-t.invariant.1 c.loop-t-test.true c.if-m-i.false c.stands_now-stands.ensures
-    c.if-what-eq1.true c.if-m-i-2.false (ap not c.if-not-stands.false),
-    )
+loop-t-preserved-then-what-eq1 c = (
+  c.loop-t.invariant.0,
+  add-taken c.loop-t.invariant.1 c.loop-t-test.true c.if-m-i.false c.stands_now-stands.ensures
+      c.if-what-eq1.true c.if-m-i-2.false (ap not c.if-not-stands.false),
+)
 
 pub returns-then-stands : goal.returns-then-stands
 returns-then-stands c = search strike_stood
 
 pub loop-t-preserved : goal.loop-t-preserved
-loop-t-preserved c =
-    (
-    simp length-set c.loop-t.invariant.0,
-    strike-taken c.loop-t.invariant.1 c.loop-t-test.true c.if-m-i.false c.stands_now-stands.ensures
-    c.if-what-eq1.false c.if-stands.false,
-    )
+loop-t-preserved c = (
+  simp length-set c.loop-t.invariant.0,
+  strike-taken c.loop-t.invariant.1 c.loop-t-test.true c.if-m-i.false c.stands_now-stands.ensures
+      c.if-what-eq1.false c.if-stands.false,
+)
 
 pub returns : goal.returns
 returns c = search backward_ends

@@ -1,6 +1,5 @@
 -- `stands_now` meets its contract. Assumes nothing.
 use native.Mathlib.Omega.{arith}
-use borrow.Author.Rules.{rules}
 use Rattle.book_check.proofs.JournalChecks.{stands-marked, stands-code}
 use Rattle.book_check.proofs.journal.stands_now.Goals as goal
 

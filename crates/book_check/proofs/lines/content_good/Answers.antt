@@ -1,6 +1,5 @@
 -- `content_good` meets its contract. Assumes nothing.
 use native.Mathlib.Omega.{arith}
-use borrow.Author.Rules.{rules}
 use Rattle.book_check.proofs.LineChecks.{content_nonstar, content_star, content_plain}
 use Rattle.book_check.proofs.lines.content_good.Goals as goal
 

@@ -1,7 +1,6 @@
 -- `has_star` meets its contract. The loop's invariant: the lines from i on decide. Assumes nothing.
 use Prim.Native.Nat.{◌-◌}
-use borrow.Author.Rules.{rules}
-use Rattle.book_check.proofs.LineRows.{Starring, stars_start, star-found, star_next, star_none}
+use Rattle.book_check.proofs.LineRows.{Starring}
 use Rattle.book_check.proofs.lines.has_star.Given as goal
 
 abbrev pub invariant-loop-i : goal.invariant-loop-i

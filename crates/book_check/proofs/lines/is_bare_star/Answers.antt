@@ -1,7 +1,6 @@
 -- `is_bare_star` meets its contract. Assumes nothing.
 use mathlib.Core.Path.{◌≡◌}
 use native.Mathlib.Omega.{arith}
-use borrow.Author.Rules.{rules}
 use Rattle.numbers.specs.Classes.{all_class}
 use Rattle.numbers.specs.Marks.{local}
 use Rattle.book_check.proofs.LineChecks.{star_no_all, star-global, star-general}

@@ -1,6 +1,5 @@
 -- `kind_allows` meets its contract. Assumes nothing.
 use native.Mathlib.Omega.{arith}
-use borrow.Author.Rules.{rules}
 use Rattle.book_check.proofs.LineChecks.{allows-local, allows_no_glob, allows-general, allows-global, allows_any}
 use Rattle.book_check.proofs.lines.kind_allows.Goals as goal
 

@@ -1,7 +1,6 @@
 -- `line_good` meets its contract. Assumes nothing.
 use Prim.Native.Nat.{◌<◌, ◌≤◌}
 use native.Mathlib.Omega.{arith}
-use borrow.Author.Rules.{rules}
 use Rattle.numbers.specs.Limits.{script_limit}
 use Rattle.book_check.proofs.LineChecks.{line_out, line_misplaced, line-barred, line_rest}
 use mathlib.Core.Path.{ap}

@@ -1,8 +1,7 @@
 -- `line_rows` meets its contract. The loop's invariant: row i starts at `at` and its bytes at o, and the rows from i on decide. Assumes nothing.
 use Prim.Native.Nat.{◌+◌, ◌-◌}
 use native.Mathlib.Omega.{arith}
-use borrow.Author.Rules.{rules}
-use Rattle.book_check.proofs.LineRows.{Lined, lines_start, start_wrong, size_wrong, line_wrong, line-right, end_wrong, lines_end}
+use Rattle.book_check.proofs.LineRows.{lines_start, start_wrong, size_wrong, line_wrong, line-right, end_wrong, lines_end}
 use mathlib.Core.Path.{ap}
 use mathlib.Core.Bool.{not}
 use Rattle.book_check.proofs.lines.line_rows.Goals as goal

@@ -1,8 +1,6 @@
 -- `line_rows` meets its contract. The loop's invariant: row i starts at `at` and its bytes at o, and the rows from i on decide. Assumes nothing.
-use Prim.Native.Nat.{◌+◌, ◌-◌}
-use native.Mathlib.Omega.{arith}
-use borrow.Author.Rules.{rules}
-use Rattle.book_check.proofs.LineRows.{Lined, lines_start, start_wrong, size_wrong, line_wrong, line-right, end_wrong, lines_end}
+use Prim.Native.Nat.{◌-◌}
+use Rattle.book_check.proofs.LineRows.{Lined}
 use Rattle.book_check.proofs.lines.line_rows.Given as goal
 
 abbrev pub invariant-loop-i : goal.invariant-loop-i

@@ -1,6 +1,5 @@
 -- `lines_packed` meets its contract. Assumes nothing.
 use native.Mathlib.Omega.{arith}
-use borrow.Author.Rules.{rules}
 use Rattle.book_check.proofs.LineRows.{pool-short, lines-short, pool_left, lines_left}
 use mathlib.Core.Path.{ap}
 use mathlib.Core.Bool.{not}

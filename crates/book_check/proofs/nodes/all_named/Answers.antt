@@ -1,11 +1,8 @@
 -- `all_named` meets its contract. The loop's invariant: what is left from i on decides. Assumes nothing.
-use mathlib.Core.Path.{◌≡◌, refl, sym, ◌∙◌}
-use lib.ListN.{length, drop}
-use Rattle.lists.specs.Each.{every}
+use mathlib.Core.Path.{sym, ◌∙◌}
 use Rattle.book_check.proofs.NodeChecks.{every_stops, every_more, every-ends}
 use Rattle.reading_tokens.specs.Tokens.{named}
 use borrow.Author.Tests.{not-true, not-false}
-use borrow.Author.Rules.{rules}
 use Prim.Native.Nat.{◌-◌}
 use mathlib.Core.Path.{ap}
 use mathlib.Core.Bool.{not}

@@ -1,11 +1,8 @@
 -- `all_named` meets its contract. The loop's invariant: what is left from i on decides. Assumes nothing.
-use mathlib.Core.Path.{◌≡◌, refl, sym, ◌∙◌}
+use mathlib.Core.Path.{◌≡◌}
 use lib.ListN.{length, drop}
 use Rattle.lists.specs.Each.{every}
-use Rattle.book_check.proofs.NodeChecks.{every_stops, every_more, every-ends}
 use Rattle.reading_tokens.specs.Tokens.{named}
-use borrow.Author.Tests.{not-true, not-false}
-use borrow.Author.Rules.{rules}
 use Prim.Native.Nat.{◌-◌}
 use Rattle.book_check.proofs.nodes.all_named.Given as goal
 

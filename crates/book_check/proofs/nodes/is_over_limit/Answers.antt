@@ -1,5 +1,4 @@
 -- `is_over_limit` meets its contract, by the lengths of the names. Assumes nothing.
-use borrow.Author.Rules.{rules}
 use Rattle.book_check.proofs.NodeChecks.{parent-longer, name-longer, both_long}
 use Rattle.book_check.proofs.nodes.is_over_limit.Goals as goal
 

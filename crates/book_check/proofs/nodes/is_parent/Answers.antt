@@ -1,6 +1,5 @@
 -- `is_parent` meets its contract, part by part. Assumes nothing.
 use native.Mathlib.Omega.{arith}
-use borrow.Author.Rules.{rules}
 use Rattle.book_check.proofs.NodeChecks.{parent_none, parent-late, parent-lies, own_lies, parent-long, parent-nowhere, parent-again, parent-ends}
 use Rattle.book_check.proofs.nodes.is_parent.Goals as goal
 

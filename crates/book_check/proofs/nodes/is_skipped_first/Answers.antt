@@ -3,7 +3,6 @@ use mathlib.Core.Path.{refl}
 use Rattle.book_check.proofs.NodeChecks.{first_blank, first_hash, first_other, first_slash}
 use Rattle.linker_script.specs.Skip.{blank}
 use native.Mathlib.Omega.{arith}
-use borrow.Author.Rules.{rules}
 use Rattle.book_check.proofs.nodes.is_skipped_first.Goals as goal
 
 pub returns-then-b-eq13 : goal.returns-then-b-eq13

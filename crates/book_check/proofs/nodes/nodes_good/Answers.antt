@@ -2,9 +2,8 @@
 use Prim.Native.Nat.{◌-◌}
 use mathlib.Core.Path.{◌≡◌}
 use native.Mathlib.Omega.{arith}
-use borrow.Author.Rules.{rules}
 use lib.ListN.{get_or}
-use Rattle.book_check.proofs.NodeChecks.{Judging, nodes_none, root_first, root_second, root_named, root_below, nodes_start, judged_lies, node_misnamed, node_misplaced, nodes_more, nodes_end}
+use Rattle.book_check.proofs.NodeChecks.{nodes_none, root_first, root_second, root_named, root_below, nodes_start, judged_lies, node_misnamed, node_misplaced, nodes_more, nodes_end}
 use mathlib.Core.Path.{ap}
 use mathlib.Core.Bool.{not}
 use Rattle.book_check.proofs.nodes.nodes_good.Goals as goal

@@ -1,10 +1,6 @@
 -- `nodes_good` meets its contract. The loop's invariant: what is left from node i on decides. Assumes nothing.
 use Prim.Native.Nat.{◌-◌}
-use mathlib.Core.Path.{◌≡◌}
-use native.Mathlib.Omega.{arith}
-use borrow.Author.Rules.{rules}
-use lib.ListN.{get_or}
-use Rattle.book_check.proofs.NodeChecks.{Judging, nodes_none, root_first, root_second, root_named, root_below, nodes_start, judged_lies, node_misnamed, node_misplaced, nodes_more, nodes_end}
+use Rattle.book_check.proofs.NodeChecks.{Judging}
 use Rattle.book_check.proofs.nodes.nodes_good.Given as goal
 
 abbrev pub invariant-loop-i : goal.invariant-loop-i

@@ -1,6 +1,5 @@
 -- `nodes_packed` meets its contract, part by part. Assumes nothing.
 use Rattle.book_check.proofs.NodeChecks.{names_lack, rows_lack, rest_bad, rows_decide}
-use borrow.Author.Rules.{rules}
 use Rattle.book_check.proofs.nodes.nodes_packed.Goals as goal
 
 pub returns-then-names-p : goal.returns-then-names-p

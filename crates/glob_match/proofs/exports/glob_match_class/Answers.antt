@@ -1,6 +1,5 @@
 -- `glob_match_class` meets its contract. Assumes nothing.
 use native.Mathlib.Omega.{arith}
-use borrow.Author.Rules.{rules}
 use Rattle.glob_match.proofs.Telling.{class-over, class-within}
 use Rattle.glob_match.proofs.exports.glob_match_class.Goals as goal
 

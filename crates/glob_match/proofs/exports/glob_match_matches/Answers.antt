@@ -1,7 +1,6 @@
 -- `glob_match_matches` meets its contract. Assumes nothing.
 use mathlib.Core.Path.{ap}
 use mathlib.Core.Bool.{not}
-use borrow.Author.Rules.{rules}
 use Rattle.glob_match.proofs.Telling.{pattern_over, name-over, match_over, match_refused, match_not_utf8, match_done}
 use Rattle.glob_match.proofs.exports.glob_match_matches.Goals as goal
 

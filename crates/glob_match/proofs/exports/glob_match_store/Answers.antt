@@ -1,7 +1,6 @@
 -- `glob_match_store` meets its contract. Assumes nothing.
 use Prim.Native.Nat.{◌≤◌}
 use native.Mathlib.Omega.{arith}
-use borrow.Author.Rules.{rules}
 use Rattle.numbers.specs.Classes.{all_class}
 use Rattle.numbers.specs.Limits.{token_limit}
 use Rattle.glob_match.proofs.Telling.{store-refused, store-done, store-small}

@@ -1,5 +1,4 @@
 -- `glob_match_tried` meets its contract. Assumes nothing.
-use borrow.Author.Rules.{rules}
 use Rattle.glob_match.proofs.Telling.{pattern_over, name-over, unasked-over, unasked-done}
 use Rattle.glob_match.proofs.exports.glob_match_tried.Goals as goal
 

@@ -1,7 +1,6 @@
 -- `glob_match_unescape` meets its contract. Assumes nothing.
 use Prim.Native.Nat.{◌≤◌}
 use native.Mathlib.Omega.{arith}
-use borrow.Author.Rules.{rules}
 use Rattle.numbers.specs.Limits.{token_limit}
 use Rattle.glob_match.proofs.Telling.{unescape-over, unescape-refused, unescape-short, unescape-done}
 use Rattle.glob_match.proofs.exports.glob_match_unescape.Goals as goal

@@ -1,8 +1,7 @@
 -- `position_of` meets its contract. The loop's invariant: the place lies ahead, and what is left decides. Assumes nothing.
 use Prim.Native.Nat.{◌-◌}
-use borrow.Author.Rules.{rules}
 use lib.ListN.{length}
-use Rattle.input.proofs.Positioned.{Walked, walk_arrives, walk_ends, walk-line, walk_on, walk-starts}
+use Rattle.input.proofs.Positioned.{Walked}
 use Rattle.input.proofs.positions.position_of.Given as goal
 
 abbrev pub invariant-loop-i : goal.invariant-loop-i

@@ -1,9 +1,7 @@
 -- `find_mark` meets its contract. The loop's invariant: what is found from i on decides. Assumes nothing.
 use Prim.Native.Nat.{◌-◌}
-use mathlib.Core.Path.{◌≡◌, refl}
-use borrow.Author.Rules.{rules}
-use lib.ListN.{length, drop}
-use Rattle.input.specs.Splitting.{mark, mark_in}
+use mathlib.Core.Path.{refl}
+use Rattle.input.specs.Splitting.{mark}
 use Rattle.input.proofs.Marks.{mark_here, mark_none, mark_on}
 use Rattle.input.proofs.splitting.find_mark.Goals as goal
 

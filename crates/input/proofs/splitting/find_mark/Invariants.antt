@@ -1,10 +1,8 @@
 -- `find_mark` meets its contract. The loop's invariant: what is found from i on decides. Assumes nothing.
 use Prim.Native.Nat.{◌-◌}
-use mathlib.Core.Path.{◌≡◌, refl}
-use borrow.Author.Rules.{rules}
+use mathlib.Core.Path.{◌≡◌}
 use lib.ListN.{length, drop}
 use Rattle.input.specs.Splitting.{mark, mark_in}
-use Rattle.input.proofs.Marks.{mark_here, mark_none, mark_on}
 use Rattle.input.proofs.splitting.find_mark.Given as goal
 
 abbrev pub invariant-loop-i : goal.invariant-loop-i

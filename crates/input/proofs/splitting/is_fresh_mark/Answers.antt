@@ -1,6 +1,5 @@
 -- `is_fresh_mark` meets its contract. Assumes nothing.
 use mathlib.Core.Path.{refl}
-use borrow.Author.Rules.{rules}
 use Rattle.input.proofs.splitting.is_fresh_mark.Goals as goal
 
 pub returns-then-fresh : goal.returns-then-fresh

@@ -1,5 +1,4 @@
 -- `is_mark` meets its contract. Assumes nothing.
-use borrow.Author.Rules.{rules}
 use Rattle.input.proofs.Marks.{end_fits, mark_by, mark-ends, no_first, no_second, second_fits}
 use Rattle.input.proofs.splitting.is_mark.Goals as goal
 

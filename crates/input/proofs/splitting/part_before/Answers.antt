@@ -1,5 +1,4 @@
 -- `part_before` meets its contract. Assumes nothing.
-use borrow.Author.Rules.{rules}
 use Rattle.input.proofs.Halves.{before_all, before_count, before_part}
 use Rattle.input.proofs.splitting.part_before.Goals as goal
 

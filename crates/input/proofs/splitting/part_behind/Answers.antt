@@ -1,5 +1,4 @@
 -- `part_behind` meets its contract. Assumes nothing.
-use borrow.Author.Rules.{rules}
 use Rattle.input.proofs.Halves.{behind_none, behind_some}
 use Rattle.input.proofs.splitting.part_behind.Goals as goal
 

@@ -1,5 +1,4 @@
 -- `comment_end` meets its contract. Assumes nothing.
-use borrow.Author.Rules.{rules}
 use Rattle.linker_script.proofs.Skipping.{comment-from}
 use Rattle.linker_script.proofs.comments.comment_end.Goals as goal
 

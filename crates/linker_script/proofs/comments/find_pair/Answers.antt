@@ -1,9 +1,5 @@
 -- `find_pair` meets its contract. The loop's invariant: what is found from i on decides. Assumes nothing.
 use Prim.Native.Nat.{◌-◌}
-use mathlib.Core.Path.{◌≡◌, refl}
-use borrow.Author.Rules.{rules}
-use lib.ListN.{length}
-use Rattle.linker_script.specs.Finding.{first_from, are}
 use Rattle.linker_script.proofs.Searches.{pair_here, pair_on, pair_none}
 use Rattle.linker_script.proofs.comments.find_pair.Goals as goal
 

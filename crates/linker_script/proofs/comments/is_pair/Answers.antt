@@ -1,6 +1,5 @@
 -- `is_pair` meets its contract. Assumes nothing.
 use borrow.Author.Tests.{eq-eqb, ne_eqb}
-use borrow.Author.Rules.{rules}
 use Rattle.linker_script.proofs.comments.is_pair.Goals as goal
 
 pub returns-then-s-i : goal.returns-then-s-i

@@ -1,9 +1,6 @@
 -- `skip_comments_and_whitespace` meets its contract. The loop's invariant: the skip from i on decides. Assumes nothing.
 use Prim.Native.Nat.{◌-◌}
-use mathlib.Core.Path.{◌≡◌, refl}
 use borrow.Author.Rules.{rules}
-use lib.ListN.{length}
-use Rattle.linker_script.specs.Skip.{skip}
 use Rattle.linker_script.proofs.Skipping.{skip-ends, past_blank, past_line, line-opens, line-fits, line_less, stops, past_comment, comment-opens, comment-fits, comment_less}
 use Rattle.linker_script.proofs.comments.skip_comments_and_whitespace.Goals as goal
 

@@ -1,6 +1,4 @@
 -- `block_place` meets its contract. Assumes nothing.
-use native.Mathlib.Omega.{arith}
-use borrow.Author.Rules.{rules}
 use Rattle.linker_script.proofs.Blocks.{block_place, zeros_fit}
 use Rattle.linker_script.proofs.searching.block_place.Goals as goal
 

@@ -1,7 +1,5 @@
 -- `eight_bits` meets its contract. Assumes nothing.
-use native.Mathlib.Omega.{arith}
-use borrow.Author.Rules.{rules}
-use Rattle.linker_script.proofs.Blocks.{Eight, eight_none, eight_on, eight_all}
+use Rattle.linker_script.proofs.Blocks.{Eight}
 use Rattle.linker_script.proofs.searching.eight_bits.Given as goal
 
 abbrev pub invariant-loop-i : goal.invariant-loop-i

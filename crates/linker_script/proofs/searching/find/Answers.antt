@@ -1,10 +1,7 @@
 -- `find` meets its contract. The loops' invariant: what is found from i on decides. Assumes nothing.
 use Prim.Native.Nat.{◌+◌, ◌-◌, ◌≤◌}
-use mathlib.Core.Path.{◌≡◌, refl}
 use native.Mathlib.Omega.{arith}
-use borrow.Author.Rules.{rules}
 use lib.ListN.{length}
-use Rattle.linker_script.specs.Finding.{first_from, is}
 use Rattle.linker_script.proofs.Searches.{find_here, find_on, find_none}
 use Rattle.linker_script.proofs.Blocks.{has_within, block_here, block_on}
 use Rattle.linker_script.proofs.searching.find.Goals as goal

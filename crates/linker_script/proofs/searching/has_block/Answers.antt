@@ -1,5 +1,4 @@
 -- `has_block` meets its contract. Assumes nothing.
-use borrow.Author.Rules.{rules}
 use Rattle.linker_script.proofs.Blocks.{block_within, block_beyond}
 use Rattle.linker_script.proofs.searching.has_block.Goals as goal
 

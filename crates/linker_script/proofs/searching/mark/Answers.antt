@@ -1,5 +1,4 @@
 -- `mark` meets its contract. Assumes nothing.
-use borrow.Author.Rules.{rules}
 use lib.Dec.{eqb}
 use Rattle.linker_script.proofs.Blocks.{mark_byte}
 use Rattle.linker_script.proofs.searching.mark.Goals as goal

@@ -1,5 +1,4 @@
 -- `element_at` meets its contract. Assumes nothing.
-use borrow.Author.Rules.{rules}
 use Rattle.utf8.proofs.Ascii.{walk-within}
 use Rattle.matching.proofs.ElementExits.{element-ends, is_star, is_any, is_bracket, literal-takes, literal-fails}
 use Rattle.matching.proofs.elements.element_at.Goals as goal

@@ -1,8 +1,7 @@
 -- `between_length` meets its contract. The loop's invariant: what it has passed and what is left before the `]` stay as many. Assumes nothing.
 use Prim.Native.Nat.{◌-◌}
-use borrow.Author.Rules.{rules}
 use lib.ListN.{length}
-use Rattle.pattern.proofs.BracketExits.{Scanned, scan-starts, scan-closes, scan-ends, scan-again, between_end}
+use Rattle.pattern.proofs.BracketExits.{Scanned}
 use Rattle.pattern.proofs.bracket.between_length.Given as goal
 
 abbrev pub invariant-loop-i : goal.invariant-loop-i

@@ -1,7 +1,6 @@
 -- `bracket_takes` meets its contract. Assumes nothing.
 use Prim.Native.Nat.{◌+◌, ◌≤◌}
 use native.Mathlib.Omega.{arith}
-use borrow.Author.Rules.{rules}
 use lib.ListN.{length}
 use Rattle.pattern.proofs.BracketExits.{bracket-negated, bracket-plain, bracket-fits}
 use Rattle.pattern.proofs.bracket.bracket_takes.Goals as goal

@@ -1,9 +1,6 @@
 -- `has_member` meets its contract. The loop's invariant: the members that are left decide. Assumes nothing.
 use Prim.Native.Nat.{◌-◌}
-use mathlib.Core.Path.{◌≡◌, refl}
-use borrow.Author.Rules.{rules}
-use lib.ListN.{length}
-use Rattle.pattern.proofs.BracketExits.{holds_from, members_end, members_found, members_again}
+use Rattle.pattern.proofs.BracketExits.{members_end, members_found, members_again}
 use Rattle.pattern.proofs.bracket.has_member.Goals as goal
 
 pub returns-then-m : goal.returns-then-m

@@ -1,5 +1,4 @@
 -- `mark_at` meets its contract. Assumes nothing.
-use borrow.Author.Rules.{rules}
 use Rattle.pattern.proofs.BracketExits.{mark_end, mark-bang, mark-plain, mark-caret, mark_other}
 use Rattle.pattern.proofs.bracket.mark_at.Goals as goal
 

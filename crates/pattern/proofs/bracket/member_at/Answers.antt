@@ -1,5 +1,4 @@
 -- `member_at` meets its contract. Assumes nothing.
-use borrow.Author.Rules.{rules}
 use Rattle.pattern.proofs.BracketExits.{single-plain, single-open, range-from, range_above}
 use Rattle.pattern.proofs.bracket.member_at.Goals as goal
 

@@ -1,6 +1,5 @@
 -- `put_byte_buffer` meets its contract. Assumes nothing.
 use Prim.Native.Nat.{◌+◌, ◌≤◌}
-use borrow.Author.Rules.{rules}
 use lib.ListN.{length, take}
 use native.Mathlib.Omega.{arith}
 use Rattle.printing_book.proofs.Numbers.{buffer_put, few_bytes}

@@ -1,5 +1,4 @@
 -- `put_pair` meets its contract. Assumes nothing.
-use borrow.Author.Rules.{rules}
 use native.Mathlib.Omega.{arith}
 use Rattle.printing_book.proofs.ShownDump.{pair_put}
 use Rattle.printing_book.proofs.Numbers.{few_buffer}

@@ -1,5 +1,4 @@
 -- `put_line` meets its contract. Assumes nothing.
-use borrow.Author.Rules.{rules}
 use native.Mathlib.Omega.{arith}
 use Rattle.book.specs.Books.{with_offset}
 use Rattle.book.specs.Layout.{line_of}

@@ -1,7 +1,6 @@
 -- `show_lines` meets its contract. The loop's invariant: the lines before `i` stand. Assumes nothing.
 use Prim.Native.Nat.{◌-◌}
-use borrow.Author.Rules.{rules}
-use Rattle.printing_book.proofs.ShownLines.{Listed, line-fits, line-lies, line-listed, lines_end, lines_start}
+use Rattle.printing_book.proofs.ShownLines.{line-fits, line-lies, line-listed, lines_end, lines_start}
 use Rattle.printing_book.proofs.lines.show_lines.Goals as goal
 
 pub loop-i-init : goal.loop-i-init

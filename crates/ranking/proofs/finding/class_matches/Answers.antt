@@ -1,5 +1,4 @@
 -- `class_matches` meets its contract: each class is asked as its definition asks it. Assumes nothing.
-use borrow.Author.Rules.{rules}
 use borrow.Author.Tests.{eq-eqb, ne_eqb, le-leb, lt-leb}
 use Rattle.matching.specs.Tests.{match_of}
 use Rattle.ranking.specs.Matching.{class_matches}

@@ -3,7 +3,7 @@ use Prim.Native.Nat.{◌-◌, ◌≤◌, ◌<◌}
 use native.Mathlib.Omega.{arith}
 use borrow.Author.Rules.{rules}
 use Rattle.book.proofs.LineRows.{row-code, row-node}
-use Rattle.ranking.proofs.Leading.{Seeking, seek_starts, seek_row, seek_lies, seek_short, seek_behind, seek_better, seek_other, seek_nothing, seek_line}
+use Rattle.ranking.proofs.Leading.{seek_starts, seek_row, seek_lies, seek_short, seek_behind, seek_better, seek_other, seek_nothing, seek_line}
 use Rattle.ranking.proofs.finding.find_match.Goals as goal
 
 pub loop-i-init : goal.loop-i-init

@@ -1,9 +1,6 @@
 -- `find_match` meets its contract. The loop's invariant: `line` leads among the lines that are passed, and `best` is its rank. Assumes nothing.
-use Prim.Native.Nat.{◌-◌, ◌≤◌, ◌<◌}
-use native.Mathlib.Omega.{arith}
-use borrow.Author.Rules.{rules}
-use Rattle.book.proofs.LineRows.{row-code, row-node}
-use Rattle.ranking.proofs.Leading.{Seeking, seek_starts, seek_row, seek_lies, seek_short, seek_behind, seek_better, seek_other, seek_nothing, seek_line}
+use Prim.Native.Nat.{◌-◌}
+use Rattle.ranking.proofs.Leading.{Seeking}
 use Rattle.ranking.proofs.finding.find_match.Given as goal
 
 abbrev pub invariant-loop-i : goal.invariant-loop-i

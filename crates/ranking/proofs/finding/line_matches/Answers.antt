@@ -1,5 +1,4 @@
 -- `line_matches` meets its contract: a struck line matches nothing, and the language picks the name. Assumes nothing.
-use borrow.Author.Rules.{rules}
 use Rattle.ranking.proofs.LineTests.{match_struck, match_demangled, match_raw}
 use Rattle.ranking.proofs.finding.line_matches.Goals as goal
 

@@ -1,7 +1,6 @@
 -- `name_refusal` meets its contract, by the laws of NameTests. Assumes nothing.
 use Prim.Native.Nat.{◌≤◌, ◌<◌}
 use native.Mathlib.Omega.{arith}
-use borrow.Author.Rules.{rules}
 use lib.ListN.{length}
 use Rattle.numbers.specs.Limits.{name_limit, raw_name_limit}
 use Rattle.ranking.proofs.NameTests.{raw-over, demangled-over, other_over, raw_bad, demangled_bad, names_good}

@@ -1,6 +1,5 @@
 -- `bracket_length` meets its contract. Assumes nothing.
 use native.Mathlib.Omega.{arith}
-use borrow.Author.Rules.{rules}
 use Rattle.storing.proofs.Squeezing.{from-fits, part-fits, past_fits, bracket_is}
 use Rattle.storing.proofs.runs.bracket_length.Goals as goal
 

@@ -1,6 +1,5 @@
 -- `has_room` meets its contract. Assumes nothing.
 use native.Mathlib.Omega.{arith}
-use borrow.Author.Rules.{rules}
 use Rattle.storing.proofs.Squeezing.{token-fits, kept-fits}
 use Rattle.storing.proofs.runs.has_room.Goals as goal
 

@@ -1,9 +1,7 @@
 -- `is_as_stored` meets its contract. The loop's invariant: what is left from i on decides. Assumes nothing.
 use Prim.Native.Nat.{◌-◌}
-use borrow.Author.Rules.{rules}
 use lib.ListN.{length}
-use Rattle.storing.proofs.Plain.{plain-unchanged}
-use Rattle.storing.proofs.Squeezing.{Unchanged, unchanged_none, unchanged_less, unchanged_other, unchanged_more, unchanged_all}
+use Rattle.storing.proofs.Squeezing.{Unchanged}
 use Rattle.storing.proofs.runs.is_as_stored.Given as goal
 
 abbrev pub invariant-loop-i : goal.invariant-loop-i

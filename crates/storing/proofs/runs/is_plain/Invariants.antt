@@ -1,9 +1,7 @@
 -- `is_plain` meets its contract. The loop's invariant: what is left from i on decides. Assumes nothing.
 use Prim.Native.Nat.{◌-◌}
-use native.Mathlib.Omega.{arith}
-use borrow.Author.Rules.{rules}
 use lib.ListN.{length}
-use Rattle.storing.proofs.Plain.{Plain, plain_none, plain_stops, plain_more, plain_all}
+use Rattle.storing.proofs.Plain.{Plain}
 use Rattle.storing.proofs.runs.is_plain.Given as goal
 
 abbrev pub invariant-loop-i : goal.invariant-loop-i

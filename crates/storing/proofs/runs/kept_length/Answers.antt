@@ -1,9 +1,6 @@
 -- `kept_length` meets its contract. The loop's invariant: the bytes counted, with those that are left, are all. Assumes nothing.
 use Prim.Native.Nat.{◌-◌}
-use native.Mathlib.Omega.{arith}
-use borrow.Author.Rules.{rules}
-use lib.ListN.{length}
-use Rattle.storing.proofs.Squeezing.{Kept, kept_none, kept_more, kept_less, kept_all}
+use Rattle.storing.proofs.Squeezing.{kept_none, kept_more, kept_less, kept_all}
 use Rattle.storing.proofs.runs.kept_length.Goals as goal
 
 pub loop-i-init : goal.loop-i-init

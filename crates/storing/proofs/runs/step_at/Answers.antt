@@ -1,5 +1,4 @@
 -- `step_at` meets its contract. Assumes nothing.
-use borrow.Author.Rules.{rules}
 use Rattle.storing.proofs.Squeezing.{step-within, step-star, step-bracket, step_other}
 use Rattle.storing.proofs.runs.step_at.Goals as goal
 

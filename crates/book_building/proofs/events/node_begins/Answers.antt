@@ -1,0 +1,8 @@
+-- `node_begins` meets its contract. Assumes nothing.
+use Rattle.book_building.proofs.TakenEvents.{handed}
+use Rattle.book_building.proofs.events.node_begins.Goals as goal
+
+pub returns : goal.returns
+returns c =
+    let a = c.args in
+    rw (handed a.s.now a.p a.n) at c.take_node.ensures

@@ -1,0 +1,5 @@
+-- `tuno_locality` meets its contract, which is that of the function that it calls. Assumes nothing.
+use Rattle.c_api.proofs.questions.tuno_locality.Goals as goal
+
+pub returns : goal.returns
+returns c = c.locality.ensures
