@@ -1,6 +1,6 @@
 /* Tunoyaket for C (C99 on) and C++ programs: linker version scripts and export lists, read, asked
  * and edited. The functions are those of crates/c_api, proved to answer what its contracts say on
- * every input. Link with the archive that `rt staticlib c_api` makes, target/staticlib/libc_api.a
+ * every input. Link with the archive that `./archive c_api` makes, target/staticlib/libc_api.a
  * (x86-64).
  *
  * A slice is a pointer, then a length, which counts elements: bytes, or numbers of 32 bits.

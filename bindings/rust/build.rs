@@ -1,5 +1,5 @@
 //! Links the proved library's archive: the one that `TUNOYAKET_C_ARCHIVE` names, else the one that
-//! `rt staticlib c_api` makes in this repository. A relative path is taken from this package's
+//! `./archive c_api` makes in this repository. A relative path is taken from this package's
 //! folder, whence cargo runs this: it does not tell where it was called.
 
 use std::env;
@@ -15,7 +15,7 @@ fn main() {
     let archive = PathBuf::from(given("CARGO_MANIFEST_DIR")).join(named);
     assert!(
         archive.is_file(),
-        "{} is not there: run `rt staticlib c_api` in the repository, or set {VARIABLE} to the \
+        "{} is not there: run `./archive c_api` in the repository, or set {VARIABLE} to the \
          archive's whole path, since a relative one is taken from the package's folder",
         archive.display()
     );

@@ -35,7 +35,7 @@
 //!
 //! # Building
 //!
-//! The crate links the library's archive, for x86-64. `rt staticlib c_api` makes it in the
+//! The crate links the library's archive, for x86-64. `./archive c_api` makes it in the
 //! repository, where it is looked for; the environment variable `TUNOYAKET_C_ARCHIVE` names another
 //! place, by its whole path: a relative one is taken from this crate's folder. `cargo doc` needs
 //! the archive too. No other crate is needed.

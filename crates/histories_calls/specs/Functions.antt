@@ -55,8 +55,7 @@ opens (list f) =
     let (_, (n', (m', (l', (p', (j', _)))))) = exit f in
     opening_seen as_list (five n.now m.now l.now p.now j.now) s.now f.answered (five n'.now m'.now l'.now p'.now j'.now)
 
--- ---- edits. `undo`, to which the counts are lent, is proved by a walk by hand: its promise is the one that its clauses are shown to say (`undo-says` of
--- `uniqueness`)
+-- ---- edits. Of `undo`, to which the counts are lent, the promise is the one that its clauses are shown to say (`undo-says` of `uniqueness`)
 pub data EditRun : Type 0 where
   add_run : RunOf add.ended add_reads.Post → EditRun
   strike_run : RunOf strike.ended strike_reads.Post → EditRun

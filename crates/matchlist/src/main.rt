@@ -1,31 +1,32 @@
 // Which names does a token match? Standard input (65,536 bytes at most): the token's line, taken as it stands, then one name a line; a last LF may lack. It
 // prints the token's class and what is stored of it, then for each name whether the token matches: `yes`, `no`, or `!` and 9 where the name is not
 // UTF-8. A token that is refused prints `refused` and the number, and standard error says what the number means.
+#![tactic(auto)]
+
 use classes::Class;
-use libc::{STDIN_FILENO, STDOUT_FILENO};
-use meanings::{front, say, say_meaning};
+use meanings::{front, line_end, read_input, say, say_meaning};
 use numbers::Edition;
+use std::io;
+use std::io::Print;
 use storing::Stored;
 
-fn print(bytes: &[u8]) {
-    io::write_all(STDOUT_FILENO, bytes);
+fn print(to: &impl Print, bytes: &[u8]) -> io::Result<()> {
+    to.write_all(bytes)
 }
 
-fn refuse(no: u32) {
-    print(b"refused ");
-    io::print_decimal(STDOUT_FILENO, no as u64);
-    print(b"\n");
-    say(b"matchlist: ");
-    say_meaning(no);
+fn refuse(to: &impl Print, err: &impl Print, no: u32) -> io::Result<()> {
+    println!(to; "refused {no}")?;
+    say(err, b"matchlist: ")?;
+    say_meaning(err, no)
 }
 
-fn print_class(class: Class) {
+fn print_class(to: &impl Print, class: Class) -> io::Result<()> {
     match class {
-        Class::Exact => print(b"Exact "),
-        Class::Escaped => print(b"Escaped "),
-        Class::NonStar => print(b"NonStar "),
-        Class::Star => print(b"Star "),
-        Class::All => print(b"All "),
+        Class::Exact => print(to, b"Exact "),
+        Class::Escaped => print(to, b"Escaped "),
+        Class::NonStar => print(to, b"NonStar "),
+        Class::Star => print(to, b"Star "),
+        Class::All => print(to, b"All "),
     }
 }
 
@@ -49,35 +50,39 @@ fn is_all(class: Class) -> bool {
     }
 }
 
-fn print_answer(matched: bool) {
+fn print_answer(to: &impl Print, matched: bool) -> io::Result<()> {
     if matched {
-        print(b" yes\n");
+        print(to, b" yes\n")
     } else {
-        print(b" no\n");
+        print(to, b" no\n")
     }
 }
 
-fn print_name(class: Class, stored: &[u8], name: &[u8]) {
-    print(name);
+fn print_name(to: &impl Print, class: Class, stored: &[u8], name: &[u8]) -> io::Result<()> {
+    print(to, name)?;
     if !utf8::is_utf8(name) {
-        return print(b" ! 9\n");
+        return print(to, b" ! 9\n");
     }
     if is_all(class) {
-        return print_answer(true);
+        return print_answer(to, true);
     }
     if is_glob(class) {
-        return print_answer(glob_match::exports::glob_match_matches(stored, name) == 256);
+        return print_answer(
+            to,
+            glob_match::exports::glob_match_matches(stored, name) == 256,
+        );
     }
-    print_answer(check::same(stored, name));
+    print_answer(to, stored == name)
 }
 
-fn print_names(class: Class, stored: &[u8], text: &[u8]) {
+fn print_names(to: &impl Print, class: Class, stored: &[u8], text: &[u8]) -> io::Result<()> {
     let mut at = 0;
     while at < text.len() {
-        let end = bytes::scan::find(text, at, text.len(), b'\n');
-        print_name(class, stored, &text[at..end]);
+        let end = line_end(text, at);
+        print_name(to, class, stored, &text[at..end])?;
         at = end + 1;
     }
+    Ok(())
 }
 
 // What stands from a place of s on, or nothing.
@@ -88,26 +93,26 @@ fn behind(s: &[u8], at: usize) -> &[u8] {
     &s[..0]
 }
 
-fn print_all(text: &[u8], room: &mut [u8]) {
-    let end = bytes::scan::find(text, 0, text.len(), b'\n');
+fn print_all(to: &impl Print, err: &impl Print, text: &[u8], room: &mut [u8]) -> io::Result<()> {
+    let end = line_end(text, 0);
     match storing::store_token(Edition::Reld, front(text, end), room) {
-        Stored::Refused(no) => refuse(no),
+        Stored::Refused(no) => refuse(to, err, no),
         Stored::As(class, n) => {
-            print_class(class);
-            print(front(room, n));
-            print(b"\n");
-            print_names(class, front(room, n), behind(text, end + 1));
+            print_class(to, class)?;
+            print(to, front(room, n))?;
+            print(to, b"\n")?;
+            print_names(to, class, front(room, n), behind(text, end + 1))
         }
     }
 }
 
-fn main() {
+fn main(rt: HostRuntime) -> io::Result<()> {
+    let err = rt.stderr();
     let mut text = [0u8; 65537];
     let mut room = [0u8; 65536];
-    let n = io::read_full(STDIN_FILENO, &mut text);
+    let n = read_input(&mut rt.stdin(), &mut text)?;
     if 65536 < n {
-        refuse(1);
-        return;
+        return refuse(&rt, &err, 1);
     }
-    print_all(front(&text, n), &mut room);
+    print_all(&rt, &err, front(&text, n), &mut room)
 }

@@ -1,9 +1,16 @@
 // What the programs share that replay cases with the answers that they are to have: the fields of a case's line, the file of the cases, the walk through its
 // lines, and what is printed. A program goes through the lines, answers each, and hands over whether the answer is the same. Definitions: specs/Walks.antt.
-ghost use Rattle.std.specs.Prelude.{◌+◌, ◌<◌, ◌≤◌, ◌≡◌, length};
+#![tactic(auto)]
+
+ghost use Rattle.std.specs.Prelude.{◌+◌, ◌<◌, ◌≤◌, ◌≡◌, length, IfOk};
 ghost use Rattle.replay.specs.Walks.{Further, Walks};
 
-use libc::STDOUT_FILENO;
+use input::splitting::part_before;
+use linker_script::trim_ascii_end;
+use meanings::{front, line_end, read_input, say};
+use std::io::{Cursor, Print, Write};
+use std::rt::Files;
+use std::{fs, io};
 
 // The value of a hex digit, 16 for any other byte.
 pub fn hex_digit(b: u8) -> u8
@@ -105,31 +112,42 @@ pub fn read_field(line: &[u8], from: usize) -> Field
     }
 }
 
-// Reads the cases, and answers how many bytes they are.
-pub fn read_cases(text: &mut [u8]) -> usize {
-    let fd = os::open_read(b"cases.txt");
-    if fd < 0 {
-        os::fail(b"cases.txt");
-        return 0;
+// Why the cases were not opened, for a person: the system's words, without the number that `std` puts behind them in parentheses.
+fn say_unopened(err: &impl Print, why: io::Error) -> io::Result<()> {
+    let mut text = Cursor::new([0u8; 320]);
+    write!(text, "{why}")?;
+    let bytes = text.into_inner();
+    say(err, b"cases.txt: ")?;
+    say(err, trim_ascii_end(part_before(&bytes, b'(')))?;
+    say(err, b"\n")
+}
+
+// Reads the cases, and answers how many bytes they are: none where they cannot be opened, and then the standard error `err` says why.
+pub fn read_cases<R: Files>(rt: &R, err: &impl Print, text: &mut [u8]) -> io::Result<usize>
+    ensures { IfOk result (λ n. n ≤ length text.new) }
+{
+    match fs::open(rt, "cases.txt") {
+        Ok(mut file) => read_input(&mut file, text),
+        Err(why) => {
+            say_unopened(err, why)?;
+            Ok(0)
+        }
     }
-    let n = io::read_full(fd, text);
-    libc::close(fd);
-    n
 }
 
-fn print(bytes: &[u8]) {
-    io::write_all(STDOUT_FILENO, bytes);
+fn print(to: &impl Print, bytes: &[u8]) -> io::Result<()> {
+    to.write_all(bytes)
 }
 
-fn print_count(label: &[u8], n: u64) {
-    print(label);
-    io::print_decimal(STDOUT_FILENO, n);
+fn print_count(to: &impl Print, label: &[u8], n: u64) -> io::Result<()> {
+    print(to, label)?;
+    print!(to; "{n}")
 }
 
 // Names a case that differs by its line.
-fn print_different(line: u64) {
-    print_count(b"different: line ", line);
-    print(b"\n");
+fn print_different(to: &impl Print, line: u64) -> io::Result<()> {
+    print_count(to, b"different: line ", line)?;
+    print(to, b"\n")
 }
 
 // Where the next line begins, how many lines were met, how many of them are cases, and how many of those differ.
@@ -158,8 +176,7 @@ pub fn line_at(text: &[u8], from: usize) -> &[u8] {
     if text.len() < from {
         return &text[0..0];
     }
-    let end = bytes::scan::find(text, from, text.len(), b'\n');
-    &text[from..end]
+    &text[from..line_end(text, from)]
 }
 
 // Behind the next line.
@@ -167,10 +184,8 @@ pub fn passed(text: &[u8], w: Walk) -> Walk
     requires { Walks (length text.now) w × (w.at < length text.now) }
     ensures { Further (length text.now) w.at result × (result.cases < result.lines) }
 {
-    let at = w.at;
-    let end = bytes::scan::find(text, at, text.len(), b'\n');
     Walk {
-        at: end + 1,
+        at: line_end(text, w.at) + 1,
         lines: w.lines + 1,
         cases: w.cases,
         different: w.different,
@@ -178,33 +193,33 @@ pub fn passed(text: &[u8], w: Walk) -> Walk
 }
 
 // The line that was passed is a case, and its answer is the same or is not: then the line is named.
-pub fn counted(w: Walk, same: bool) -> Walk
+pub fn counted(to: &impl Print, w: Walk, same: bool) -> io::Result<Walk>
     requires { (w.cases < w.lines) × (w.different ≤ w.cases) }
-    ensures { (result.at ≡ w.at) × (result.lines ≡ w.lines) × (result.cases ≤ w.lines) × (result.different ≤ result.cases) }
+    ensures { IfOk result (λ r. (r.at ≡ w.at) × (r.lines ≡ w.lines) × (r.cases ≤ w.lines) × (r.different ≤ r.cases)) }
 {
     let cases = w.cases + 1;
     if same {
-        return Walk {
+        return Ok(Walk {
             at: w.at,
             lines: w.lines,
             cases,
             different: w.different,
-        };
+        });
     }
-    print_different(w.lines);
-    Walk {
+    print_different(to, w.lines)?;
+    Ok(Walk {
         at: w.at,
         lines: w.lines,
         cases,
         different: w.different + 1,
-    }
+    })
 }
 
 // How many cases are the same, and how many are not.
-pub fn print_counts(w: Walk)
+pub fn print_counts(to: &impl Print, w: Walk) -> io::Result<()>
     requires { w.different ≤ w.cases }
 {
-    print_count(b"same ", w.cases - w.different);
-    print_count(b" different ", w.different);
-    print(b"\n");
+    print_count(to, b"same ", w.cases - w.different)?;
+    print_count(to, b" different ", w.different)?;
+    print(to, b"\n")
 }

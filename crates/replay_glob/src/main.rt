@@ -4,7 +4,9 @@
 //     U pattern unescaped
 //     S token class stored, or S token ! refusal
 //     M stored name 0 or 1
-ghost use Rattle.std.specs.Prelude.{◌≤◌};
+#![tactic(auto)]
+
+ghost use Rattle.std.specs.Prelude.{◌≤◌, IfOk};
 
 use glob_match::exports::{
     glob_match_class, glob_match_matches, glob_match_store, glob_match_unescape,
@@ -14,6 +16,8 @@ use replay::{
     Walk, byte_or_zero, counted, digit, line_at, passed, print_counts, read_cases, read_field,
     start,
 };
+use std::io;
+use std::io::Print;
 
 // What an untouched byte of an output buffer holds.
 const GUARD: u8 = 0xA5;
@@ -97,19 +101,19 @@ fn same_line(line: &[u8]) -> bool {
     same_pattern(tag, first, line, at)
 }
 
-fn replay(text: &[u8]) -> Walk
-    ensures { result.different ≤ result.cases }
+fn replay(to: &impl Print, text: &[u8]) -> io::Result<Walk>
+    ensures { IfOk result (λ r. r.different ≤ r.cases) }
 {
     let mut walk = start(text);
     while walk.at < text.len() {
         let same = same_line(line_at(text, walk.at));
-        walk = counted(passed(text, walk), same);
+        walk = counted(to, passed(text, walk), same)?;
     }
-    walk
+    Ok(walk)
 }
 
-fn main() {
+fn main(rt: HostRuntime) -> io::Result<()> {
     let mut text = [0u8; 262144];
-    let n = read_cases(&mut text);
-    print_counts(replay(front(&text, n)));
+    let n = read_cases(&rt, &rt.stderr(), &mut text)?;
+    print_counts(&rt, replay(&rt, front(&text, n))?)
 }

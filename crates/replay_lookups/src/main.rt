@@ -7,7 +7,9 @@
 //     W raw demangled wanted index    with a wanted version, `!` where it is unknown
 //     L raw demangled locality        0 for nothing, 1 for global, 2 for local
 //     C raw demangled 0|1             whether it is in the list
-ghost use Rattle.std.specs.Prelude.{◌≤◌, ◌<◌, length};
+#![tactic(auto)]
+
+ghost use Rattle.std.specs.Prelude.{◌≤◌, ◌<◌, length, IfOk};
 ghost use Rattle.replay.specs.Walks.{Further, Onward, Walks};
 
 use book::Counts;
@@ -24,6 +26,8 @@ use replay::{
     Walk, byte_or_zero, counted, digit, line_at, passed, print_counts, read_cases, read_field,
     start,
 };
+use std::io;
+use std::io::Print;
 
 // An answer that no case has.
 const OTHER: u8 = b'?';
@@ -168,6 +172,7 @@ fn same_question(
 
 // The questions from a place on, up to the next text.
 fn ask_all(
+    to: &impl Print,
     text: &[u8],
     from: Walk,
     c: Counts,
@@ -176,20 +181,20 @@ fn ask_all(
     rows: &[u32],
     pool: &[u8],
     journal: &[u32],
-) -> Walk
+) -> io::Result<Walk>
     requires { Walks (length text.now) from }
-    ensures { Onward (length text.now) from.at result }
+    ensures { IfOk result (λ r. Onward (length text.now) from.at r) }
 {
     let mut walk = from;
     while walk.at < text.len() {
         let line = line_at(text, walk.at);
         if byte_or_zero(line, 0) == b'S' {
-            return walk;
+            return Ok(walk);
         }
         let same = same_question(line, c, nodes, names, rows, pool, journal);
-        walk = counted(passed(text, walk), same);
+        walk = counted(to, passed(text, walk), same)?;
     }
-    walk
+    Ok(walk)
 }
 
 fn open(
@@ -284,9 +289,9 @@ fn open_text(line: &[u8]) -> Book {
     open_book(line, field.next, source, front(&bytes, n))
 }
 
-fn ask_book(text: &[u8], from: Walk, book: Book) -> Walk
+fn ask_book(to: &impl Print, text: &[u8], from: Walk, book: Book) -> io::Result<Walk>
     requires { Walks (length text.now) from }
-    ensures { Onward (length text.now) from.at result }
+    ensures { IfOk result (λ r. Onward (length text.now) from.at r) }
 {
     let nodes = book.nodes;
     let names = book.names;
@@ -294,6 +299,7 @@ fn ask_book(text: &[u8], from: Walk, book: Book) -> Walk
     let pool = book.pool;
     let journal = book.journal;
     ask_all(
+        to,
         text,
         from,
         book.counts,
@@ -306,28 +312,28 @@ fn ask_book(text: &[u8], from: Walk, book: Book) -> Walk
 }
 
 // A text, and the questions that are asked of it.
-fn replay_text(text: &[u8], from: Walk) -> Walk
+fn replay_text(to: &impl Print, text: &[u8], from: Walk) -> io::Result<Walk>
     requires { Walks (length text.now) from × (from.at < length text.now) }
-    ensures { Further (length text.now) from.at result }
+    ensures { IfOk result (λ r. Further (length text.now) from.at r) }
 {
     let book = open_text(line_at(text, from.at));
     let same = book.same;
-    let walk = counted(passed(text, from), same);
-    ask_book(text, walk, book)
+    let walk = counted(to, passed(text, from), same)?;
+    ask_book(to, text, walk, book)
 }
 
-fn replay(text: &[u8]) -> Walk
-    ensures { result.different ≤ result.cases }
+fn replay(to: &impl Print, text: &[u8]) -> io::Result<Walk>
+    ensures { IfOk result (λ r. r.different ≤ r.cases) }
 {
     let mut walk = start(text);
     while walk.at < text.len() {
-        walk = replay_text(text, walk);
+        walk = replay_text(to, text, walk)?;
     }
-    walk
+    Ok(walk)
 }
 
-fn main() {
+fn main(rt: HostRuntime) -> io::Result<()> {
     let mut text = [0u8; 262144];
-    let n = read_cases(&mut text);
-    print_counts(replay(front(&text, n)));
+    let n = read_cases(&rt, &rt.stderr(), &mut text)?;
+    print_counts(&rt, replay(&rt, front(&text, n))?)
 }

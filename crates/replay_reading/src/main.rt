@@ -10,7 +10,9 @@
 //     L section language class, bytes    a line, the bytes as they are stored
 //     C                                  the end of the extern block
 //     P parent                           the end of the node, and its parent's text
-ghost use Rattle.std.specs.Prelude.{◌+◌, ◌≤◌, length};
+#![tactic(auto)]
+
+ghost use Rattle.std.specs.Prelude.{◌+◌, ◌≤◌, length, IfOk};
 
 use glob_match::exports::glob_match_store;
 use meanings::front;
@@ -20,6 +22,8 @@ use replay::{
     Walk, byte_or_zero, counted, digit, line_at, passed, print_counts, read_cases, read_field,
     start,
 };
+use std::io;
+use std::io::Print;
 
 // The kinds of the rows.
 const NODE: u64 = 1;
@@ -248,19 +252,19 @@ fn same_line(line: &[u8]) -> bool {
     same_accepted(line, at, text, rows_of(&rows, told / 256))
 }
 
-fn replay(text: &[u8]) -> Walk
-    ensures { result.different ≤ result.cases }
+fn replay(to: &impl Print, text: &[u8]) -> io::Result<Walk>
+    ensures { IfOk result (λ r. r.different ≤ r.cases) }
 {
     let mut walk = start(text);
     while walk.at < text.len() {
         let same = same_line(line_at(text, walk.at));
-        walk = counted(passed(text, walk), same);
+        walk = counted(to, passed(text, walk), same)?;
     }
-    walk
+    Ok(walk)
 }
 
-fn main() {
+fn main(rt: HostRuntime) -> io::Result<()> {
     let mut text = [0u8; 262144];
-    let n = read_cases(&mut text);
-    print_counts(replay(front(&text, n)));
+    let n = read_cases(&rt, &rt.stderr(), &mut text)?;
+    print_counts(&rt, replay(&rt, front(&text, n))?)
 }

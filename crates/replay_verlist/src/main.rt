@@ -5,14 +5,17 @@
 //     \x and two hex digits of small letters is a byte
 //     \(N text\)      is the text N times, a blank behind the number; one does not stand within another
 // and `\` before any other byte is that byte.
-ghost use Rattle.std.specs.Prelude.{◌≡◌, ◌+◌, ◌-◌, ◌≤◌, ◌<◌, length};
+#![tactic(auto)]
 
-use libc::STDOUT_FILENO;
+ghost use Rattle.std.specs.Prelude.{◌≡◌, ◌+◌, ◌-◌, ◌≤◌, ◌<◌, length, IfOk};
+
 use meanings::front;
 use printing_listing::render_listing;
 use replay::{
     Walk, byte_or_zero, counted, digit, hex_digit, line_at, passed, print_counts, read_cases, start,
 };
+use std::io;
+use std::io::Print;
 
 // The largest number that is read: more than any case has.
 const MOST: u64 = 100000;
@@ -223,15 +226,15 @@ fn same_output(told: &[u8], output: &[u8]) -> bool {
 }
 
 // What came, where it differs.
-fn show(told: &[u8], same: bool) {
+fn show(to: &impl Print, told: &[u8], same: bool) -> io::Result<()> {
     if same {
-        return;
+        return Ok(());
     }
-    io::write_all(STDOUT_FILENO, front(told, SHOWN));
+    to.write_all(front(told, SHOWN))
 }
 
-fn replay(text: &[u8], out: &mut [u8]) -> Walk
-    ensures { result.different ≤ result.cases }
+fn replay(to: &impl Print, text: &[u8], out: &mut [u8]) -> io::Result<Walk>
+    ensures { IfOk result (λ r. r.different ≤ r.cases) }
 {
     let mut walk = start(text);
     while walk.at < text.len() {
@@ -243,10 +246,10 @@ fn replay(text: &[u8], out: &mut [u8]) -> Walk
         let output = line_at(text, walk.at);
         let n = list_case(input, output, out);
         let same = same_output(front(out, n), output);
-        walk = counted(walk, same);
-        show(front(out, n), same);
+        walk = counted(to, walk, same)?;
+        show(to, front(out, n), same)?;
     }
-    walk
+    Ok(walk)
 }
 
 // Room for what the longest input prints: 48 bytes, and 15 for each of 65,537.
@@ -256,15 +259,15 @@ fn output_room() -> [u8; 983104]
     [0; 983104]
 }
 
-fn replay_all(text: &[u8]) -> Walk
-    ensures { result.different ≤ result.cases }
+fn replay_all(to: &impl Print, text: &[u8]) -> io::Result<Walk>
+    ensures { IfOk result (λ r. r.different ≤ r.cases) }
 {
     let mut out = output_room();
-    replay(text, &mut out)
+    replay(to, text, &mut out)
 }
 
-fn main() {
+fn main(rt: HostRuntime) -> io::Result<()> {
     let mut text = [0u8; 65536];
-    let n = read_cases(&mut text);
-    print_counts(replay_all(front(&text, n)));
+    let n = read_cases(&rt, &rt.stderr(), &mut text)?;
+    print_counts(&rt, replay_all(&rt, front(&text, n))?)
 }

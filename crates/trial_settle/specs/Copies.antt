@@ -1,6 +1,6 @@
 -- What a settle copies, request 04: "Copy nothing before the first struck line, and copy each later byte once. Answers, rows and pool afterwards are what they
 -- were." What they were is `settled` (trial/specs/Trial.antt). Here stand the copies, of bytes within the pool and of rows within the rows, and what holds of
--- them, `SettleCopies`, which proofs/CopyLaws.antt proves. How many the code answers that it made: specs/Lines.antt. Assumes nothing.
+-- them, `SettleCopies`, which proofs/CopyLaws.antt proves. They are of lists: no function answers yet how many it made. Assumes nothing.
 use Rattle.std.specs.Prelude.{ℕ, zero, suc, ◌+◌, ◌≡◌, List, [], ◌∷◌, ◌++◌, map, Bool, true, false, cond, ◌&&◌, not, eqb, leb, ltb, length, drop, get_or, set}
 use Rattle.lists.specs.Each.{every}
 use Rattle.packing.specs.Tables.{packed}

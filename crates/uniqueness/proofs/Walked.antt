@@ -1,5 +1,5 @@
--- What is proved by a walk by hand leaves one answer and one end state: reader and `trial_undo::undo`. No promise is read off their clauses for callers, so each is
--- written out (specs/Promises.antt) and shown here to be what the clauses say. Assumes nothing.
+-- reader and `trial_undo::undo` leave one answer and one end state. Their promises are written out (specs/Promises.antt), and shown here to be what their clauses
+-- say. Assumes nothing.
 use mathlib.Core.Path.{refl}
 use Rattle.uniqueness.specs.Unique.{Says, Unique}
 use Rattle.uniqueness.specs.Promises.{New, Next, Step, Undo}

@@ -1,5 +1,5 @@
--- Promises that are written out: the one that is no plain equation of the answer, and those of what is proved by a walk by hand, since no promise is read off
--- such a function's clauses for callers. Of these a are the arguments, r is the answer, and e are the parameters at exit. Assumes nothing.
+-- Promises that are written out: the one that is no plain equation of the answer, and those of reader and of `trial_undo::undo`, which proofs/Walked.antt shows
+-- to be what their clauses say. Of these a are the arguments, r is the answer, and e are the parameters at exit. Assumes nothing.
 use Rattle.std.specs.Prelude.{ℕ, ◌≤◌, ◌≡◌, List, length, take}
 use Rattle.linker_script.specs.Trim.{trim_end}
 use Rattle.reading.specs.Scripts.{next as next_of}

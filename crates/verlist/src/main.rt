@@ -1,13 +1,16 @@
 // The version and locality of symbols under a version script, as document 01 describes it. Standard input (65,536 bytes at most): the script, a line `%%`, then
 // one symbol a line, `@` before a wanted version. What is printed is rendered whole by `printing_listing::render_listing`. Where the script is refused,
 // standard error says where, and what the number means.
+#![tactic(auto)]
+
 ghost use Rattle.std.specs.Prelude.{◌≡◌};
 ghost use Rattle.printing_listing.specs.Listing.{listed, out_left, verlist_room};
 
-use libc::{STDIN_FILENO, STDOUT_FILENO};
-use meanings::{front, say_refused};
+use meanings::{front, read_input, say_refused};
 use printing_listing::render_listing;
 use printing_listing::script::Listed;
+use std::io;
+use std::io::Print;
 
 // What is printed for an input, rendered into `out`, in 01's room: "1,024 nodes, 2,048 lines, 65,536 bytes each of names and pool".
 fn render(text: &[u8], out: &mut [u8; 983104]) -> Listed
@@ -30,21 +33,27 @@ fn render(text: &[u8], out: &mut [u8; 983104]) -> Listed
     )
 }
 
-fn print_listing(text: &[u8], out: &mut [u8; 983104]) {
+fn print_listing(
+    to: &impl Print,
+    err: &impl Print,
+    text: &[u8],
+    out: &mut [u8; 983104],
+) -> io::Result<()> {
     let listed = render(text, out);
-    io::write_all(STDOUT_FILENO, front(out, listed.length));
+    to.write_all(front(out, listed.length))?;
     if listed.refusal != 0 {
-        say_refused(b"verlist: ", text, listed.place, listed.refusal);
+        return say_refused(err, b"verlist: ", text, listed.place, listed.refusal);
     }
+    Ok(())
 }
 
-fn list(text: &[u8]) {
+fn list(to: &impl Print, err: &impl Print, text: &[u8]) -> io::Result<()> {
     let mut out = [0u8; 983104];
-    print_listing(text, &mut out);
+    print_listing(to, err, text, &mut out)
 }
 
-fn main() {
+fn main(rt: HostRuntime) -> io::Result<()> {
     let mut text = [0u8; 65537];
-    let n = io::read_full(STDIN_FILENO, &mut text);
-    list(front(&text, n));
+    let n = read_input(&mut rt.stdin(), &mut text)?;
+    list(&rt, &rt.stderr(), front(&text, n))
 }

@@ -1,7 +1,7 @@
 -- A symbol's line, and the symbols' lines, one a turn: what is printed so far, and what is left to print, is what is printed for all of them. Assumes nothing.
 use Prim.Native.Nat.{ℕ, ◌+◌, ◌*◌, ◌-◌, ◌≤◌, ◌<◌}
 use mathlib.Core.Path.{◌≡◌, refl, sym, ap, ◌∙◌}
-use mathlib.Core.List.{List, []}
+use mathlib.Core.List.{List, [], ◌∷◌, ◌++◌, append_assoc}
 use mathlib.Core.Option.{Option}
 use native.Mathlib.Omega.{arith}
 use lib.ListN.{length, take, drop, length-append}
@@ -14,6 +14,7 @@ use Rattle.desk_commands.proofs.Cuts.{lines_from}
 use Rattle.desk_commands.proofs.Ends.{line-within}
 use Rattle.printing.specs.Printing.{Begins}
 use Rattle.printing_why.specs.Whys.{PrintsLines, joined, put_over, why_answered, whys}
+use Rattle.why.specs.Stops.{StopsWithin}
 
 -- what is put into a buffer is no longer than what it leaves there
 pub put-within : (d text : List ℕ) {l : List ℕ} {r : ℕ} → Begins d text l r → length l ≤ 131200 → r ≤ 131200
@@ -54,3 +55,40 @@ module _ (s : List ℕ) (w : Option Book) (l d₀ : List ℕ) where
           omega (arith, t.told, ap (λ (ts : List (List ℕ)). length (joined (whys s w ts))) q),
           sym (ap (λ (ts : List (List ℕ)). put_over (whys s w ts) d) q) ∙ t.leads,
         )
+
+-- a line is put over what others left
+line_over : (ts : List (List ℕ)) (t d : List ℕ) → front t (put_over ts d) ≡ put_over (ts ++ t ∷ []) d
+unfolding put_over
+line_over [] t d = refl
+line_over (u ∷ ts) t d = line_over ts t (front u d)
+
+-- of the symbols l, those before the place at were put, over a buffer that was d₀ and is d
+pub record Putting (s : List ℕ) (w : Option Book) (l d₀ : List ℕ) (at : ℕ) (d : List ℕ) : Type 0 where
+  pub told : List (List ℕ)
+  pub parts : whys s w (lines_in [] l) ≡ told ++ whys s w (lines_in [] (drop at l))
+  pub left : d ≡ put_over told d₀
+
+module _ (s : List ℕ) (w : Option Book) (l d₀ : List ℕ) where
+  pub puts_begin : Putting s w l d₀ 0 d₀
+  unfolding put_over
+  puts_begin = record { told = []; parts = refl; left = refl }
+
+  module _ {at : ℕ} {d : List ℕ} (t : Putting s w l d₀ at d) where
+    pub puts_on : at < length l → (end : ℕ) → end ≡ line_end l at → (d' : List ℕ)
+        → d' ≡ front (why_answered s w (take (end - at) (drop at l))) d → Putting s w l d₀ (end + 1) d'
+    unfolding whys
+    puts_on h end e d' f =
+        let a : List ℕ = why_answered s w (take (end - at) (drop at l)) in
+        let q : whys s w (lines_in [] (drop at l)) ≡ a ∷ whys s w (lines_in [] (drop (end + 1) l)) = rw e (ap (whys s w) (lines_from l at h)) in
+        record {
+          told = t.told ++ a ∷ [];
+          parts = t.parts ∙ rw (q, append_assoc);
+          left = f ∙ ap (front a) t.left ∙ line_over t.told a d₀;
+        }
+
+    -- and the line at that place was put, but not written
+    pub puts_stop : at < length l → (end : ℕ) → end ≡ line_end l at → (d' : List ℕ)
+        → d' ≡ front (why_answered s w (take (end - at) (drop at l))) d → StopsWithin (whys s w (lines_in [] l)) d₀ d'
+    puts_stop h end e d' f =
+        let r = puts_on h end e d' f in
+        record { told = r.told; rest = whys s w (lines_in [] (drop (end + 1) l)); parts = r.parts; left = r.left }

@@ -2,7 +2,10 @@
 // as verlist's (65,536 bytes at most): the script, a line `%%`, then one symbol a line, `@` before a wanted version, and behind a TAB the demangled name, the
 // raw one again where there is none. What is printed for a symbol is rendered by `printing_why::render_why_in_book`; a script that is refused prints `refused`
 // and the number alone, and standard error says where, and what the number means.
-ghost use Rattle.std.specs.Prelude.{◌≡◌, true, [], ◌≤◌, length};
+#![tactic(auto)]
+
+ghost use Rattle.std.specs.Prelude.{◌≡◌, true, [], ◌≤◌, length, IfOk, OnErr};
+ghost use Rattle.lists.specs.Front.{front};
 ghost use Rattle.book.specs.Layout.{five};
 ghost use Rattle.book.specs.View.{holds, view};
 ghost use Rattle.book_opening.specs.Opening.{as_script, opening};
@@ -10,29 +13,40 @@ ghost use Rattle.input.specs.Splitting.{input_limit, lines_in};
 ghost use Rattle.printing.specs.Printing.{Begins, refused_line};
 ghost use Rattle.printing_listing.specs.Listing.{verlist_room};
 ghost use Rattle.printing_why.specs.Whys.{PrintsLines, why_answered, why_listing, why_printed, whys};
+ghost use Rattle.why.specs.Stops.{StopsWithin};
 
 use book::Counts;
 use desk_commands::parts::line_end;
-use libc::{STDIN_FILENO, STDOUT_FILENO};
-use meanings::{front, say_refused};
+use meanings::{front, read_input, say_refused};
 use numbers::TOO_LONG;
 use printing::put_refused_line;
 use printing_listing::{INPUT_LIMIT, script_end, symbols_start};
 use printing_why::render_why_in_book;
+use std::io;
+use std::io::Print;
 use version_script::open;
 
 // A script that is refused: the number, and for a person where and why. What is printed stands at the start of `out`; its length is answered.
-fn refuse(text: &[u8], no: u32, place: usize, out: &mut [u8; 131200]) -> usize
-    ensures { Begins out.old (refused_line no) out.new result }
+fn refuse(
+    to: &impl Print,
+    err: &impl Print,
+    text: &[u8],
+    no: u32,
+    place: usize,
+    out: &mut [u8; 131200],
+) -> io::Result<usize>
+    ensures ok { IfOk result (λ n. Begins out.old (refused_line no) out.new n) }
+    ensures err { OnErr result (out.new ≡ front (refused_line no) out.old) }
 {
     let n = put_refused_line(out, no);
-    io::write_all(STDOUT_FILENO, front(out, n));
-    say_refused(b"why: ", text, place, no);
-    n
+    to.write_all(front(out, n))?;
+    say_refused(err, b"why: ", text, place, no)?;
+    Ok(n)
 }
 
 // A symbol's line, asked of a book that the text was opened as. What is printed stands at the start of `out`; its length is answered.
 fn tell_symbol(
+    to: &impl Print,
     c: Counts,
     nodes: &[u32],
     names: &[u8],
@@ -42,20 +56,23 @@ fn tell_symbol(
     text: &[u8],
     line: &[u8],
     out: &mut [u8; 131200],
-) -> usize
+) -> io::Result<usize>
     requires { (holds c (five nodes.now names.now lines.now pool.now journal.now) ≡ true) × (length names.now ≤ 65536)
         × (length line.now ≤ input_limit) }
-    ensures { Begins out.old (why_answered text.now
+    ensures ok { IfOk result (λ n. Begins out.old (why_answered text.now
         (view c (five nodes.now names.now lines.now pool.now journal.now)) line.now)
-        out.new result × (result ≤ 131200) }
+        out.new n × (n ≤ 131200)) }
+    ensures err { OnErr result (out.new ≡ front (why_answered text.now
+        (view c (five nodes.now names.now lines.now pool.now journal.now)) line.now) out.old) }
 {
     let n = render_why_in_book(c, nodes, names, lines, pool, journal, text, line, out);
-    io::write_all(STDOUT_FILENO, front(out, n));
-    n
+    to.write_all(front(out, n))?;
+    Ok(n)
 }
 
 // The symbols, one a line; a last line feed may lack. Each is printed from the start of `out`; how many bytes that are in all is answered.
 fn tell_symbols(
+    to: &impl Print,
     c: Counts,
     nodes: &[u32],
     names: &[u8],
@@ -65,18 +82,22 @@ fn tell_symbols(
     text: &[u8],
     symbols: &[u8],
     out: &mut [u8; 131200],
-) -> usize
+) -> io::Result<usize>
     requires { (holds c (five nodes.now names.now lines.now pool.now journal.now) ≡ true) × (length names.now ≤ 65536)
         × (length symbols.now ≤ input_limit) }
-    ensures { PrintsLines (whys text.now
+    ensures ok { IfOk result (λ n. PrintsLines (whys text.now
         (view c (five nodes.now names.now lines.now pool.now journal.now))
-        (lines_in [] symbols.now)) out.old result out.new }
+        (lines_in [] symbols.now)) out.old n out.new) }
+    ensures err { OnErr result (StopsWithin (whys text.now
+        (view c (five nodes.now names.now lines.now pool.now journal.now))
+        (lines_in [] symbols.now)) out.old out.new) }
 {
     let mut printed = 0;
     let mut at = 0;
     while at < symbols.len() {
         let end = line_end(symbols, at);
         printed += tell_symbol(
+            to,
             c,
             nodes,
             names,
@@ -86,14 +107,16 @@ fn tell_symbols(
             text,
             &symbols[at..end],
             out,
-        );
+        )?;
         at = end + 1;
     }
-    printed
+    Ok(printed)
 }
 
 // A script, opened, and its symbols.
 fn tell_script(
+    to: &impl Print,
+    err: &impl Print,
     text: &[u8],
     symbols: &[u8],
     nodes: &mut [u32],
@@ -102,17 +125,21 @@ fn tell_script(
     pool: &mut [u8],
     journal: &mut [u32],
     out: &mut [u8; 131200],
-) -> usize
+) -> io::Result<usize>
     requires { (length names.old ≤ 65536) × (length symbols.now ≤ input_limit) }
-    ensures { PrintsLines (why_printed text.now
+    ensures ok { IfOk result (λ n. PrintsLines (why_printed text.now
         (opening as_script (five nodes.old names.old lines.old pool.old journal.old)
-        text.now) symbols.now) out.old result out.new }
+        text.now) symbols.now) out.old n out.new) }
+    ensures err { OnErr result (StopsWithin (why_printed text.now
+        (opening as_script (five nodes.old names.old lines.old pool.old journal.old)
+        text.now) symbols.now) out.old out.new) }
 {
     let opened = open(text, nodes, names, lines, pool, journal);
     if opened.refusal != 0 {
-        return refuse(text, opened.refusal, opened.place, out);
+        return refuse(to, err, text, opened.refusal, opened.place, out);
     }
     tell_symbols(
+        to,
         opened.counts,
         nodes,
         names,
@@ -126,10 +153,18 @@ fn tell_script(
 }
 
 // The same in verlist's rooms: "1,024 nodes, 2,048 lines, 65,536 bytes each of names and pool".
-fn tell_parts(text: &[u8], symbols: &[u8], out: &mut [u8; 131200]) -> usize
+fn tell_parts(
+    to: &impl Print,
+    err: &impl Print,
+    text: &[u8],
+    symbols: &[u8],
+    out: &mut [u8; 131200],
+) -> io::Result<usize>
     requires { length symbols.now ≤ input_limit }
-    ensures { PrintsLines (why_printed text.now (opening as_script verlist_room text.now) symbols.now)
-        out.old result out.new }
+    ensures ok { IfOk result (λ n. PrintsLines (why_printed text.now (opening as_script verlist_room text.now) symbols.now)
+        out.old n out.new) }
+    ensures err { OnErr result (StopsWithin (why_printed text.now (opening as_script verlist_room text.now) symbols.now)
+        out.old out.new) }
 {
     let mut nodes = [0u32; 3072];
     let mut names = [0u8; 65536];
@@ -137,6 +172,8 @@ fn tell_parts(text: &[u8], symbols: &[u8], out: &mut [u8; 131200]) -> usize
     let mut pool = [0u8; 65536];
     let mut journal = [0u32; 2];
     tell_script(
+        to,
+        err,
         text,
         symbols,
         &mut nodes,
@@ -149,24 +186,31 @@ fn tell_parts(text: &[u8], symbols: &[u8], out: &mut [u8; 131200]) -> usize
 }
 
 // An input: the script before the line `%%`, and the symbols behind it.
-fn tell_input(input: &[u8], out: &mut [u8; 131200]) -> usize
-    ensures { PrintsLines (why_listing verlist_room input.now) out.old result out.new }
+fn tell_input(
+    to: &impl Print,
+    err: &impl Print,
+    input: &[u8],
+    out: &mut [u8; 131200],
+) -> io::Result<usize>
+    ensures ok { IfOk result (λ n. PrintsLines (why_listing verlist_room input.now) out.old n out.new) }
+    ensures err { OnErr result (StopsWithin (why_listing verlist_room input.now) out.old out.new) }
 {
     if INPUT_LIMIT < input.len() {
-        return refuse(input, TOO_LONG, 0, out);
+        return refuse(to, err, input, TOO_LONG, 0, out);
     }
     let end = script_end(input);
     let from = symbols_start(end, input.len());
-    tell_parts(&input[..end], &input[from..], out)
+    tell_parts(to, err, &input[..end], &input[from..], out)
 }
 
-fn list(input: &[u8]) {
+fn list(to: &impl Print, err: &impl Print, input: &[u8]) -> io::Result<()> {
     let mut out = [0u8; 131200];
-    tell_input(input, &mut out);
+    tell_input(to, err, input, &mut out)?;
+    Ok(())
 }
 
-fn main() {
+fn main(rt: HostRuntime) -> io::Result<()> {
     let mut input = [0u8; 65537];
-    let n = io::read_full(STDIN_FILENO, &mut input);
-    list(front(&input, n));
+    let n = read_input(&mut rt.stdin(), &mut input)?;
+    list(&rt, &rt.stderr(), front(&input, n))
 }

@@ -8,7 +8,7 @@ pub returns-then-no-ne0 : goal.returns-then-no-ne0
 returns-then-no-ne0 c = seven-refused _ _ _ _ c.if-no-ne0.true
 
 pub returns-then-out-lt-SEVEN : goal.returns-then-out-lt-SEVEN
-returns-then-out-lt-SEVEN c = seven_roomless _ _ _ _ c.if-no-ne0.false c.if-out-lt-SEVEN.true
+returns-then-out-lt-SEVEN c = seven_roomless _ _ _ _ c.if-no-ne0.false (omega (arith, c.if-out-lt-SEVEN.true))
 
 pub bounds-out-1 : goal.bounds-out-1
 bounds-out-1 c = simp length-set (omega arith)
@@ -29,4 +29,4 @@ pub bounds-out-6 : goal.bounds-out-6
 bounds-out-6 c = simp length-set (omega arith)
 
 pub returns : goal.returns
-returns c = seven-given _ _ _ _ c.if-no-ne0.false c.if-out-lt-SEVEN.false
+returns c = seven-given _ _ _ _ c.if-no-ne0.false (omega (arith, c.if-out-lt-SEVEN.false))

@@ -1,0 +1,5 @@
+-- `tuno_add` meets its contract, which is that of the function that it calls. Assumes nothing.
+use Rattle.c_api_c.proofs.edits.tuno_add.Goals as goal
+
+pub returns : goal.returns
+returns c = c.tuno_add.ensures

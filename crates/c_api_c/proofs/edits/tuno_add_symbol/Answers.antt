@@ -1,0 +1,5 @@
+-- `tuno_add_symbol` meets its contract, which is that of the function that it calls. Assumes nothing.
+use Rattle.c_api_c.proofs.edits.tuno_add_symbol.Goals as goal
+
+pub returns : goal.returns
+returns c = c.tuno_add_symbol.ensures

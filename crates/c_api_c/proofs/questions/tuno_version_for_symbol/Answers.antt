@@ -1,0 +1,5 @@
+-- `tuno_version_for_symbol` meets its contract, which is that of the function that it calls. Assumes nothing.
+use Rattle.c_api_c.proofs.questions.tuno_version_for_symbol.Goals as goal
+
+pub returns : goal.returns
+returns c = c.tuno_version_for_symbol.ensures
