@@ -2,7 +2,7 @@
 // is told goes to `err`, the standard error.
 #![tactic(auto)]
 
-ghost use Rattle.std.specs.Prelude.{◌≢◌, ℕ, ◌≡◌, ◌<◌, ◌≤◌, length, slice_index, take, IfOk};
+ghost use Rattle.std.specs.Prelude.{◌≢◌, ℕ, ◌≡◌, ◌<◌, ◌≤◌, length, slice_index, take, IfOk, IfErr};
 ghost use Rattle.std.specs.Io.KnownBytes.{Consumes, IsAtEnd};
 
 use input::positions::position_of;
@@ -35,11 +35,12 @@ pub fn line_end(text: &[u8], from: usize) -> usize
     at
 }
 
-// Reads until the buffer is full or the input ends, and answers how many bytes now stand at its start.
+// Reads until the buffer is full or the input ends, and answers how many bytes now stand at its start. An error leaves there what was read before it.
 pub fn read_input<R: Read>(from: &mut R, buffer: &mut [u8]) -> io::Result<usize>
     ensures within { IfOk result (λ n. n ≤ length buffer.new) }
     ensures bytes { IfOk result (λ n. Consumes (R.remaining from.old) (R.remaining from.new) (take n buffer.new)) }
     ensures end { IfOk result (λ n. n < length buffer.new → IsAtEnd (R.remaining from.new)) }
+    ensures err { IfErr result (λ e. (n : ℕ) × (n ≤ length buffer.new) × Consumes (R.remaining from.old) (R.remaining from.new) (take n buffer.new)) }
 {
     let mut n = 0;
     while n < buffer.len() {

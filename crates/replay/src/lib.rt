@@ -2,7 +2,7 @@
 // lines, and what is printed. A program goes through the lines, answers each, and hands over whether the answer is the same. Definitions: specs/Walks.antt.
 #![tactic(auto)]
 
-ghost use Rattle.std.specs.Prelude.{◌+◌, ◌<◌, ◌≤◌, ◌≡◌, length, IfOk};
+ghost use Rattle.std.specs.Prelude.{◌+◌, ◌<◌, ◌≤◌, ◌≡◌, length, IfOk, IfErr};
 ghost use Rattle.replay.specs.Walks.{Further, Walks};
 
 use input::splitting::part_before;
@@ -116,15 +116,21 @@ pub fn read_field(line: &[u8], from: usize) -> Field
 fn say_unopened(err: &impl Print, why: io::Error) -> io::Result<()> {
     let mut text = Cursor::new([0u8; 320]);
     write!(text, "{why}")?;
+    let written = text.position() as usize;
     let bytes = text.into_inner();
     say(err, b"cases.txt: ")?;
-    say(err, trim_ascii_end(part_before(&bytes, b'(')))?;
+    say(
+        err,
+        trim_ascii_end(part_before(front(&bytes, written), b'(')),
+    )?;
     say(err, b"\n")
 }
 
-// Reads the cases, and answers how many bytes they are: none where they cannot be opened, and then the standard error `err` says why.
+// Reads the cases, and answers how many bytes they are: none where they cannot be opened, and then the standard error `err` says why. An error, of reading or
+// of the standard error, leaves of the text its length.
 pub fn read_cases<R: Files>(rt: &R, err: &impl Print, text: &mut [u8]) -> io::Result<usize>
-    ensures { IfOk result (λ n. n ≤ length text.new) }
+    ensures ok { IfOk result (λ n. n ≤ length text.new) }
+    ensures err { IfErr result (λ e. length text.new ≡ length text.old) }
 {
     match fs::open(rt, "cases.txt") {
         Ok(mut file) => read_input(&mut file, text),

@@ -16,8 +16,8 @@ use Rattle.desk_commands.specs.Parts.{line_end}
 use Rattle.desk_commands.proofs.Cuts.{lines_from}
 use Rattle.histories.specs.Histories.{Lent}
 use Rattle.histories.specs.Demand.{lent_opening}
-use Rattle.rounds.specs.Rounds.{behind_opening, line_lent, lines_lent}
-use Rattle.trial_desk.specs.Stops.{DeskStops, RunsSome}
+use Rattle.rounds.specs.Rounds.{line_lent, lines_lent}
+use Rattle.trial_desk.specs.Stops.{DeskStops, OpeningStops, RunsSome}
 
 -- what holds at any result
 pub at_ok : {T E P : Type 0} (r : Result T E) → P → OnOk r P
@@ -61,18 +61,25 @@ module _ (text : List ℕ) (y : Lent) (s : List ℕ) where
     pub runs_stop : at < length s → (end : ℕ) → end ≡ line_end s at → (b : Buffers)
         → b ≡ (line_lent text x (take (end - at) (drop at s))).buffers → RunsSome text y (lines_in [] s) b
     runs_stop h end e b f =
-        let r = runs_on h end e (line_lent text x (take (end - at) (drop at s))) refl in
-        record { ran = r.ran; rest = lines_in [] (drop (end + 1) s); parts = r.parts; left = f ∙ ap (λ (v : Lent). v.buffers) r.left }
+        let l : List ℕ = take (end - at) (drop at s) in
+        let q : lines_in [] (drop at s) ≡ l ∷ lines_in [] (drop (end + 1) s) = rw e (lines_from s at h) in
+        record {
+          before = t.ran;
+          last = l;
+          rest = lines_in [] (drop (end + 1) s);
+          parts = t.parts ∙ rw q;
+          left = f ∙ ap (λ (v : Lent). (line_lent text v l).buffers) t.left;
+        }
 
 -- x was answered, and b' is left
 module _ (how : How) (b : Buffers) (s commands : List ℕ) (x : Opened) (e : x ≡ told (opening how b s)) (b' : Buffers) (f : b' ≡ left b (opening how b s)) where
   pub refused_stops : (x.refusal ≡ 0 → ⊥) → DeskStops how b s commands b'
   unfolding told
-  refused_stops h = record { ran = []; rest = lines_in [] commands; parts = refl; left = f ∙ go (opening how b s) e }
+  refused_stops h = go (opening how b s) e f
     where
-      go : (o : Opening) → x ≡ told o → left b o ≡ behind_opening s b o []
-      go (opens w) g = absurd (h (ap (λ (y : Opened). y.refusal) g))
-      go (declined n p) g = refl
+      go : (o : Opening) → x ≡ told o → b' ≡ left b o → OpeningStops s b (lines_in [] commands) o b'
+      go (opens w) g k = absurd (h (ap (λ (y : Opened). y.refusal) g))
+      go (declined n p) g k = k
 
   module _ (h : x.refusal ≡ 0) where
     begins : (w : Book) × (opening how b s ≡ opens w)
@@ -89,11 +96,6 @@ module _ (how : How) (b : Buffers) (s commands : List ℕ) (x : Opened) (e : x �
     lent_now = λ i. record { counts = (e i).counts; buffers = f i }
 
     pub run_stops : (a : Buffers) → RunsSome s (record { counts = x.counts; buffers = b' }) (lines_in [] commands) a → DeskStops how b s commands a
-    run_stops a r = record {
-      ran = r.ran;
-      rest = r.rest;
-      parts = r.parts;
-      left =
-          let q = ap (λ (y : Lent). (lines_lent s y r.ran).buffers) lent_now in
-          r.left ∙ q ∙ rw begins.1;
-    }
+    run_stops a r =
+        let z : RunsSome s (lent_opening b (opening how b s)) (lines_in [] commands) a = rw lent_now at r in
+        rw begins.1 (rw begins.1 at z)

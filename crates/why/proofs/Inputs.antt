@@ -35,7 +35,7 @@ module _ (b : Buffers) (s d : List ℕ) {r : ℕ} {l : List ℕ} where
 module _ (b : Buffers) (s d : List ℕ) {l : List ℕ} where
   pub too_long-stops : 65536 < length s → l ≡ front (refused_line too_long) d → StopsWithin (why_listing b s) d l
   unfolding why_listing input_opening why_printed put_over
-  too_long-stops h e = rw (lt-ltb 65536 (length s) h) (record { told = refused_line too_long ∷ []; rest = []; parts = refl; left = e })
+  too_long-stops h e = rw (lt-ltb 65536 (length s) h) (record { before = []; last = refused_line too_long; rest = []; parts = refl; left = e })
 
   pub parts-stop : length s ≤ 65536 → (end : ℕ) → end ≡ length (part_before s (mark s)) → (from : ℕ)
       → from ≡ cond (leb (length s) (end + 3)) (length s) (end + 3)

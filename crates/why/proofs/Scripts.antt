@@ -40,7 +40,7 @@ module _ (b : Buffers) (s : List ℕ) (x : Opened) (e : x ≡ told (opening as_s
       go (opens w) g = absurd (h (ap (λ (y : Opened). y.refusal) g))
       go (declined n p) g =
           let z : x.refusal ≡ n = ap (λ (y : Opened). y.refusal) g in
-          record { told = refused_line n ∷ []; rest = []; parts = refl; left = rw z at f }
+          record { before = []; last = refused_line n; rest = []; parts = refl; left = rw z at f }
 
   pub opened-stops : (h : x.refusal ≡ 0) (b' : Buffers) → b' ≡ left b (opening as_script b s) → {l : List ℕ}
       → StopsWithin (whys s (view x.counts b') (lines_in [] symbols)) d l → StopsWithin (why_printed s (opening as_script b s) symbols) d l

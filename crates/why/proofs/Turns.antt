@@ -89,6 +89,8 @@ module _ (s : List ℕ) (w : Option Book) (l d₀ : List ℕ) where
     -- and the line at that place was put, but not written
     pub puts_stop : at < length l → (end : ℕ) → end ≡ line_end l at → (d' : List ℕ)
         → d' ≡ front (why_answered s w (take (end - at) (drop at l))) d → StopsWithin (whys s w (lines_in [] l)) d₀ d'
+    unfolding whys
     puts_stop h end e d' f =
-        let r = puts_on h end e d' f in
-        record { told = r.told; rest = whys s w (lines_in [] (drop (end + 1) l)); parts = r.parts; left = r.left }
+        let a : List ℕ = why_answered s w (take (end - at) (drop at l)) in
+        let q : whys s w (lines_in [] (drop at l)) ≡ a ∷ whys s w (lines_in [] (drop (end + 1) l)) = rw e (ap (whys s w) (lines_from l at h)) in
+        record { before = t.told; last = a; rest = whys s w (lines_in [] (drop (end + 1) l)); parts = t.parts ∙ rw q; left = f ∙ ap (front a) t.left }

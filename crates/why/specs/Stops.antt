@@ -1,10 +1,12 @@
--- What stands in the buffer of lines that are printed one behind the other, where one of them is not written. Assumes nothing.
-use Rattle.std.specs.Prelude.{ℕ, ◌≡◌, List, ◌++◌}
+-- What stands in the buffer of lines that are printed one behind the other, where what is printed or told of one of them is not written. Assumes nothing.
+use Rattle.std.specs.Prelude.{ℕ, ◌≡◌, List, ◌∷◌, ◌++◌}
+use Rattle.lists.specs.Front.{front}
 use Rattle.printing_why.specs.Whys.{put_over}
 
--- the lines ts were to be printed from the buffer d: some of them were put, the last of which may not have been written, the rest were not, and l is left there
+-- the lines ts were to be printed from the buffer d: the last was put behind those before it and may not have been written, the rest was not, and l is left
 pub record StopsWithin (ts : List (List ℕ)) (d l : List ℕ) : Type 0 where
-  pub told : List (List ℕ)
+  pub before : List (List ℕ)
+  pub last : List ℕ
   pub rest : List (List ℕ)
-  pub parts : ts ≡ told ++ rest
-  pub left : l ≡ put_over told d
+  pub parts : ts ≡ before ++ last ∷ rest
+  pub left : l ≡ front last (put_over before d)
