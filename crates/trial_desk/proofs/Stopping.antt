@@ -1,4 +1,4 @@
--- Where what the desk prints is not written: some of its lines were run, the rest were not (specs/Stops.antt). Assumes nothing.
+-- Where what the desk prints, or what a person is told, is not written: what is left of the text and of its lines (specs/Stops.antt). Assumes nothing.
 use Prim.Native.Nat.{ℕ, ◌+◌, ◌-◌, ◌<◌}
 use mathlib.Core.Path.{◌≡◌, refl, ap, ◌∙◌}
 use mathlib.Core.List.{List, [], ◌∷◌, ◌++◌, append_assoc}
@@ -57,7 +57,7 @@ module _ (text : List ℕ) (y : Lent) (s : List ℕ) where
           left = f ∙ ap (λ (v : Lent). line_lent text v l) t.left ∙ line_behind text t.ran y l;
         }
 
-    -- and the line at that place was run, but what it prints was not written
+    -- and the line at that place was run, but what is printed or told of it was not written
     pub runs_stop : at < length s → (end : ℕ) → end ≡ line_end s at → (b : Buffers)
         → b ≡ (line_lent text x (take (end - at) (drop at s))).buffers → RunsSome text y (lines_in [] s) b
     runs_stop h end e b f =

@@ -86,7 +86,7 @@ module _ (s : List ℕ) (w : Option Book) (l d₀ : List ℕ) where
           left = f ∙ ap (front a) t.left ∙ line_over t.told a d₀;
         }
 
-    -- and the line at that place was put, but not written
+    -- and the line at that place was put, but may not have been written
     pub puts_stop : at < length l → (end : ℕ) → end ≡ line_end l at → (d' : List ℕ)
         → d' ≡ front (why_answered s w (take (end - at) (drop at l))) d → StopsWithin (whys s w (lines_in [] l)) d₀ d'
     unfolding whys

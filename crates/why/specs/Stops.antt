@@ -1,9 +1,9 @@
--- What stands in the buffer of lines that are printed one behind the other, where what is printed or told of one of them is not written. Assumes nothing.
+-- What stands in the buffer, into which each line is put before it is printed, where something is not written. Assumes nothing.
 use Rattle.std.specs.Prelude.{ℕ, ◌≡◌, List, ◌∷◌, ◌++◌}
 use Rattle.lists.specs.Front.{front}
 use Rattle.printing_why.specs.Whys.{put_over}
 
--- the lines ts were to be printed from the buffer d: the last was put behind those before it and may not have been written, the rest was not, and l is left
+-- the lines ts were to be put into the buffer d: the last was put over what those before it left, and may not have been written, the rest was not put; l is left
 pub record StopsWithin (ts : List (List ℕ)) (d l : List ℕ) : Type 0 where
   pub before : List (List ℕ)
   pub last : List ℕ
