@@ -3,7 +3,7 @@
 use Prim.Native.Nat.{◌≤◌}
 use mathlib.Core.Path.{◌≡◌, sym, ◌∙◌}
 use mathlib.Core.Bool.{Bool, true, false, not}
-use mathlib.Core.Option.{some, none}
+use Rattle.std.specs.Prelude.{Some, None}
 use borrow.Author.Tests.{not-true, not-false}
 use lib.ListN.{length}
 use Rattle.numbers.specs.Limits.{node_limit}
@@ -22,7 +22,7 @@ use Rattle.book.proofs.Views.{laid-packs, layout_of_view}
 
 -- what a book that is held gives: what is viewed, its packings, how many nodes it has, and that it is sane
 pub record Held (c : Counts) (b : Buffers) : Type 0 where
-  pub viewed : view c b ≡ some (book_of c b)
+  pub viewed : view c b ≡ Some (book_of c b)
   pub nodes : packs node_form any_node c.nodes c.names b.nodes b.names ≡ true
   pub lines : packs line_form (line_ok (frame_of c)) c.lines c.pool b.lines b.pool ≡ true
   pub few : c.nodes ≤ node_limit
@@ -45,7 +45,7 @@ held-book c b e =
 
 module _ (c : Counts) (b : Buffers) (x : Bool) (e : x ≡ holds c b) where
   -- no book
-  pub asked_none : not x ≡ true → view c b ≡ none
+  pub asked_none : not x ≡ true → view c b ≡ None
   unfolding view
   asked_none h = rw (← e, not-true x h)
 
@@ -54,5 +54,5 @@ module _ (c : Counts) (b : Buffers) (x : Bool) (e : x ≡ holds c b) where
   asked-held h = held-book c b (sym e ∙ not-false x h)
 
 -- the lines of a book that is viewed are in range
-pub viewed-in_range : (c : Counts) (b : Buffers) (w : Book) → view c b ≡ some w → every (in_range (length w.nodes)) w.lines ≡ true
+pub viewed-in_range : (c : Counts) (b : Buffers) (w : Book) → view c b ≡ Some w → every (in_range (length w.nodes)) w.lines ≡ true
 viewed-in_range c b w e = lines_in-range (book_frame w) w.lines (layout_of_view c b w e).2.lines_ok

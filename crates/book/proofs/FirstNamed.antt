@@ -3,23 +3,21 @@ use Prim.Native.Nat.{ℕ, zero, suc, ◌+◌, ◌-◌, ◌≤◌, ◌<◌}
 use mathlib.Core.Path.{◌≡◌, refl}
 use mathlib.Core.List.{List, [], ◌∷◌, ◌++◌}
 use mathlib.Core.Bool.{Bool, true, false, cond}
-use mathlib.Core.Option.{Option, some, none}
 use native.Mathlib.Omega.{arith}
 use lib.ListN.{length, get_or, set}
 use Rattle.lists.specs.Same.{same}
 use Rattle.lists.proofs.SameLaws.{same_equal}
-use Rattle.linker_script.specs.declared.Found.{Found}
-use Rattle.linker_script.specs.declared.Found.TheVariants.{Here, Nowhere}
+use Rattle.std.specs.Prelude.{Option, Some, None}
 use Rattle.book.specs.Books.{Node, first_named, found, no_node}
 
 -- what is answered tells what was found
-pub found_nowhere : (o : Found) (a : Option ℕ) → o ≡ found a → o ≡ Nowhere → a ≡ none
-found_nowhere o none e q = refl
-found_nowhere o (some i) e q = let z : ◌≡◌ {A = ℕ} 0 1 = cc in absurd (omega arith)
+pub found_nowhere : (o : Option ℕ) (a : Option ℕ) → o ≡ found a → o ≡ None → a ≡ None
+found_nowhere o None e q = refl
+found_nowhere o (Some i) e q = let z : ◌≡◌ {A = ℕ} 0 1 = cc in absurd (omega arith)
 
-pub found_here : (o : Found) (a : Option ℕ) (i : ℕ) → o ≡ found a → o ≡ Here i → a ≡ some i
-found_here o none i e q = let z : ◌≡◌ {A = ℕ} 0 1 = cc in absurd (omega arith)
-found_here o (some j) i e q = cc
+pub found_here : (o : Option ℕ) (a : Option ℕ) (i : ℕ) → o ≡ found a → o ≡ Some i → a ≡ Some i
+found_here o None i e q = let z : ◌≡◌ {A = ℕ} 0 1 = cc in absurd (omega arith)
+found_here o (Some j) i e q = cc
 
 -- node i, among nodes that are numbered from k on, has the name
 pub record First (xs : List Node) (k : ℕ) (t : List ℕ) (i : ℕ) : Type 0 where
@@ -27,13 +25,13 @@ pub record First (xs : List Node) (k : ℕ) (t : List ℕ) (i : ℕ) : Type 0 wh
   pub before : i < k + length xs
   pub name : (get_or xs (i - k) no_node).name ≡ t
 
-pub first_has : (xs : List Node) (k : ℕ) (t : List ℕ) (i : ℕ) → first_named xs k t ≡ some i → First xs k t i
+pub first_has : (xs : List Node) (k : ℕ) (t : List ℕ) (i : ℕ) → first_named xs k t ≡ Some i → First xs k t i
 unfolding first_named
 first_has [] k t i h = let z : ◌≡◌ {A = ℕ} 0 1 = cc in absurd (omega arith)
 first_has (x ∷ xs) k t i h = go (same x.name t) refl h (first_has xs (k + 1) t i)
   where
-    go : (v : Bool) → same x.name t ≡ v → cond v (some k) (first_named xs (k + 1) t) ≡ some i
-        → (first_named xs (k + 1) t ≡ some i → First xs (k + 1) t i) → First (x ∷ xs) k t i
+    go : (v : Bool) → same x.name t ≡ v → cond v (Some k) (first_named xs (k + 1) t) ≡ Some i
+        → (first_named xs (k + 1) t ≡ Some i → First xs (k + 1) t i) → First (x ∷ xs) k t i
     go true e j more =
         let z : k ≡ i = cc in
         let w : i - k ≡ 0 = omega arith in
@@ -44,14 +42,14 @@ first_has (x ∷ xs) k t i h = go (same x.name t) refl h (first_has xs (k + 1) t
         record { behind = omega (arith, r.behind); before = omega (arith, r.before); name = rw w r.name }
 
 -- it stays the first where others come behind
-pub first_front : (xs ys : List Node) (k : ℕ) (t : List ℕ) (i : ℕ) → first_named xs k t ≡ some i → first_named (xs ++ ys) k t ≡ some i
+pub first_front : (xs ys : List Node) (k : ℕ) (t : List ℕ) (i : ℕ) → first_named xs k t ≡ Some i → first_named (xs ++ ys) k t ≡ Some i
 unfolding first_named
 first_front [] ys k t i h = let z : ◌≡◌ {A = ℕ} 0 1 = cc in absurd (omega arith)
 first_front (x ∷ xs) ys k t i h = go (same x.name t) h (first_front xs ys (k + 1) t i)
   where
-    go : (v : Bool) → cond v (some k) (first_named xs (k + 1) t) ≡ some i
-        → (first_named xs (k + 1) t ≡ some i → first_named (xs ++ ys) (k + 1) t ≡ some i)
-        → cond v (some k) (first_named (xs ++ ys) (k + 1) t) ≡ some i
+    go : (v : Bool) → cond v (Some k) (first_named xs (k + 1) t) ≡ Some i
+        → (first_named xs (k + 1) t ≡ Some i → first_named (xs ++ ys) (k + 1) t ≡ Some i)
+        → cond v (Some k) (first_named (xs ++ ys) (k + 1) t) ≡ Some i
     go true j more = j
     go false j more = more j
 

@@ -3,7 +3,6 @@ use Prim.Native.Nat.{ℕ, ◌+◌, ◌*◌, ◌≤◌, ◌<◌}
 use mathlib.Core.Path.{◌≡◌, refl, sym, ap, ap₂, ◌∙◌}
 use mathlib.Core.List.{List}
 use mathlib.Core.Bool.{Bool, true, false}
-use mathlib.Core.Option.{Option, some, none}
 use native.Mathlib.Numerals.{add-one}
 use native.Mathlib.Omega.{arith}
 use lib.ListN.{length, drop, get_or, take, drop_of_length-le}
@@ -11,7 +10,7 @@ use lib.Seq.{drop-cons}
 use Rattle.lists.specs.Same.{same}
 use Rattle.packing.specs.Tables.{packed, packs, things}
 use Rattle.packing.proofs.Packings.{Packs, packs_is, row_cell, bytes_at, bytes-room}
-use Rattle.linker_script.specs.declared.Found.TheVariants.{Here, Nowhere}
+use Rattle.std.specs.Prelude.{Some, None, Option}
 use Rattle.book.specs.Books.{Node, first_named, found, no_node}
 use Rattle.book.specs.Layout.{NodeLies, name_of_node, node_form, node_width}
 use Rattle.book.specs.View.{any_node}
@@ -24,7 +23,7 @@ named_from xs t i = first_named (drop i xs) i t
 
 module _ (xs : List Node) (t : List ℕ) (i : ℕ) where
   -- node i has the name, or the search goes on
-  pub named_here : i < length xs → same (get_or xs i no_node).name t ≡ true → named_from xs t i ≡ some i
+  pub named_here : i < length xs → same (get_or xs i no_node).name t ≡ true → named_from xs t i ≡ Some i
   unfolding first_named
   named_here h e = rw (drop-cons xs i no_node h, e)
 
@@ -32,7 +31,7 @@ module _ (xs : List Node) (t : List ℕ) (i : ℕ) where
   unfolding first_named
   named_next h e = rw (drop-cons xs i no_node h, e, add-one)
 
-  pub named_none : length xs ≤ i → named_from xs t i ≡ none
+  pub named_none : length xs ≤ i → named_from xs t i ≡ None
   unfolding first_named
   named_none h = rw (drop_of_length-le xs {i = i} h)
 
@@ -109,7 +108,7 @@ module _ {n p : ℕ} {l m t : List ℕ} where
         asked = e ∙ ap (λ (u : List ℕ). same u t) (b ∙ (walk-row z.walk h).name)
 
         -- the node has the name
-        pub search_found : r ≡ true → Here i ≡ found (first_named (things node_form n l m) 0 t)
+        pub search_found : r ≡ true → Some i ≡ found (first_named (things node_form n l m) 0 t)
         search_found y = rw (z.goes, named_here (things node_form n l m) t i (omega (arith, walk-count z.walk)) (sym asked ∙ y))
 
         -- it has another, and the search goes on
@@ -120,5 +119,5 @@ module _ {n p : ℕ} {l m t : List ℕ} where
         }
 
     -- none has it
-    pub search_ends : n ≤ i → Nowhere ≡ found (first_named (things node_form n l m) 0 t)
+    pub search_ends : n ≤ i → None ≡ found (first_named (things node_form n l m) 0 t)
     search_ends h = rw (z.goes, named_none (things node_form n l m) t i (omega (arith, walk-count z.walk)))

@@ -4,7 +4,7 @@ use Prim.Native.Nat.{ℕ, ◌≤◌}
 use mathlib.Core.Path.{◌≡◌, refl, sym, ap, ap₂, subst, ◌∙◌}
 use mathlib.Core.List.{List, [], ◌∷◌}
 use mathlib.Core.Bool.{Bool, true, false, cond}
-use mathlib.Core.Option.{some, none, some-injective}
+use Rattle.std.specs.Prelude.{Some, None}
 use native.Mathlib.Omega.{arith}
 use borrow.Author.Tests.{leb-true, le-leb}
 use lib.Dec.{leb}
@@ -192,21 +192,21 @@ module _ (b : Buffers) (w : Book) (f : Fits b w) where
   }
 
   -- a sane book that fits, laid out, is viewed again
-  pub view_of_layout : sane w ≡ true → view (counts_of w) (laid_out b w) ≡ some w
+  pub view_of_layout : sane w ≡ true → view (counts_of w) (laid_out b w) ≡ Some w
   unfolding view holds
   view_of_layout s = rw (fits-laid.0, fits-laid.1, s)
 
-view_case : (c : Counts) (b : Buffers) (w : Book) (t : Bool) → holds c b ≡ t → cond t (some (book_of c b)) none ≡ some w
+view_case : (c : Counts) (b : Buffers) (w : Book) (t : Bool) → holds c b ≡ t → cond t (Some (book_of c b)) None ≡ Some w
     → (holds c b ≡ true) × (book_of c b ≡ w)
-view_case c b w true e q = (e, some-injective (book_of c b) w q)
+view_case c b w true e q = (e, cc)
 view_case c b w false e q = let z : ◌≡◌ {A = ℕ} 0 1 = cc in absurd (omega arith)
 
-pub holds_of_view : (c : Counts) (b : Buffers) (w : Book) → view c b ≡ some w → (holds c b ≡ true) × (book_of c b ≡ w)
+pub holds_of_view : (c : Counts) (b : Buffers) (w : Book) → view c b ≡ Some w → (holds c b ≡ true) × (book_of c b ≡ w)
 unfolding view
 holds_of_view c b w e = view_case c b w (holds c b) refl e
 
 -- what is viewed is the layout of a sane book that fits
-pub layout_of_view : (c : Counts) (b : Buffers) (w : Book) → view c b ≡ some w → (c ≡ counts_of w) × (b ≡ laid_out b w) × Fits b w × (sane w ≡ true)
+pub layout_of_view : (c : Counts) (b : Buffers) (w : Book) → view c b ≡ Some w → (c ≡ counts_of w) × (b ≡ laid_out b w) × Fits b w × (sane w ≡ true)
 unfolding holds
 layout_of_view c b w e =
     let h = holds_of_view c b w e in

@@ -1,10 +1,7 @@
 -- The book, apart from any buffer: its kind, its nodes, its lines, and the edits that its journal holds. Assumes nothing.
-use Rattle.std.specs.Prelude.{ℕ, ◌+◌, List, [], ◌∷◌, Bool, cond, eqb, length}
-use Rattle.std.proofs.Math.Option.{Option, some, none}
+use Rattle.std.specs.Prelude.{ℕ, ◌+◌, List, [], ◌∷◌, Bool, cond, eqb, length, Option, Some, None}
 use Rattle.numbers.specs.Marks.{general, global}
 use Rattle.lists.specs.Same.{same}
-use Rattle.linker_script.specs.declared.Found.{Found}
-use Rattle.linker_script.specs.declared.Found.TheVariants.{Here, Nowhere}
 use Rattle.numbers.specs.declared.Edition.{Edition}
 use Rattle.numbers.specs.declared.Edition.TheVariants.{Reld}
 use Rattle.book.specs.declared.Frame.{Frame}
@@ -106,10 +103,10 @@ no_line = new_line 0 global general 0 []
 
 -- the number of the first node with that name, among nodes that are numbered from i on
 unfoldable pub first_named : List Node → ℕ → List ℕ → Option ℕ
-first_named [] i t = none
-first_named (x ∷ xs) i t = cond (same x.name t) (some i) (first_named xs (i + 1) t)
+first_named [] i t = None
+first_named (x ∷ xs) i t = cond (same x.name t) (Some i) (first_named xs (i + 1) t)
 
 -- as it is answered
-abbrev pub found : Option ℕ → Found
-found (some i) = Here i
-found none = Nowhere
+abbrev pub found : Option ℕ → Option ℕ
+found (Some i) = Some i
+found None = None

@@ -3,3 +3,4 @@ pub mod Layout
 pub mod Edits
 pub mod Sanity
 pub mod View
+pub mod Lending

@@ -1,6 +1,6 @@
 -- What a book must be besides its packing: 01's row 14, and what 02 adds to it in request 02. Assumes nothing.
-use Rattle.std.specs.Prelude.{ℕ, ◌+◌, List, [], ◌∷◌, ◌++◌, Bool, true, false, cond, ◌&&◌, ◌||◌, not, eqb, leb, ltb, length, get_or}
-use Rattle.std.proofs.Math.Option.{Option, some, none}
+use Rattle.std.specs.Prelude.{ℕ, ◌+◌, List, [], ◌∷◌, ◌++◌, Bool, true, false, cond, ◌&&◌, ◌||◌, not, eqb, leb, ltb, length, get_or, Option, Some, None}
+use Rattle.std.specs.Result.{is_ok}
 use Rattle.numbers.specs.Classes.{all_class, exact_class, nonstar_class, star_class}
 use Rattle.numbers.specs.Limits.{over, script_limit, token_limit}
 use Rattle.numbers.specs.Marks.{general, global, is_language, is_section, local}
@@ -30,7 +30,7 @@ in_range nodes x =
 
 -- "a stored glob that 5 or 6 refuses or that storing would change"
 unfoldable pub glob_stands : Edition → List ℕ → Bool
-glob_stands e b = eqb (refusal e b) 0 && same (stored e b) b
+glob_stands e b = is_ok (refusal e b) && same (stored e b) b
 
 unfoldable pub content_good : Edition → Line → Bool
 content_good e x = not (eqb x.class nonstar_class || eqb x.class star_class) || glob_stands e x.bytes
@@ -75,8 +75,8 @@ no_semicolon b = not (eqb b semicolon)
 
 -- what was found has that number
 abbrev pub is_number : ℕ → Option ℕ → Bool
-is_number p (some i) = eqb i p
-is_number p none = false
+is_number p (Some i) = eqb i p
+is_number p None = false
 
 -- node i's name
 abbrev pub name_at : List Node → ℕ → List ℕ

@@ -1,6 +1,5 @@
 -- The book that lent buffers and counts hold, or none: "a book not laid out as above" is 14. Assumes nothing.
-use Rattle.std.specs.Prelude.{◌*◌, ◌≤◌, ◌≡◌, [], Bool, true, cond, ◌&&◌, leb, length}
-use Rattle.std.proofs.Math.Option.{Option, some, none}
+use Rattle.std.specs.Prelude.{◌*◌, ◌≤◌, ◌≡◌, [], Bool, true, cond, ◌&&◌, leb, length, Option, Some, None}
 use Rattle.numbers.specs.Limits.{edit_limit, line_limit, node_limit, pool_limit}
 use Rattle.lists.specs.Each.{every}
 use Rattle.packing.specs.Tables.{packed, packs, things}
@@ -38,7 +37,7 @@ unfoldable pub holds : Counts → Buffers → Bool
 holds c b = laid c b && sane (book_of c b)
 
 unfoldable pub view : Counts → Buffers → Option Book
-view c b = cond (holds c b) (some (book_of c b)) none
+view c b = cond (holds c b) (Some (book_of c b)) None
 
 -- a book that has room in buffers like b and is within the limits, each of its lines and edits as `laid` asks
 pub record Fits (b : Buffers) (w : Book) : Type 0 where

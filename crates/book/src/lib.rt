@@ -8,6 +8,7 @@ ghost use Rattle.book.specs.Layout.{counts_with, frame_of, no_counts};
 
 pub mod codes;
 pub mod editions;
+pub mod lent;
 pub mod nodes;
 pub mod rows;
 
@@ -75,11 +76,9 @@ pub fn counts_with(c: Counts, lines: u32, pool: u32, edits: u32) -> Counts
     ensures { result ≡ counts_with c lines pool edits }
 {
     Counts {
-        kind: c.kind,
-        nodes: c.nodes,
-        names: c.names,
         lines,
         pool,
         edits,
+        ..c
     }
 }

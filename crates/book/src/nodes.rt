@@ -6,20 +6,17 @@ ghost use Rattle.book.specs.Layout.{node_form};
 ghost use Rattle.book.specs.View.{any_node};
 
 use crate::rows::node_name;
-use linker_script::Found;
 use packing::same_bytes;
 
 // The first of n nodes that has a name, by its number.
-pub fn first_named(nodes: &[u32], names: &[u8], n: usize, p: usize, name: &[u8]) -> Found
+pub fn first_named(nodes: &[u32], names: &[u8], n: usize, p: usize, name: &[u8]) -> Option<usize>
     requires { packs node_form any_node n p nodes.now names.now ≡ true }
     ensures { result ≡ found (first_named (things node_form n nodes.now names.now) 0 name.now) }
 {
-    let mut i = 0;
-    while i < n {
+    for i in 0..n {
         if same_bytes(node_name(nodes, names, i), name) {
-            return Found::Here(i);
+            return Some(i);
         }
-        i += 1;
     }
-    Found::Nowhere
+    None
 }

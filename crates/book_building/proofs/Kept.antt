@@ -5,14 +5,16 @@ use mathlib.Core.Path.{◌≡◌, refl, ap}
 use mathlib.Core.List.{List}
 use mathlib.Core.Bool.{Bool, true, false, cond, not, ◌||◌}
 use native.Mathlib.Omega.{arith}
-use borrow.Author.Tests.{eq-eqb, eqb-true, le-leb, lt-ltb}
+use borrow.Author.Tests.{eq-eqb, le-leb, lt-ltb}
 use lib.Dec.{eqb}
 use lib.ListN.{length}
 use Rattle.numbers.specs.Classes.{all_class, nonstar_class, star_class}
 use Rattle.numbers.specs.Limits.{over, script_limit, token_limit}
 use Rattle.numbers.specs.Marks.{cxx, local}
-use Rattle.numbers.specs.Refusals.{too_long}
 use Rattle.lists.proofs.SameLaws.{same_refl}
+use Rattle.std.specs.Prelude.{Result, Ok, Err}
+use Rattle.numbers.specs.declared.Refusal.{Refusal}
+use Rattle.numbers.specs.declared.Refusal.TheVariants as no
 use Rattle.numbers.specs.declared.Edition.{Edition}
 use Rattle.pattern.specs.Patterns.{refusal}
 use Rattle.pattern.specs.Storing.{stored}
@@ -38,17 +40,17 @@ abbrev KeptFine : Edition → Keep → Type 0
 KeptFine e (kept k bs) = Fine e k bs
 KeptFine e (refused n) = Unit {0}
 
-glob-fine : (e : Edition) (t : List ℕ) → refusal e (stored e t) ≡ 0 → glob_stands e (stored e t) ≡ true
+glob-fine : (e : Edition) (t : List ℕ) (u : Unit {0}) → refusal e (stored e t) ≡ Ok u → glob_stands e (stored e t) ≡ true
 unfolding glob_stands
-glob-fine e t h = rw (eq-eqb (refusal e (stored e t)) 0 h, stored-twice e t) (same_refl (stored e t))
+glob-fine e t u h = rw (h, stored-twice e t) (same_refl (stored e t))
 
-when-fine : (e : Edition) (k : Class) (t : List ℕ) → (refusal e (stored e t) ≡ 0 → Fine e k (stored e t)) → KeptFine e (keep_glob e k t)
+when-fine : (e : Edition) (k : Class) (t : List ℕ) → ((u : Unit {0}) → refusal e (stored e t) ≡ Ok u → Fine e k (stored e t)) → KeptFine e (keep_glob e k t)
 unfolding keep_glob keep_when
-when-fine e k t f = go (eqb (refusal e (stored e t)) 0) refl
+when-fine e k t f = go (refusal e (stored e t)) refl
   where
-    go : (x : Bool) → eqb (refusal e (stored e t)) 0 ≡ x → KeptFine e (cond x (kept k (stored e t)) (refused (refusal e (stored e t))))
-    go true h = f (eqb-true _ _ h)
-    go false h = tt
+    go : (x : Result (Unit {0}) Refusal) → refusal e (stored e t) ≡ x → KeptFine e (keep_when x k (stored e t))
+    go (Ok u) h = f u h
+    go (Err n) h = tt
 
 as_fine : (e : Edition) (k : Class) (t : List ℕ) → KeptFine e (keep_as e k t)
 unfolding keep_as
@@ -62,7 +64,7 @@ keep-fine : (e : Edition) (t : List ℕ) → KeptFine e (keep e t)
 unfolding keep
 keep-fine e t = go (over token_limit t)
   where
-    go : (x : Bool) → KeptFine e (cond x (refused too_long) (keep_as e (class_of t) (inside_kept t)))
+    go : (x : Bool) → KeptFine e (cond x (refused no.TooLong) (keep_as e (class_of t) (inside_kept t)))
     go true = tt
     go false = as_fine e (class_of t) (inside_kept t)
 

@@ -14,8 +14,9 @@ use Rattle.packing.proofs.Packings.{Packs, put_thing}
 use Rattle.numbers.specs.declared.Edition.{Edition}
 use Rattle.classes.specs.declared.Class.{Class}
 use Rattle.storing.specs.declared.Stored.{Stored}
-use Rattle.storing.specs.declared.Stored.TheVariants.{As}
-use Rattle.storing.specs.declared.Stored.TheVariants as stored
+use Rattle.std.specs.Prelude.{Result, Ok, Err}
+use Rattle.numbers.specs.declared.Refusal.{Refusal}
+use Rattle.numbers.specs.Saying.{number}
 use Rattle.classes.specs.Classes.{class_number}
 use Rattle.storing.specs.Keeping.{Keep, kept, refused, keep}
 use Rattle.book.specs.Books.{Line, edition_of, new_line, offset_at, with_offset}
@@ -51,43 +52,43 @@ module _ (g : Progress) (p section language : ℕ) (t l q : List ℕ) where
   unfolding take_kept
   no_line k bs n m h = rw (building_is g n m l q, h)
 
-  refuses : (K : Keep) (x : ℕ) (n m : List ℕ) → built g (five n m l q []) ≡ true → RefusedAs K q g.pool x
-      → take_kept (five n m l q []) (building g (five n m l q [])) p section language K ≡ says_no x p
+  refuses : (K : Keep) (x : Refusal) (n m : List ℕ) → built g (five n m l q []) ≡ true → RefusedAs K q g.pool x
+      → take_kept (five n m l q []) (building g (five n m l q [])) p section language K ≡ says_no (number x) p
   unfolding take_kept
-  refuses (refused y) x n m e v = ap (λ (k : ℕ). says_no k p) (sym v)
+  refuses (refused y) x n m e v = ap (λ (k : Refusal). says_no (number k) p) (sym v)
   refuses (kept k bs) x n m e v =
       let s = (is_state g n m l q e).lines in
       no_line k bs n m (no_pool (five n m l q []) (lines_of g n m l q) g.lines g.pool s.count s.total bs v.0)
-      ∙ ap (λ (k : ℕ). says_no k p) (sym v.1)
+      ∙ ap (λ (k : Refusal). says_no (number k) p) (sym v.1)
 
   -- ---- r is what `put_token` answers, with the edition x that `edition_of` answered, and q' the pool behind it
-  module _ (x : Edition) (y : x ≡ edition_of (frame_of (counts_so_far g))) (r : Stored) (q' : List ℕ) (a : g.pool ≤ pool_room q)
+  module _ (x : Edition) (y : x ≡ edition_of (frame_of (counts_so_far g))) (r : Result Stored Refusal) (q' : List ℕ) (a : g.pool ≤ pool_room q)
       (u : Put (keep x t) q g.pool r q') where
     puts : Put (keep (edition_of (frame_of (counts_so_far g))) t) q g.pool r q'
     puts = rw (← y) u
 
     -- the token is refused, or has no room in the pool
-    pub line_refused : (i : ℕ) (l' q'' : List ℕ) → r ≡ stored.Refused i → TookLine g p section language t l q (No i p) l' q''
-    line_refused i l' q'' z n m e =
-        refuses (keep (edition_of (frame_of (counts_so_far g))) t) i n m e (was_refused (keep (edition_of (frame_of (counts_so_far g))) t) q g.pool r q' i a puts z).0
+    pub line_refused : (i : Refusal) (v : ℕ) (l' q'' : List ℕ) → r ≡ Err i → v ≡ number i → TookLine g p section language t l q (No v p) l' q''
+    line_refused i v l' q'' z k n m e =
+        rw k (refuses (keep (edition_of (frame_of (counts_so_far g))) t) i n m e (was_refused (keep (edition_of (frame_of (counts_so_far g))) t) q g.pool r q' i a puts z).0)
 
     -- what is kept of the token, where it is put there
-    keeps : (k : Class) (i : ℕ) → r ≡ As k i → Kept (keep (edition_of (frame_of (counts_so_far g))) t) q g.pool q' k i
-    keeps k i z = was_kept (keep (edition_of (frame_of (counts_so_far g))) t) q g.pool r q' k i a puts z
+    keeps : (s : Stored) → r ≡ Ok s → Kept (keep (edition_of (frame_of (counts_so_far g))) t) q g.pool q' s.class s.size
+    keeps s z = was_kept (keep (edition_of (frame_of (counts_so_far g))) t) q g.pool r q' s a puts z
 
     -- its bytes end within the pool's limit
-    pub line-ends : (k : Class) (i : ℕ) → r ≡ As k i → g.pool + i ≤ pool_limit
-    line-ends k i z =
-        let w = keeps k i z in
+    pub line-ends : (s : Stored) → r ≡ Ok s → g.pool + s.size ≤ pool_limit
+    line-ends s z =
+        let w = keeps s z in
         omega (arith, w.size, w.room, room_limit q)
 
     -- no row is left for it
-    pub line_rowless : (k : Class) (i : ℕ) (l' q'' : List ℕ) → r ≡ As k i → fits_row l g.lines ≡ false
+    pub line_rowless : (s : Stored) (l' q'' : List ℕ) → r ≡ Ok s → fits_row l g.lines ≡ false
         → TookLine g p section language t l q (No no_room p) l' q''
-    line_rowless k i l' q'' z f n m e =
-        let w = keeps k i z in
-        let s = (is_state g n m l q e).lines in
-        rw w.keeps (no_line k w.bytes n m (no_row (five n m l q []) (lines_of g n m l q) g.lines g.pool s.count s.total w.bytes f))
+    line_rowless s l' q'' z f n m e =
+        let w = keeps s z in
+        let j = (is_state g n m l q e).lines in
+        rw w.keeps (no_line s.class w.bytes n m (no_row (five n m l q []) (lines_of g n m l q) g.lines g.pool j.count j.total w.bytes f))
 
     -- it is there
     stands : (k : Class) (i c code : ℕ) (bs l' : List ℕ) → keep (edition_of (frame_of (counts_so_far g))) t ≡ kept k bs → i ≡ length bs → LineRoom g.lines g.pool l q (length bs)
@@ -120,11 +121,11 @@ module _ (g : Progress) (p section language : ℕ) (t l q : List ℕ) where
           w.1,
         )
 
-    pub line-added : (k : Class) (i c code : ℕ) (x y : Bool) (l' : List ℕ) → r ≡ As k i → fits_row l g.lines ≡ true → section ≤ local → language ≤ cxx → p < script_limit
-        → c ≡ class_number k → code ≡ standing_code c section language → x ≡ mixed_behind g.mixed section c → y ≡ starred_behind g.starred g.inside section c
-        → l' ≡ paste l (line_width * g.lines) (row_of_line (g.nodes - 1) code g.pool i (offset_at p)) line_width
-        → TookLine g p section language t l q (On (line_more g i x y)) l' q'
-    line-added k i c code x y l' z f h b s e j v w d =
-        let o = keeps k i z in
+    pub line-added : (v : Stored) (c code : ℕ) (x y : Bool) (l' : List ℕ) → r ≡ Ok v → fits_row l g.lines ≡ true → section ≤ local → language ≤ cxx → p < script_limit
+        → c ≡ class_number v.class → code ≡ standing_code c section language → x ≡ mixed_behind g.mixed section c → y ≡ starred_behind g.starred g.inside section c
+        → l' ≡ paste l (line_width * g.lines) (row_of_line (g.nodes - 1) code g.pool v.size (offset_at p)) line_width
+        → TookLine g p section language t l q (On (line_more g v.size x y)) l' q'
+    line-added o' c code x y l' z f h b s e j v w d =
+        let o = keeps o' z in
         let room : LineRoom g.lines g.pool l q (length o.bytes) = record { number = row_number l g.lines f; row = row_within l g.lines f; pool = o.room } in
-        rw (v, w) (stands k i c code o.bytes l' o.keeps o.size room o.put h b s e j d)
+        rw (v, w) (stands o'.class o'.size c code o.bytes l' o.keeps o.size room o.put h b s e j d)

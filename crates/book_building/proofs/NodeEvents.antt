@@ -15,8 +15,7 @@ use Rattle.lists.proofs.Tests.{both, fails}
 use Rattle.lists.specs.Each.{every}
 use Rattle.packing.specs.Tables.{things}
 use Rattle.packing.proofs.Packings.{Packs, put_thing, set_thing}
-use Rattle.linker_script.specs.declared.Found.{Found}
-use Rattle.linker_script.specs.declared.Found.TheVariants.{Here, Nowhere}
+use Rattle.std.specs.Prelude.{Option, Some, None}
 use Rattle.book.specs.Books.{Node, Line, first_named, found, frame_with, no_node, regular}
 use Rattle.book.specs.Layout.{five, line_form, node_form, node_width}
 use Rattle.book.specs.Sanity.{in_range, line_ok}
@@ -131,16 +130,16 @@ module _ (g : Progress) (p : ℕ) (n m : List ℕ) where
   parent_none [] h l q e = (refl, e)
   parent_none (c ∷ t) h l q e = absurd (omega arith)
 
-  module _ (o : Found) where
+  module _ (o : Option ℕ) where
     -- no node has the name
-    pub parent-unknown : (t n' : List ℕ) → (length t ≡ 0 → ⊥) → o ≡ found (first_named (things node_form g.nodes n m) 0 t) → o ≡ Nowhere
+    pub parent-unknown : (t n' : List ℕ) → (length t ≡ 0 → ⊥) → o ≡ found (first_named (things node_form g.nodes n m) 0 t) → o ≡ None
         → TookParent g p t n m (No unknown_parent p) n'
     unfolding take_parent
     parent-unknown [] n' f k v l q e = absurd (f refl)
     parent-unknown (c ∷ t) n' f k v l q e = rw (building_is g n m l q, found_nowhere o (first_named (things node_form g.nodes n m) 0 (c ∷ t)) k v)
 
   -- node r is the first that has it
-  module _ (o : Found) (r : ℕ) (v : o ≡ Here r) where
+  module _ (o : Option ℕ) (r : ℕ) (v : o ≡ Some r) where
     pub parent-refused : (t n' : List ℕ) → (length t ≡ 0 → ⊥) → o ≡ found (first_named (things node_form g.nodes n m) 0 t) → g.nodes - 1 ≤ r
         → TookParent g p t n m (No unknown_parent p) n'
     unfolding take_parent

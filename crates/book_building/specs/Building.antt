@@ -1,11 +1,11 @@
 -- A book while its text is read: what each event of the reading makes of it. Assumes nothing.
-use Rattle.std.specs.Prelude.{ℕ, ◌-◌, List, [], ◌∷◌, ◌++◌, Bool, true, false, cond, ◌&&◌, ◌||◌, not, eqb, ltb, length, get_or, set}
-use Rattle.std.proofs.Math.Option.{Option, some, none}
+use Rattle.std.specs.Prelude.{ℕ, ◌-◌, List, [], ◌∷◌, ◌++◌, Bool, true, false, cond, ◌&&◌, ◌||◌, not, eqb, ltb, length, get_or, set, Option, Some, None}
 use Rattle.linker_script.specs.Parts.{part}
 use Rattle.numbers.specs.Classes.{all_class, exact_class}
 use Rattle.numbers.specs.Marks.{global, local}
 use Rattle.numbers.specs.Refusals.{no_room, unknown_parent}
 use Rattle.classes.specs.Classes.{class_number}
+use Rattle.numbers.specs.Saying.{number}
 use Rattle.storing.specs.Keeping.{Keep, keep, kept_where}
 use Rattle.reading_cursors.specs.declared.Event.{Event}
 use Rattle.reading_cursors.specs.declared.Event.TheVariants.{Node, Body, Section, Extern, Closed, Line, Parent}
@@ -76,7 +76,7 @@ with_line g p section language class bs = record {
 -- "its 1, 5, 6, 8, in this order"
 unfoldable pub take_kept : Buffers → Building → ℕ → ℕ → ℕ → Keep → Taken
 take_kept b g p section language x =
-    kept_where (line_room b g.lines) (λ k bs. on (with_line g p section language (class_number k) bs)) (λ n. no n p) x
+    kept_where (line_room b g.lines) (λ k bs. on (with_line g p section language (class_number k) bs)) (λ n. no (number n) p) x
 
 -- ---- a named node ends: "Empty parent text means none; otherwise it equals an earlier node's name, the first such."
 abbrev pub with_parent : Building → ℕ → ℕ → Building
@@ -89,8 +89,8 @@ with_parent g i q = record {
 }
 
 abbrev pub to_parent : Building → ℕ → Option ℕ → Taken
-to_parent g p (some q) = cond (ltb q (length g.nodes - 1)) (on (with_parent g (length g.nodes - 1) q)) (no unknown_parent p)
-to_parent g p none = no unknown_parent p
+to_parent g p (Some q) = cond (ltb q (length g.nodes - 1)) (on (with_parent g (length g.nodes - 1) q)) (no unknown_parent p)
+to_parent g p None = no unknown_parent p
 
 unfoldable pub take_parent : Building → ℕ → List ℕ → Taken
 take_parent g p [] = on g

@@ -14,7 +14,6 @@ ghost use Rattle.book_building.specs.State.{Cleared, TookNode, TookParent, four,
 use book::NODE_WIDTH;
 use book::nodes::first_named;
 use copying::{put_bytes, put_three};
-use linker_script::Found;
 use numbers::{GLOBAL, NO_ROOM, NODE_LIMIT, UNKNOWN_PARENT};
 use packing::{clear_bytes, clear_numbers};
 
@@ -73,11 +72,7 @@ pub fn take_node(g: Progress, p: usize, name: &[u8], nodes: &mut [u32], names: &
     Taking::On(Progress {
         nodes: n + 1,
         names: m + name.len(),
-        lines: g.lines,
-        pool: g.pool,
-        inside: g.inside,
-        mixed: g.mixed,
-        starred: g.starred,
+        ..g
     })
 }
 
@@ -85,25 +80,17 @@ pub fn take_node(g: Progress, p: usize, name: &[u8], nodes: &mut [u32], names: &
 fn mixed_in_block(g: Progress, section: u32) -> bool
     ensures { result ≡ mixed_in_block g.mixed section }
 {
-    if g.mixed {
-        return true;
-    }
-    section == GLOBAL
+    g.mixed || section == GLOBAL
 }
 
 // An extern block opens.
 pub fn take_extern(g: Progress, section: u32) -> Progress
     ensures { result ≡ inside_block g section }
 {
-    let mixed = mixed_in_block(g, section);
     Progress {
-        nodes: g.nodes,
-        names: g.names,
-        lines: g.lines,
-        pool: g.pool,
         inside: true,
-        mixed,
-        starred: g.starred,
+        mixed: mixed_in_block(g, section),
+        ..g
     }
 }
 
@@ -111,15 +98,7 @@ pub fn take_extern(g: Progress, section: u32) -> Progress
 pub fn take_closed(g: Progress) -> Progress
     ensures { result ≡ outside_block g }
 {
-    Progress {
-        nodes: g.nodes,
-        names: g.names,
-        lines: g.lines,
-        pool: g.pool,
-        inside: false,
-        mixed: g.mixed,
-        starred: g.starred,
-    }
+    Progress { inside: false, ..g }
 }
 
 // A named node ends.
@@ -133,8 +112,8 @@ pub fn take_parent(g: Progress, p: usize, parent: &[u8], nodes: &mut [u32], name
     let n = g.nodes;
     let i = n - 1;
     match first_named(nodes, names, n, g.names, parent) {
-        Found::Nowhere => Taking::No(UNKNOWN_PARENT, p),
-        Found::Here(q) => {
+        None => Taking::No(UNKNOWN_PARENT, p),
+        Some(q) => {
             if i <= q {
                 return Taking::No(UNKNOWN_PARENT, p);
             }

@@ -15,7 +15,6 @@ use book::{Frame, REGULAR};
 use book_rooms::{has_row, put_token};
 use classes::class_number;
 use numbers::{ALL_CLASS, EXACT_CLASS, GLOBAL, LOCAL, NO_ROOM};
-use storing::Stored;
 
 // Whether the globals have what the Rust kind's have not, behind a line of that section and class.
 fn mixed_behind(g: Progress, section: u32, class: u32) -> bool
@@ -66,22 +65,23 @@ pub fn take_line(
         nodes: g.nodes as u32,
     };
     match put_token(edition_of(frame), token, at, pool) {
-        Stored::Refused(no) => Taking::No(no, p),
-        Stored::As(class, size) => {
+        Err(no) => Taking::No(no.number(), p),
+        Ok(stored) => {
             if !has_row(lines, n) {
                 return Taking::No(NO_ROOM, p);
             }
-            let k = class_number(class);
+            let k = class_number(stored.class);
             let node = (g.nodes - 1) as u32;
             let code = code_of(k, section, language);
-            put_line(lines, n, node, code, at as u32, size as u32, (p + 1) as u32);
+            let size = stored.size as u32;
+            put_line(lines, n, node, code, at as u32, size, (p + 1) as u32);
             let mixed = mixed_behind(g, section, k);
             let starred = starred_behind(g, section, k);
             Taking::On(Progress {
                 nodes: g.nodes,
                 names: g.names,
                 lines: n + 1,
-                pool: at + size,
+                pool: at + stored.size,
                 inside: g.inside,
                 mixed,
                 starred,

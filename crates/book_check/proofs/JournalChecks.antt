@@ -4,7 +4,7 @@ use Prim.Native.Nat.{ℕ, zero, suc, ◌+◌, ◌-◌, ◌*◌, ◌/◌, ◌≤�
 use mathlib.Core.Path.{◌≡◌, refl, sym, ap, ap₂, ◌∙◌}
 use mathlib.Core.List.{List, [], ◌∷◌, ◌++◌}
 use mathlib.Core.Bool.{Bool, true, false, cond, not, and-false}
-use mathlib.Core.Option.{some, none}
+use Rattle.std.specs.Prelude.{Some, None}
 use native.Mathlib.Numerals.{add-one}
 use native.Mathlib.Omega.{arith}
 use borrow.Author.Tests.{eq-eqb, ne_eqb, lt-ltb, le-ltb, not-true, not-false}
@@ -125,12 +125,12 @@ again-set (g ∷ gs) (x ∷ ls) (suc i) h k = ap (λ (t : List Line). cond (eqb 
 
 -- ---- the latest edit is taken back first
 module _ (e : Edit) (ls : List Line) where
-  back_some : (es : List Edit) (ms : List Line) → take_back e ls ≡ some ms → all_back (es ++ (e ∷ [])) ls ≡ all_back es ms
+  back_some : (es : List Edit) (ms : List Line) → take_back e ls ≡ Some ms → all_back (es ++ (e ∷ [])) ls ≡ all_back es ms
   unfolding all_back
   back_some [] ms t = t
   back_some (d ∷ es) ms t = ap (then_back d) (back_some es ms t)
 
-  back_none : (es : List Edit) → take_back e ls ≡ none → all_back (es ++ (e ∷ [])) ls ≡ none
+  back_none : (es : List Edit) → take_back e ls ≡ None → all_back (es ++ (e ∷ [])) ls ≡ None
   unfolding all_back
   back_none [] t = t
   back_none (d ∷ es) t = ap (then_back d) (back_none es t)
@@ -259,11 +259,11 @@ module _ {l ps j : List ℕ} {n e : ℕ} where
           ∙ ap (λ (x : Edit). take (t - 1) (things edit_form e j []) ++ (x ∷ [])) (edit_at e j [] (t - 1) (omega (arith, z.edits)))
 
       -- it cannot be taken back
-      refused : take_back latest (lines_back l ps gs m) ≡ none → false ≡ journal_fits (things edit_form e j []) (things line_form n l ps)
+      refused : take_back latest (lines_back l ps gs m) ≡ None → false ≡ journal_fits (things edit_form e j []) (things line_form n l ps)
       refused k = sym (z.goes ∙ rw (latest_last, back_none latest (lines_back l ps gs m) (take (t - 1) (things edit_form e j [])) k))
 
       -- it is taken back, and leaves k lines with the marks hs
-      taken : (hs : List ℕ) (k : ℕ) → n ≤ length hs → k ≤ m → take_back latest (lines_back l ps gs m) ≡ some (lines_back l ps hs k) → Backward l ps j n e hs k (t - 1)
+      taken : (hs : List ℕ) (k : ℕ) → n ≤ length hs → k ≤ m → take_back latest (lines_back l ps gs m) ≡ Some (lines_back l ps hs k) → Backward l ps j n e hs k (t - 1)
       taken hs k w h q = record {
         long = w;
         lines = omega (arith, z.lines);
@@ -278,7 +278,7 @@ module _ {l ps j : List ℕ} {n e : ℕ} where
       count = back_count l ps gs m
 
       -- an edit of a line that is not there
-      none_there : m ≤ line → (b : Bool) → cond b (add_back line (lines_back l ps gs m)) (strike_back line (lines_back l ps gs m)) ≡ none
+      none_there : m ≤ line → (b : Bool) → cond b (add_back line (lines_back l ps gs m)) (strike_back line (lines_back l ps gs m)) ≡ None
       unfolding add_back strike_back
       none_there h true = rw (count, ne_eqb m (line + 1) (λ q. omega arith))
       none_there h false = rw (count, le-ltb line m h)
@@ -307,7 +307,7 @@ module _ {l ps j : List ℕ} {n e : ℕ} where
           unfolding take_back add_back
           add-taken w q f =
               taken gs line z.long (omega arith)
-              (rw (eq-eqb what 1 w, count, eq-eqb m (line + 1) q, stood, not-false r f) (ap some (back_take l ps gs m long_now line (omega arith))))
+              (rw (eq-eqb what 1 w, count, eq-eqb m (line + 1) q, stood, not-false r f) (ap Some (back_take l ps gs m long_now line (omega arith))))
 
           -- a strike of a line that stands
           pub strike_stood : (what ≡ 1 → ⊥) → r ≡ true → false ≡ journal_fits (things edit_form e j []) (things line_form n l ps)
@@ -319,7 +319,7 @@ module _ {l ps j : List ℕ} {n e : ℕ} where
           unfolding take_back strike_back
           strike-taken w f =
               taken (set gs line 1) m (omega (arith, z.long, length-set gs line 1)) (omega arith)
-              (rw (ne_eqb what 1 w, count, lt-ltb line m h, stood, f) (ap some (back_set l ps gs m long_now line h)))
+              (rw (ne_eqb what 1 w, count, lt-ltb line m h, stood, f) (ap Some (back_set l ps gs m long_now line h)))
 
 -- ---- whether line i stands, from the two numbers
 module _ (l gs : List ℕ) (i : ℕ) where

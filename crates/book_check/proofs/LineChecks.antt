@@ -1,7 +1,8 @@
 -- The exits of the checks of one line, from its numbers and its bytes. The premises are what the code has learned.
 -- Assumes nothing.
 use Prim.Native.Nat.{ℕ, ◌/◌, ◌≤◌, ◌<◌}
-use mathlib.Core.Path.{◌≡◌}
+use Rattle.std.specs.Result.{is_ok}
+use mathlib.Core.Path.{◌∙◌, ◌≡◌}
 use mathlib.Core.List.{List, []}
 use mathlib.Core.Bool.{Bool, true, false, not, and-false}
 use native.Mathlib.Omega.{arith}
@@ -21,14 +22,14 @@ use Rattle.book.specs.Layout.{class_in, language_in, line_of, section_in, struck
 use Rattle.book.specs.Sanity.{bare_star, content_good, glob_stands, in_range, kind_allows, line_ok, offset_good}
 
 -- ---- a glob that storing leaves as it is
-module _ (e : Edition) (s : List ℕ) (n : ℕ) (k : n ≡ refusal e s) where
-  pub glob-refused : (n ≡ 0 → ⊥) → false ≡ glob_stands e s
+module _ (e : Edition) (s : List ℕ) (b : Bool) (k : b ≡ is_ok (refusal e s)) where
+  pub glob-refused : b ≡ false → b ≡ glob_stands e s
   unfolding glob_stands
-  glob-refused f = rw (← k, ne_eqb n 0 f)
+  glob-refused f = f ∙ rw (← k, f)
 
-  pub glob-taken : (r : Bool) → n ≡ 0 → r ≡ same (stored e s) s → r ≡ glob_stands e s
+  pub glob-taken : (r : Bool) → b ≡ true → r ≡ same (stored e s) s → r ≡ glob_stands e s
   unfolding glob_stands
-  glob-taken r q t = rw (← k, eq-eqb n 0 q) t
+  glob-taken r q t = rw (← k, q) t
 
 -- ---- its numbers
 module _ (nodes node code : ℕ) (bs : List ℕ) where

@@ -4,7 +4,6 @@ use Prim.Native.Nat.{ℕ, ◌+◌, ◌-◌, ◌*◌, ◌/◌, ◌≤◌, ◌<◌
 use mathlib.Core.Path.{◌≡◌, refl, sym, ap, ◌∙◌}
 use mathlib.Core.List.{List, [], ◌∷◌}
 use mathlib.Core.Bool.{Bool, true, false, ◌&&◌, not, and-false, or-false, true≢false}
-use mathlib.Core.Option.{Option}
 use native.Mathlib.Decide.{ℕ_discrete}
 use native.Mathlib.Numerals.{add-one}
 use native.Mathlib.Omega.{arith}
@@ -21,8 +20,7 @@ use Rattle.packing.specs.Tables.{fine, packs, things}
 use Rattle.packing.proofs.Turns.{left, left_all, starts_at, size_at, row_bad, size_bad, row_more, end_bad, end_good, packs_no, packs-zero, packs-rows}
 use Rattle.linker_script.specs.Skip.{blank, skips}
 use Rattle.reading_tokens.specs.Tokens.{named}
-use Rattle.linker_script.specs.declared.Found.{Found}
-use Rattle.linker_script.specs.declared.Found.TheVariants.{Here, Nowhere}
+use Rattle.std.specs.Prelude.{Option, Some, None}
 use Rattle.book.specs.Books.{Node, first_named, found, no_node}
 use Rattle.book.specs.Layout.{NodeLies, name_of_node, node_form, node_width}
 use Rattle.book.specs.Sanity.{is_number, name_at, name_good, name_script, named_good, no_semicolon, nodes_good, parent_good, parent_script}
@@ -233,7 +231,7 @@ module _ (n b : ℕ) (l m : List ℕ) (g : packs node_form any_node n b l m ≡ 
     pub parent-long : o ≡ true → false ≡ parent_good nodes i p
     parent-long f = sym (first_fails _ rest_decides (ap not f))
 
-    module _ (f : o ≡ false) (r : Found) (e : r ≡ found (first_named nodes 0 u)) where
+    module _ (f : o ≡ false) (r : Option ℕ) (e : r ≡ found (first_named nodes 0 u)) where
       abbrev first : Option ℕ
       first = first_named nodes 0 (name_at nodes p)
 
@@ -243,22 +241,22 @@ module _ (n b : ℕ) (l m : List ℕ) (g : packs node_form any_node n b l m ≡ 
       parent_first : r ≡ found first
       parent_first = e ∙ ap (λ (s : List ℕ). found (first_named nodes 0 s)) parent_is
 
-      none_told : r ≡ Nowhere → is_number p first ≡ false
+      none_told : r ≡ None → is_number p first ≡ false
       none_told v = rw (found_nowhere r first parent_first v)
 
-      number_told : (q : ℕ) → r ≡ Here q → is_number p first ≡ eqb q p
+      number_told : (q : ℕ) → r ≡ Some q → is_number p first ≡ eqb q p
       number_told q v = rw (found_here r first q parent_first v)
 
       -- no node has its name
-      pub parent-nowhere : r ≡ Nowhere → false ≡ parent_good nodes i p
+      pub parent-nowhere : r ≡ None → false ≡ parent_good nodes i p
       parent-nowhere v = sym (first_fails _ number_decides (none_told v))
 
       -- an earlier node has its name
-      pub parent-again : (q : ℕ) → r ≡ Here q → (q ≡ p → ⊥) → false ≡ parent_good nodes i p
+      pub parent-again : (q : ℕ) → r ≡ Some q → (q ≡ p → ⊥) → false ≡ parent_good nodes i p
       parent-again q v x = sym (first_fails _ number_decides (number_told q v ∙ ne_eqb q p x))
 
       -- it is the first, and its name's bytes decide
-      pub parent-ends : (q : ℕ) (z : Bool) → r ≡ Here q → q ≡ p → z ≡ every no_semicolon u → z ≡ parent_good nodes i p
+      pub parent-ends : (q : ℕ) (z : Bool) → r ≡ Some q → q ≡ p → z ≡ every no_semicolon u → z ≡ parent_good nodes i p
       parent-ends q z v x d = d ∙ ap (every no_semicolon) parent_is ∙ sym (passes_on number_decides (number_told q v ∙ eq-eqb q p x))
 
 -- ---- the nodes: what is left from node i on decides

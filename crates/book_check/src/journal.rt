@@ -18,9 +18,8 @@ fn edit_rows(journal: &[u32], n: usize) -> bool
     requires { edit_width * n ≤ length journal.now }
     ensures { result ≡ fine edit_form edit_ok 0 n 0 journal.now [] }
 {
-    let mut i = 0;
     let mut at = 0;
-    while i < n {
+    for i in 0..n {
         let what = journal[at];
         if what != 1 {
             if what != 2 {
@@ -28,7 +27,6 @@ fn edit_rows(journal: &[u32], n: usize) -> bool
             }
         }
         at += EDIT_WIDTH;
-        i += 1;
     }
     zero_numbers(journal, at)
 }
@@ -58,12 +56,10 @@ fn all_stand(lines: &[u32], pool: &[u8], back: &[u8], n: usize) -> bool
     requires { (line_width * n ≤ length lines.now) × (n ≤ length back.now) }
     ensures { result ≡ every stands (standing_again back.now (things line_form n lines.now pool.now)) }
 {
-    let mut i = 0;
-    while i < n {
+    for i in 0..n {
         if !stands_now(lines, back, i) {
             return false;
         }
-        i += 1;
     }
     true
 }
@@ -81,9 +77,7 @@ fn journal_fits_with(
     ensures { result ≡ journal_fits (things edit_form e journal.now []) (things line_form n lines.now pool.now) }
 {
     let mut m = n;
-    let mut t = e;
-    while 0 < t {
-        let s = t - 1;
+    for s in (0..e).rev() {
         let what = journal[EDIT_WIDTH * s];
         let i = journal[EDIT_WIDTH * s + 1] as usize;
         if m <= i {
@@ -98,14 +92,12 @@ fn journal_fits_with(
                 return false;
             }
             m = i;
-            t = s;
             continue;
         }
         if stands {
             return false;
         }
         back[i] = 1;
-        t = s;
     }
     all_stand(lines, pool, back, m)
 }

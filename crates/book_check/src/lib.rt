@@ -1,16 +1,18 @@
 // Whether lent buffers and counts hold a book: the question behind refusal 14, asked first by every function that takes a book.
 #![tactic(auto)]
 
-ghost use Rattle.std.specs.Prelude.{◌≡◌, true};
-ghost use Rattle.book.specs.Layout.{five};
+ghost use Rattle.std.specs.Prelude.{◌≡◌, true, false, IfOk, IfErr};
+ghost use Rattle.numbers.specs.declared.Refusal.TheVariants.{NoBook};
+ghost use Rattle.book.specs.Lending.{buffers_of, holds_book};
 ghost use Rattle.book.specs.Sanity.{kind_good};
-ghost use Rattle.book.specs.View.{book_of, holds, laid, within_limits};
+ghost use Rattle.book.specs.View.{book_of, laid, within_limits};
 
 use crate::journal::{edits_packed, journal_fits};
 use crate::lines::{has_star, lines_packed};
 use crate::nodes::{nodes_good, nodes_packed};
+use book::lent::Lent;
 use book::{Counts, EXPORT, REGULAR, RUST, frame_of};
-use numbers::{EDIT_LIMIT, LINE_LIMIT, NODE_LIMIT, POOL_LIMIT};
+use numbers::{EDIT_LIMIT, LINE_LIMIT, NODE_LIMIT, POOL_LIMIT, Refusal};
 
 pub mod journal;
 pub mod lines;
@@ -32,18 +34,11 @@ fn is_within_limits(c: Counts) -> bool
 }
 
 // Whether the nodes, edits and lines are those of a book of its kind.
-fn is_kind_good(
-    c: Counts,
-    nodes: &[u32],
-    names: &[u8],
-    lines: &[u32],
-    pool: &[u8],
-    journal: &[u32],
-) -> bool
-    requires { laid c (five nodes.now names.now lines.now pool.now journal.now) ≡ true }
-    ensures { result ≡ kind_good
-        (book_of c (five nodes.now names.now lines.now pool.now journal.now)) }
+fn is_kind_good(book: Lent) -> bool
+    requires { laid book.counts (buffers_of book) ≡ true }
+    ensures { result ≡ kind_good (book_of book.entry.counts (buffers_of book.entry)) }
 {
+    let c = book.counts;
     let kind = c.kind;
     if kind == REGULAR {
         return true;
@@ -55,51 +50,65 @@ fn is_kind_good(
         if c.edits != 0 {
             return false;
         }
-        return has_star(lines, pool, c.lines as usize);
+        return has_star(book.lines, book.pool, c.lines as usize);
     }
     kind == EXPORT
 }
 
-fn is_laid(
-    c: Counts,
-    nodes: &[u32],
-    names: &[u8],
-    lines: &[u32],
-    pool: &[u8],
-    journal: &[u32],
-) -> bool
-    ensures { result ≡ laid c (five nodes.now names.now lines.now pool.now journal.now) }
+fn is_laid(book: Lent) -> bool
+    ensures { result ≡ laid book.entry.counts (buffers_of book.entry) }
 {
+    let c = book.counts;
     if !is_within_limits(c) {
         return false;
     }
-    if !nodes_packed(nodes, names, c.nodes, c.names) {
+    if !nodes_packed(book.nodes, book.names, c.nodes, c.names) {
         return false;
     }
-    if !lines_packed(frame_of(c), lines, pool, c.lines, c.pool) {
+    if !lines_packed(frame_of(c), book.lines, book.pool, c.lines, c.pool) {
         return false;
     }
-    edits_packed(journal, c.edits)
+    edits_packed(book.journal, c.edits)
 }
 
-pub fn is_book(
-    c: Counts,
-    nodes: &[u32],
-    names: &[u8],
-    lines: &[u32],
-    pool: &[u8],
-    journal: &[u32],
-) -> bool
-    ensures { result ≡ holds c (five nodes.now names.now lines.now pool.now journal.now) }
+pub fn is_book(book: Lent) -> bool
+    ensures { result ≡ holds_book book.entry }
 {
-    if !is_laid(c, nodes, names, lines, pool, journal) {
+    if !is_laid(book) {
         return false;
     }
-    if !nodes_good(nodes, names, c.nodes as usize, c.names as usize) {
+    let c = book.counts;
+    if !nodes_good(book.nodes, book.names, c.nodes as usize, c.names as usize) {
         return false;
     }
-    if !is_kind_good(c, nodes, names, lines, pool, journal) {
+    if !is_kind_good(book) {
         return false;
     }
-    journal_fits(lines, pool, journal, c.lines as usize, c.edits as usize)
+    journal_fits(
+        book.lines,
+        book.pool,
+        book.journal,
+        c.lines as usize,
+        c.edits as usize,
+    )
+}
+
+// A lent book that holds one.
+#[derive(Clone, Copy)]
+pub struct Held<'a> {
+    pub lent: Lent<'a>,
+    ghost holds: { holds_book lent ≡ true },
+}
+
+impl<'a> Held<'a> {
+    // A lent book as one that holds it, or 14.
+    pub fn of(lent: Lent<'a>) -> Result<Held<'a>, Refusal>
+        ensures ok { IfOk result (λ h. h.lent ≡ lent.entry) }
+        ensures err { IfErr result (λ e. (e ≡ NoBook) × (holds_book lent.entry ≡ false)) }
+    {
+        if !is_book(lent) {
+            return Err(Refusal::NoBook);
+        }
+        Ok(Held { lent })
+    }
 }

@@ -20,10 +20,7 @@ use storing::runs::is_as_stored;
 fn glob_stands(edition: Edition, glob: &[u8]) -> bool
     ensures { result ≡ glob_stands edition glob.now }
 {
-    if pattern_refusal(edition, glob, false) != 0 {
-        return false;
-    }
-    is_as_stored(edition, glob)
+    pattern_refusal(edition, glob, false).is_ok() && is_as_stored(edition, glob)
 }
 
 // Whether numbers and bytes are a line in range, in a book with that many nodes.
@@ -103,10 +100,9 @@ fn line_rows(frame: Frame, lines: &[u32], pool: &[u8], n: usize, p: usize) -> bo
     requires { (line_width * n ≤ length lines.now) × (p ≤ length pool.now) }
     ensures { result ≡ fine line_form (line_ok frame) p n 0 lines.now pool.now }
 {
-    let mut i = 0;
     let mut at = 0;
     let mut o = 0;
-    while i < n {
+    for i in 0..n {
         if (lines[at + 2] as usize) != o {
             return false;
         }
@@ -126,7 +122,6 @@ fn line_rows(frame: Frame, lines: &[u32], pool: &[u8], n: usize, p: usize) -> bo
         }
         o = end;
         at += LINE_WIDTH;
-        i += 1;
     }
     if o != p {
         return false;
@@ -149,7 +144,8 @@ pub fn lines_packed(frame: Frame, lines: &[u32], pool: &[u8], n: u32, p: u32) ->
     line_rows(frame, lines, pool, n as usize, p as usize)
 }
 
-fn is_bare_star(code: u32) -> bool
+// Whether a line with that code is a general local All line.
+pub fn is_bare_star(code: u32) -> bool
     ensures { result ≡ bare_star (line_of 0 code []) }
 {
     if class_of(code) != ALL_CLASS {
@@ -166,14 +162,12 @@ pub fn has_star(lines: &[u32], pool: &[u8], n: usize) -> bool
     requires { line_width * n ≤ length lines.now }
     ensures { result ≡ some_star (things line_form n lines.now pool.now) }
 {
-    let mut i = 0;
     let mut at = 0;
-    while i < n {
+    for i in 0..n {
         if is_bare_star(lines[at + 1]) {
             return true;
         }
         at += LINE_WIDTH;
-        i += 1;
     }
     false
 }

@@ -13,7 +13,7 @@ ghost use Rattle.book.specs.View.{any_node};
 use book::NODE_WIDTH;
 use book::nodes::first_named;
 use book::rows::node_name;
-use linker_script::{Found, byte_at};
+use linker_script::byte_at;
 use numbers::SCRIPT_LIMIT;
 use packing::{zero_bytes, zero_numbers};
 use reading_tokens::names::is_named;
@@ -23,10 +23,9 @@ fn node_rows(nodes: &[u32], names: &[u8], n: usize, p: u32) -> bool
     requires { node_width * n ≤ length nodes.now }
     ensures { result ≡ fine node_form any_node p n 0 nodes.now names.now }
 {
-    let mut i = 0;
     let mut at = 0;
     let mut o: u32 = 0;
-    while i < n {
+    for i in 0..n {
         if nodes[at] != o {
             return false;
         }
@@ -36,7 +35,6 @@ fn node_rows(nodes: &[u32], names: &[u8], n: usize, p: u32) -> bool
         }
         o += size;
         at += NODE_WIDTH;
-        i += 1;
     }
     if o != p {
         return false;
@@ -80,14 +78,7 @@ fn is_skipped_first(name: &[u8]) -> bool
 fn all_named(name: &[u8]) -> bool
     ensures { result ≡ every named name.now }
 {
-    let mut i = 0;
-    while i < name.len() {
-        if !is_named(name[i]) {
-            return false;
-        }
-        i += 1;
-    }
-    true
+    name.iter().all(|b| is_named(*b))
 }
 
 fn is_name(name: &[u8]) -> bool
@@ -109,14 +100,7 @@ fn is_name(name: &[u8]) -> bool
 fn has_no_semicolon(name: &[u8]) -> bool
     ensures { result ≡ every no_semicolon name.now }
 {
-    let mut i = 0;
-    while i < name.len() {
-        if name[i] == b';' {
-            return false;
-        }
-        i += 1;
-    }
-    true
+    name.iter().all(|b| *b != b';')
 }
 
 // Whether no script has room for a node with that name and a parent with that one: the shortest is `u{};t{}u;` of the parent's name u and the node's t.
@@ -149,8 +133,8 @@ fn is_parent(nodes: &[u32], names: &[u8], n: usize, bytes: usize, i: usize, p: u
         return false;
     }
     match first_named(nodes, names, n, bytes, parent) {
-        Found::Nowhere => false,
-        Found::Here(first) => {
+        None => false,
+        Some(first) => {
             if first != q {
                 return false;
             }
@@ -173,15 +157,13 @@ pub fn nodes_good(nodes: &[u32], names: &[u8], n: usize, p: usize) -> bool
     if nodes[2] != 0 {
         return false;
     }
-    let mut i = 1;
-    while i < n {
+    for i in 1..n {
         if !is_name(node_name(nodes, names, i)) {
             return false;
         }
         if !is_parent(nodes, names, n, p, i, nodes[NODE_WIDTH * i + 2]) {
             return false;
         }
-        i += 1;
     }
     true
 }

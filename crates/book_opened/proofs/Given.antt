@@ -4,7 +4,7 @@ use Prim.Native.Nat.{ℕ, zero, suc, ◌+◌, ◌-◌, ◌*◌, ◌<◌, ◌≤�
 use mathlib.Core.Path.{◌≡◌, refl, sym, ap, ◌∙◌}
 use mathlib.Core.List.{List, [], ◌∷◌, ◌++◌, append_assoc}
 use mathlib.Core.Bool.{true, false, not, true≢false}
-use mathlib.Core.Option.{Option, some, none}
+use Rattle.std.specs.Prelude.{Option, Some, None}
 use native.Mathlib.Nat.{add-zero, zero-add}
 use native.Mathlib.Omega.{arith}
 use borrow.Author.Tests.{ne_eqb, eqb-true, le-ltb, lt-ltb, le-leb, ltb-true, ltb-false, not-true}
@@ -53,12 +53,12 @@ name-parts t e =
 record ParentParts (all : List book.Node) (i p : ℕ) : Type 0 where
   earlier : p < i
   short : length (parent_script (name_at all i) (name_at all p)) ≤ script_limit
-  first : first_named all 0 (name_at all p) ≡ some p
+  first : first_named all 0 (name_at all p) ≡ Some p
   free : every no_semicolon (name_at all p) ≡ true
 
-number_told : (p : ℕ) (a : Option ℕ) → is_number p a ≡ true → a ≡ some p
-number_told p (some i) e = ap (λ (k : ℕ). some k) (eqb-true i p e)
-number_told p none e = absurd (true≢false (sym e))
+number_told : (p : ℕ) (a : Option ℕ) → is_number p a ≡ true → a ≡ Some p
+number_told p (Some i) e = ap (λ (k : ℕ). Some k) (eqb-true i p e)
+number_told p None e = absurd (true≢false (sym e))
 
 parent-parts : (all : List book.Node) (i p : ℕ) → 0 < p → parent_good all i p ≡ true → ParentParts all i p
 unfolding parent_good
@@ -165,12 +165,12 @@ name-opens t r h =
     )
 
 -- the parent's node is found by its name
-found_first : (u t : List ℕ) → 0 < length u → first_named (no_node ∷ fresh u ∷ fresh t ∷ []) 0 u ≡ some 1
+found_first : (u t : List ℕ) → 0 < length u → first_named (no_node ∷ fresh u ∷ fresh t ∷ []) 0 u ≡ Some 1
 unfolding first_named same
 found_first [] t h = absurd (omega arith)
 found_first (x ∷ u) t h = rw (same_refl (x ∷ u))
 
-parent-taken : (g : Building) (p q : ℕ) (u : List ℕ) → 0 < length u → first_named g.nodes 0 u ≡ some q → q < length g.nodes - 1
+parent-taken : (g : Building) (p q : ℕ) (u : List ℕ) → 0 < length u → first_named g.nodes 0 u ≡ Some q → q < length g.nodes - 1
     → take_parent g p u ≡ on (with_parent g (length g.nodes - 1) q)
 unfolding take_parent
 parent-taken g p q [] h e k = absurd (omega arith)

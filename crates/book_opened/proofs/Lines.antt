@@ -4,7 +4,7 @@ use Prim.Native.Nat.{ℕ, zero, suc, ◌+◌, ◌-◌, ◌<◌, ◌≤◌}
 use mathlib.Core.Path.{◌≡◌, refl, sym, ap, ◌∙◌}
 use mathlib.Core.List.{List, [], ◌∷◌, ◌++◌, append_assoc, append-nil}
 use mathlib.Core.Bool.{Bool, true, false, cond, true≢false}
-use mathlib.Core.Option.{Option, some, none}
+use Rattle.std.specs.Prelude.{Option, Some, None}
 use native.Mathlib.Omega.{arith}
 use lib.Dec.{leb, ltb}
 use lib.ListN.{length}
@@ -14,6 +14,7 @@ use Rattle.numbers.specs.Limits.{script_limit}
 use Rattle.numbers.specs.Refusals.{no_room, too_long}
 use Rattle.numbers.specs.declared.Edition.{Edition}
 use Rattle.storing.specs.Keeping.{Keep, kept, refused, keep}
+use Rattle.reading_cursors.specs.declared.places.Place.{Place}
 use Rattle.reading_cursors.specs.declared.Event.{Event}
 use Rattle.reading_cursors.specs.declared.Event.TheVariants.{Node, Body, Section, Extern, Closed, Line, Parent}
 use Rattle.reading.specs.Events.{Outcome, accepted, refused as ends-refused, reading}
@@ -126,8 +127,8 @@ module _ (b : Buffers) (s : List ℕ) (e : Edition) where
   takes-parent g p n (x ∷ t) = go (first_named g.nodes 0 (x ∷ t))
     where
       go : (a : Option ℕ) → Takes (Parent p n) g (to_parent g p a)
-      go (some q) = holds-cond (ltb q (length g.nodes - 1)) (λ _. takes (brings_none (Parent p n ∷ []) g.lines refl)) refuses
-      go none = refuses
+      go (Some q) = holds-cond (ltb q (length g.nodes - 1)) (λ _. takes (brings_none (Parent p n ∷ []) g.lines refl)) refuses
+      go None = refuses
 
   takes_event : (g : Building) → e ≡ edition_of (frame_so_far g) → (x : Event) → Takes x g (take_event b s g x)
   unfolding take_event tokens
@@ -140,7 +141,7 @@ module _ (b : Buffers) (s : List ℕ) (e : Edition) where
   takes_event g z (Parent p n) = takes-parent g p n (part s p n)
 
 -- ---- all events of a text
-module _ (place : ℕ) (b : Buffers) (s : List ℕ) (w : Book) where
+module _ (place : Place) (b : Buffers) (s : List ℕ) (w : Book) where
   abbrev edition : Edition
   edition = edition_of (book_frame w)
 

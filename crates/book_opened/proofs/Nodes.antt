@@ -5,7 +5,7 @@ use Prim.Native.Nat.{ℕ, suc, ◌+◌, ◌-◌, ◌*◌, ◌<◌, ◌≤◌}
 use mathlib.Core.Path.{◌≡◌, refl, ap, ◌∙◌}
 use mathlib.Core.List.{List, [], ◌∷◌, ◌++◌}
 use mathlib.Core.Bool.{Bool, true, false, ◌&&◌, and-false, or-true}
-use mathlib.Core.Option.{some}
+use Rattle.std.specs.Prelude.{Some}
 use native.Mathlib.Decide.{dec_lt, ℕ_discrete}
 use native.Mathlib.Nat.{add-zero}
 use native.Mathlib.Omega.{arith}
@@ -72,7 +72,7 @@ name_told t r h = rw (lt-ltb 0 (length t) r.some, le-ltb script_limit (length (n
 -- ---- a parent: none, or an earlier node, the first of its name, which has no `;`; and a script has room for both names
 pub data ParentGood (xs : List Node) (i q : ℕ) : Type 0 where
   none : q ≡ 0 → ParentGood xs i q
-  earlier : q < i → 2 * length (name_at xs q) + length (name_at xs i) + 6 ≤ script_limit → first_named xs 0 (name_at xs q) ≡ some q
+  earlier : q < i → 2 * length (name_at xs q) + length (name_at xs i) + 6 ≤ script_limit → first_named xs 0 (name_at xs q) ≡ Some q
       → every no_semicolon (name_at xs q) ≡ true → ParentGood xs i q
 
 -- all nodes
@@ -163,7 +163,7 @@ module _ (xs : List Node) (t : NodesGood xs) (name : List ℕ) (good : NameRead 
 
 -- ---- a parent is set: the first node of a name without `;`, before the last, where a script has room for both names
 module _ (xs : List Node) (t : NodesGood xs) (name : List ℕ) (free : every no_semicolon name ≡ true) (first : ℕ)
-    (named-so : first_named xs 0 name ≡ some first) (before : first < length xs - 1)
+    (named-so : first_named xs 0 name ≡ Some first) (before : first < length xs - 1)
     (short : 2 * length name + length (name_at xs (length xs - 1)) + 6 ≤ script_limit) where
   abbrev last : ℕ
   last = length xs - 1

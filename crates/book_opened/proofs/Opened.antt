@@ -1,12 +1,12 @@
 -- What an opening gives is a book that a view gives back (specs/Opened.antt): the book so far is sound along the reading, and so it is at the end, where no
 -- named node is open.
 -- Assumes nothing.
-use Prim.Native.Nat.{ℕ, zero, suc, ◌+◌, ◌-◌, ◌≤◌, ◌<◌}
-use mathlib.Core.Path.{◌≡◌, refl, ◌∙◌}
+use Prim.Native.Nat.{ℕ, zero, suc, ◌+◌, ◌-◌, ◌≤◌}
+use mathlib.Core.Path.{◌≡◌, refl, ◌∙◌, sym}
 use mathlib.Core.List.{List, []}
-use mathlib.Core.Bool.{Bool, true, false, cond, not, ◌&&◌, ◌||◌, true≢false}
+use mathlib.Core.Bool.{Bool, true, false, cond, not, ◌&&◌, true≢false}
 use native.Mathlib.Omega.{arith}
-use borrow.Author.Tests.{eqb-true, leb-true, ltb-false, ne_eqb, not-true}
+use borrow.Author.Tests.{leb-true, ltb-false, not-true}
 use lib.Dec.{eqb, leb, ltb}
 use lib.ListN.{length}
 use Rattle.numbers.specs.Editions.{reld}
@@ -14,14 +14,16 @@ use Rattle.numbers.specs.Limits.{script_limit}
 use Rattle.numbers.specs.Refusals.{no_room, too_long}
 use Rattle.lists.proofs.Tests.{both}
 use Rattle.lists.specs.Each.{every}
+use Rattle.std.specs.Prelude.{Some, None, Ok, Err}
+use Rattle.reading_cursors.specs.declared.places.Place.TheVariants as place
+use Rattle.reading_cursors.specs.declared.places.Place.{Place}
 use Rattle.reading_cursors.specs.declared.Cursor.{Cursor}
-use Rattle.reading_cursors.specs.declared.Step.{Step}
-use Rattle.reading_cursors.specs.declared.Step.TheVariants.{Go, End, Refused}
-use Rattle.reading_cursors.specs.Moves.{start}
-use Rattle.reading_cursors.specs.Places.{at_list, at_script, at_symbol, behind_symbol}
+use Rattle.reading_cursors.specs.Moves.{Step, start}
+use Rattle.reading_cursors.specs.Places.{is_list, of_script, of_symbol}
 use Rattle.reading.specs.Scripts.{next}
 use Rattle.reading.specs.Events.{on_step, reading, reading_from, reading_within}
 use Rattle.reading.specs.Standing.{Standing}
+use Rattle.reading.proofs.Lines.{going}
 use Rattle.reading.proofs.Onward.{next_onward, next_stands, start_stands}
 use Rattle.reading.proofs.Parts.{next_parts}
 use Rattle.reading.proofs.Spans.{next_ends, next_spans, outside, stage}
@@ -34,7 +36,7 @@ use Rattle.book.proofs.Views.{view_of_layout}
 use Rattle.book_building.specs.Building.{Building, Taken, on, no, take_event}
 use Rattle.book_opening.specs.declared.How.{How}
 use Rattle.book_opening.specs.Opening.{Opening, opens, declined, build, build_reading, finished, kind_of, nothing_yet, on_taken, opening}
-use Rattle.book_opened.specs.Opened.{OpenedHolds, opens_at}
+use Rattle.book_opened.specs.Opened.{OpenedHolds, opens_at, opens_from}
 use Rattle.book_opened.proofs.KindLines.{kind_fits, kind-sane, regular-allows}
 use Rattle.book_opened.proofs.Soundness.{Holds, Sound, Turn, refuses, sound_event, sound_start, takes}
 use Rattle.book_opened.proofs.Lengths.{spelt-ends}
@@ -49,11 +51,29 @@ record KindGood (w : Book) : Type 0 where
   allows : every (kind_allows w.kind) w.lines ≡ true
   good : kind_good w ≡ true
 
-module _ (place : ℕ) (b : Buffers) (c : Cursor) (g : Building) (t : Sound place b c g) (short : c.at ≤ script_limit) (ended : stage c.place ≡ outside) where
+-- where a list starts, no script does
+no_script : (x : Place) → is_list x ≡ true → of_script x ≡ false
+no_script place.AtScript e = absurd (true≢false (sym e))
+no_script place.AtNode e = absurd (true≢false (sym e))
+no_script place.AtBody e = absurd (true≢false (sym e))
+no_script place.InBody e = absurd (true≢false (sym e))
+no_script place.InBodyExtern e = absurd (true≢false (sym e))
+no_script place.InSole e = absurd (true≢false (sym e))
+no_script place.InSoleExtern e = absurd (true≢false (sym e))
+no_script place.AtList e = refl
+no_script place.InList e = refl
+no_script place.InListExtern e = refl
+no_script place.AtSymbol e = refl
+no_script place.InSymbolExtern e = refl
+no_script place.AtBare e = refl
+no_script place.InBareExtern e = refl
+no_script place.BehindSymbol e = refl
+
+module _ (place : Place) (b : Buffers) (c : Cursor) (g : Building) (t : Sound place b c g) (short : c.at ≤ script_limit) (ended : stage c.place ≡ outside) where
   abbrev as_kind : ℕ → Book
   as_kind kind = record { kind = kind; nodes = g.nodes; lines = g.lines; edits = [] }
 
-  list-kind : at_list ≤ c.place → KindGood (as_kind export)
+  list-kind : of_script c.place ≡ false → KindGood (as_kind export)
   unfolding kind_good
   list-kind h =
       let o = t.list h in
@@ -72,12 +92,11 @@ module _ (place : ℕ) (b : Buffers) (c : Cursor) (g : Building) (t : Sound plac
 
   ends-kind : KindGood (finished place g)
   unfolding kind_of
-  ends-kind = go (eqb place at_list) refl
+  ends-kind = go (is_list place) refl
     where
-      go : (v : Bool) → eqb place at_list ≡ v → KindGood (as_kind (cond v export (cond rusty rust regular)))
+      go : (v : Bool) → is_list place ≡ v → KindGood (as_kind (cond v export (cond rusty rust regular)))
       go true e =
-          let z : place ≡ at_list = eqb-true place at_list e in
-          list-kind (ltb-false c.place at_list (t.side ∙ rw z))
+          list-kind (t.side ∙ no_script place e)
       go false e = script-kind rusty refl
 
   ends-viewable : Viewable b (finished place g)
@@ -91,7 +110,7 @@ module _ (place : ℕ) (b : Buffers) (c : Cursor) (g : Building) (t : Sound plac
       }
 
 -- ---- the reading
-module _ (place : ℕ) (b : Buffers) (s : List ℕ) (w : Book) (short : length s ≤ script_limit) where
+module _ (place : Place) (b : Buffers) (s : List ℕ) (w : Book) (short : length s ≤ script_limit) where
   -- it ends, or an event is taken and it goes on
   done : (g : Building) → Viewable b (finished place g) → opens (finished place g) ≡ opens w → Viewable b w
   done g v e = let z : finished place g ≡ w = cc in rw z at v
@@ -102,8 +121,8 @@ module _ (place : ℕ) (b : Buffers) (s : List ℕ) (w : Book) (short : length s
   after P f (no n p) refuses more e = absurd (true≢false (cc))
 
   -- a script's and a list's cursors stand in the text
-  inside : (c : Cursor) → Standing s c → c.place < at_symbol → c.at ≤ script_limit
-  inside c k h = omega (arith, k.inside (ne_eqb c.place behind_symbol (λ z. omega arith)))
+  inside : (c : Cursor) → Standing s c → of_symbol c.place ≡ false → c.at ≤ script_limit
+  inside c k h = omega (arith, k.inside (going c.place h))
 
   -- with at most n events, which are enough
   along : (n : ℕ) (c : Cursor) (g : Building) → Sound place b c g → Standing s c → length s + 2 - c.at ≤ n
@@ -116,7 +135,7 @@ module _ (place : ℕ) (b : Buffers) (s : List ℕ) (w : Book) (short : length s
           → ((d : Cursor) (h : Building) → Sound place b d h → Standing s d → length s + 2 - d.at ≤ n
           → build_reading place b s h (reading_within n s d) ≡ opens w → Viewable b w)
           → Viewable b w
-      go (Go x d) q f more =
+      go (Ok (Some (x, d))) q f more =
           let p = next_parts s c t.marked q in
           let o = next_origin s c t.few q in
           let y = next_onward k q in
@@ -132,11 +151,11 @@ module _ (place : ℕ) (b : Buffers) (s : List ℕ) (w : Book) (short : length s
           } in
           after (Sound place b d) (λ h. build_reading place b s h (reading_within n s d)) (take_event b s g x)
           (sound_event place b s c g t x d turn) (λ h u. more d h u j (omega (arith, y.onward))) f
-      go End q f more = done g (ends-viewable place b c g t (inside c k t.few) (next_ends s c t.few q)) f
-      go (Refused a p) q f more = absurd (true≢false (cc))
+      go (Ok None) q f more = done g (ends-viewable place b c g t (inside c k t.few) (next_ends s c t.few q)) f
+      go (Err r) q f more = absurd (true≢false (cc))
 
 -- ---- the whole
-viewable : (how : How) (b : Buffers) (s : List ℕ) (w : Book) → how.place < at_symbol → block_place how.place ≡ false → stage how.place ≡ outside
+viewable : (how : How) (b : Buffers) (s : List ℕ) (w : Book) → of_symbol how.place ≡ false → block_place how.place ≡ false → stage how.place ≡ outside
     → opening how b s ≡ opens w → Viewable b w
 unfolding opening reading reading_from
 viewable how b s w h k l e = go (ltb script_limit (length s)) (leb node_width (length b.nodes)) refl refl e
@@ -152,17 +171,30 @@ viewable how b s w h k l e = go (ltb script_limit (length s)) (leb node_width (l
         (start_stands reld p s) (omega arith) f
 
 -- where a reading starts, no extern block is open and no node
-pub record Starts (place : ℕ) : Type 0 where
-  pub few : place < at_symbol
+pub record Starts (place : Place) : Type 0 where
+  pub few : of_symbol place ≡ false
   free : block_place place ≡ false
   none : stage place ≡ outside
 
 pub starts-free : (how : How) → opens_at how ≡ true → Starts how.place
-starts-free how e = go how.place (eqb how.place at_script) refl e
+starts-free how e = go how.place e
   where
-    go : (place : ℕ) (v : Bool) → eqb place at_script ≡ v → (v || eqb place at_list) ≡ true → Starts place
-    go place true z f = let q : place ≡ at_script = eqb-true place at_script z in record { few = omega arith; free = rw q; none = rw q }
-    go place false z f = let q : place ≡ at_list = eqb-true place at_list f in record { few = omega arith; free = rw q; none = rw q }
+    go : (x : Place) → opens_from x ≡ true → Starts x
+    go place.AtScript f = record { few = refl; free = refl; none = refl }
+    go place.AtNode f = absurd (true≢false (sym f))
+    go place.AtBody f = absurd (true≢false (sym f))
+    go place.InBody f = absurd (true≢false (sym f))
+    go place.InBodyExtern f = absurd (true≢false (sym f))
+    go place.InSole f = absurd (true≢false (sym f))
+    go place.InSoleExtern f = absurd (true≢false (sym f))
+    go place.AtList f = record { few = refl; free = refl; none = refl }
+    go place.InList f = absurd (true≢false (sym f))
+    go place.InListExtern f = absurd (true≢false (sym f))
+    go place.AtSymbol f = absurd (true≢false (sym f))
+    go place.InSymbolExtern f = absurd (true≢false (sym f))
+    go place.AtBare f = absurd (true≢false (sym f))
+    go place.InBareExtern f = absurd (true≢false (sym f))
+    go place.BehindSymbol f = absurd (true≢false (sym f))
 
 pub opened-viewable : (how : How) (b : Buffers) (s : List ℕ) (w : Book) → opens_at how ≡ true → opening how b s ≡ opens w → Viewable b w
 opened-viewable how b s w h e =

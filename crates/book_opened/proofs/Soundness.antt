@@ -4,9 +4,9 @@ use Prim.Native.Nat.{ℕ, zero, suc, ◌+◌, ◌-◌, ◌*◌, ◌≤◌, ◌<�
 use mathlib.Core.Path.{◌≡◌, refl, sym, ap, ◌∙◌}
 use mathlib.Core.List.{List, [], ◌∷◌, ◌++◌}
 use mathlib.Core.Bool.{Bool, true, false, cond, true≢false, or-true}
-use mathlib.Core.Option.{Option, some, none}
+use Rattle.std.specs.Prelude.{Option, Some, None}
 use native.Mathlib.Omega.{arith}
-use borrow.Author.Tests.{eq-eqb, le-ltb, ltb-true, ltb-false}
+use borrow.Author.Tests.{eq-eqb, ltb-true}
 use lib.Dec.{eqb, ltb}
 use lib.ListN.{length, get_or, set, length-append, length-set}
 use Rattle.linker_script.specs.Parts.{part}
@@ -18,10 +18,11 @@ use Rattle.lists.specs.Each.{every}
 use Rattle.packing.proofs.TableLaws.{every_append}
 use Rattle.classes.specs.Classes.{class_number}
 use Rattle.storing.specs.Keeping.{Keep, kept, refused, keep}
+use Rattle.reading_cursors.specs.declared.places.Place.{Place}
 use Rattle.reading_cursors.specs.declared.Cursor.{Cursor}
 use Rattle.reading_cursors.specs.declared.Event.{Event}
 use Rattle.reading_cursors.specs.Moves.{start}
-use Rattle.reading_cursors.specs.Places.{at_list, at_symbol}
+use Rattle.reading_cursors.specs.Places.{of_script, of_symbol}
 use Rattle.reading.proofs.Parts.{Marked, Parts, node, start_marked}
 use Rattle.reading.proofs.Origins.{Near, Origin, block_place}
 use Rattle.reading.proofs.Origins as origin
@@ -50,7 +51,7 @@ pub record Good (b : Buffers) (xs : List Node) (ys : List Line) : Type 0 where
   pub stand : every stands ys ≡ true
 
 -- of where the reading stands: outside an extern block there is no language, and one among the globals makes a script mixed
-pub record Agrees (place section language : ℕ) (inside mixed : Bool) : Type 0 where
+pub record Agrees (place : Place) (section language : ℕ) (inside mixed : Bool) : Type 0 where
   pub block : inside ≡ block_place place
   pub plain : block_place place ≡ false → language ≡ general
   pub among : block_place place ≡ true → section ≡ global → mixed ≡ true
@@ -62,15 +63,15 @@ pub record Listed (section : ℕ) (xs : List Node) (ys : List Line) : Type 0 whe
   pub globals : every (kind_allows export) ys ≡ true
 
 -- place is where the reading of the text began
-pub record Sound (place : ℕ) (b : Buffers) (c : Cursor) (g : Building) : Type 0 where
-  pub few : c.place < at_symbol
-  pub side : ltb c.place at_list ≡ ltb place at_list
+pub record Sound (place : Place) (b : Buffers) (c : Cursor) (g : Building) : Type 0 where
+  pub few : of_symbol c.place ≡ false
+  pub side : of_script c.place ≡ of_script place
   pub marked : Marked c
   pub good : Good b g.nodes g.lines
   pub spelt : Spelt c g.nodes
   pub agrees : Agrees c.place c.section c.language g.inside g.mixed
   pub rust : RustLines g.mixed g.starred g.lines
-  pub list : at_list ≤ c.place → Listed c.section g.nodes g.lines
+  pub list : of_script c.place ≡ false → Listed c.section g.nodes g.lines
 
 -- ---- P holds of what an event makes of a book, where it is taken
 pub data Holds (P : Building → Type 0) : Taken → Type 0 where
@@ -93,7 +94,7 @@ good_node b xs ys name t h e = record {
 
 -- a parent is set
 good_parent : (b : Buffers) (xs : List Node) (ys : List Line) (name : List ℕ) → Good b xs ys → every no_semicolon name ≡ true
-    → (q : ℕ) → first_named xs 0 name ≡ some q → q < length xs - 1 → 2 * length name + length (name_at xs (length xs - 1)) + 6 ≤ script_limit
+    → (q : ℕ) → first_named xs 0 name ≡ Some q → q < length xs - 1 → 2 * length name + length (name_at xs (length xs - 1)) + 6 ≤ script_limit
     → Good b (set xs (length xs - 1) (record { name = name_at xs (length xs - 1); parent = q })) ys
 good_parent b xs ys name t h q f k l = record {
   rooms = roomy-parent b xs ys t.rooms (length xs - 1) (record { name = name_at xs (length xs - 1); parent = q }) refl;
@@ -114,7 +115,7 @@ good_line b xs ys y t h k e = record {
 }
 
 -- ---- the start
-module _ (b : Buffers) (s : List ℕ) (place : ℕ) (room : node_width ≤ length b.nodes) (few : place < at_symbol) (free : block_place place ≡ false)
+module _ (b : Buffers) (s : List ℕ) (place : Place) (room : node_width ≤ length b.nodes) (few : of_symbol place ≡ false) (free : block_place place ≡ false)
     (none : stage place ≡ outside) where
   pub sound_start : Sound place b (start reld place) nothing_yet
   unfolding start nothing_yet every
@@ -130,23 +131,23 @@ module _ (b : Buffers) (s : List ℕ) (place : ℕ) (room : node_width ≤ lengt
   }
 
 -- ---- an event: the cursor c before it, and d behind it
-module _ (place : ℕ) (b : Buffers) (c d : Cursor) (g : Building) (t : Sound place b c g) (m : Marked d) (near : Near c d.place) where
-  behind : ltb d.place at_list ≡ ltb place at_list
+module _ (place : Place) (b : Buffers) (c d : Cursor) (g : Building) (t : Sound place b c g) (m : Marked d) (near : Near c d.place) where
+  behind : of_script d.place ≡ of_script place
   behind = near.same ∙ t.side
 
   -- a list was one before, and what was a script is none
-  was_list : at_list ≤ d.place → at_list ≤ c.place
-  was_list h = ltb-false c.place at_list (sym near.same ∙ le-ltb d.place at_list h)
+  was_list : of_script d.place ≡ false → of_script c.place ≡ false
+  was_list h = sym near.same ∙ h
 
-  no_list : {xs : List Node} {ys : List Line} → c.place < at_list → at_list ≤ d.place → Listed d.section xs ys
-  no_list l h = absurd (omega (arith, was_list h))
+  no_list : {xs : List Node} {ys : List Line} → of_script c.place ≡ true → of_script d.place ≡ false → Listed d.section xs ys
+  no_list l h = absurd (true≢false (sym l ∙ was_list h))
 
   -- outside extern blocks
   apart : block_place c.place ≡ false → block_place d.place ≡ false → d.language ≡ c.language
       → Agrees d.place d.section d.language g.inside g.mixed
   apart h k z = record { block = t.agrees.block ∙ h ∙ sym k; plain = λ _. z ∙ t.agrees.plain h; among = λ e. absurd (true≢false (sym e ∙ k)) }
 
-  sound-node : (p : ℕ) (name : List ℕ) → c.place < at_list → block_place c.place ≡ false → block_place d.place ≡ false → d.language ≡ c.language
+  sound-node : (p : ℕ) (name : List ℕ) → of_script c.place ≡ true → block_place c.place ≡ false → block_place d.place ≡ false → d.language ≡ c.language
       → NameRead name → Spelt d (g.nodes ++ fresh name ∷ []) → Holds (Sound place b d) (take_node b g p name)
   unfolding take_node
   sound-node p name l h k z e w = holds-cond (node_room b g.nodes name) (λ r. takes (record {
@@ -162,7 +163,7 @@ module _ (place : ℕ) (b : Buffers) (c d : Cursor) (g : Building) (t : Sound pl
 
   -- nodes and lines stay as they are
   stays : block_place c.place ≡ false → block_place d.place ≡ false → d.language ≡ c.language
-      → (at_list ≤ d.place → d.section ≡ c.section) → Spelt d g.nodes → Sound place b d g
+      → (of_script d.place ≡ false → d.section ≡ c.section) → Spelt d g.nodes → Sound place b d g
   stays h k z w v = record {
     few = near.few;
     side = behind;
@@ -181,10 +182,10 @@ module _ (place : ℕ) (b : Buffers) (c d : Cursor) (g : Building) (t : Sound pl
     closed : Spelt d g.nodes
     closed = spelt_end c d g.nodes p n w t.spelt
 
-    sound-parent : (name : List ℕ) → c.place < at_list → block_place c.place ≡ false → block_place d.place ≡ false
+    sound-parent : (name : List ℕ) → of_script c.place ≡ true → block_place c.place ≡ false → block_place d.place ≡ false
         → d.language ≡ c.language → every no_semicolon name ≡ true → length name ≤ n → Holds (Sound place b d) (take_parent g p name)
     unfolding take_parent
-    sound-parent [] l h k z f few = takes (stays h k z (λ j. absurd (omega (arith, was_list j))) closed)
+    sound-parent [] l h k z f few = takes (stays h k z (λ j. absurd (true≢false (sym l ∙ was_list j))) closed)
     sound-parent (x ∷ name) l h k z f few = by_first (first_named g.nodes 0 (x ∷ name)) refl
       where
         -- node 0 has no name
@@ -192,7 +193,7 @@ module _ (place : ℕ) (b : Buffers) (c d : Cursor) (g : Building) (t : Sound pl
         not_base zero e = absurd (omega (arith, ap length (sym e ∙ ap (λ (y : Node). y.name) t.good.nodes.base)))
         not_base (suc q) e = omega arith
 
-        fits : (q : ℕ) → first_named g.nodes 0 (x ∷ name) ≡ some q → q < length g.nodes - 1
+        fits : (q : ℕ) → first_named g.nodes 0 (x ∷ name) ≡ Some q → q < length g.nodes - 1
             → 2 * length (x ∷ name) + length (name_at g.nodes (length g.nodes - 1)) + 6 ≤ script_limit
         fits q v e =
             let o : q - 0 ≡ q = omega arith in
@@ -200,7 +201,7 @@ module _ (place : ℕ) (b : Buffers) (c d : Cursor) (g : Building) (t : Sound pl
             let u = twice-spelt c d g.nodes p n w t.spelt q (not_base q y) e (rw y few) in
             omega (arith, rw y at u)
 
-        set_so : (q : ℕ) → first_named g.nodes 0 (x ∷ name) ≡ some q → q < length g.nodes - 1
+        set_so : (q : ℕ) → first_named g.nodes 0 (x ∷ name) ≡ Some q → q < length g.nodes - 1
             → Sound place b d (with_parent g (length g.nodes - 1) q)
         set_so q v e = record {
           few = near.few;
@@ -214,8 +215,8 @@ module _ (place : ℕ) (b : Buffers) (c d : Cursor) (g : Building) (t : Sound pl
         }
 
         by_first : (a : Option ℕ) → first_named g.nodes 0 (x ∷ name) ≡ a → Holds (Sound place b d) (to_parent g p a)
-        by_first (some q) v = holds-cond (ltb q (length g.nodes - 1)) (λ e. takes (set_so q v (ltb-true _ _ e))) refuses
-        by_first none v = refuses
+        by_first (Some q) v = holds-cond (ltb q (length g.nodes - 1)) (λ e. takes (set_so q v (ltb-true _ _ e))) refuses
+        by_first None v = refuses
 
   -- an extern block opens, and closes
   sound-extern : block_place d.place ≡ true → d.section ≡ c.section → Spelt d g.nodes → Sound place b d (in_block g c.section)
@@ -300,7 +301,7 @@ pub record Turn (s : List ℕ) (c : Cursor) (e : Event) (d : Cursor) : Type 0 wh
   pub onward : c.at < d.at
   pub short : d.at ≤ script_limit
 
-module _ (place : ℕ) (b : Buffers) (s : List ℕ) (c : Cursor) (g : Building) (t : Sound place b c g) where
+module _ (place : Place) (b : Buffers) (s : List ℕ) (c : Cursor) (g : Building) (t : Sound place b c g) where
   pub sound_event : (e : Event) (d : Cursor) → Turn s c e d → Holds (Sound place b d) (take_event b s g e)
   unfolding take_event
   sound_event e d r = go e d r.parts r.marked r.origin r.near r.spans r.onward r.short
@@ -312,7 +313,7 @@ module _ (place : ℕ) (b : Buffers) (s : List ℕ) (c : Cursor) (g : Building) 
           (spelt-node c d g.nodes p n w (part s p n) (part_length s p n) t.spelt)
       go e d i m (origin.body h k) r w o x = takes (stays place b c d g t m r h k refl (λ _. refl) (spelt-body c d g.nodes w o t.spelt))
       go e d i m (origin.section l h) r w o x =
-          takes (stays place b c d g t m r h h refl (λ j. absurd (omega arith)) (spelt-stays c d g.nodes w o t.spelt))
+          takes (stays place b c d g t m r h h refl (λ j. absurd (true≢false (sym l ∙ j))) (spelt-stays c d g.nodes w o t.spelt))
       go e d i m (origin.extern h k) r w o x = takes (sound-extern place b c d g t m r k refl (spelt-stays c d g.nodes w o t.spelt))
       go e d i m (origin.closed h k) r w o x = takes (sound-closed place b c d g t m r k refl refl (spelt-stays c d g.nodes w o t.spelt))
       go e d i m (origin.line {p} {n} k) r w o x =

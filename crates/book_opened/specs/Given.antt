@@ -1,7 +1,6 @@
 -- "14 … a node name or parent that no reading gives": the names and parents that a reading gives are those that the tests of book/specs/Sanity.antt pass, and
 -- no others. proofs/Given.antt proves it. Assumes nothing.
-use Rattle.std.specs.Prelude.{ℕ, ◌+◌, ◌<◌, ◌≡◌, List, [], ◌∷◌, true, false, length, get_or}
-use Rattle.std.proofs.Math.Option.{some}
+use Rattle.std.specs.Prelude.{ℕ, ◌+◌, ◌<◌, ◌≡◌, List, [], ◌∷◌, true, false, length, get_or, Some}
 use Rattle.numbers.specs.Editions.{reld}
 use Rattle.numbers.specs.Limits.{over, script_limit}
 use Rattle.lists.specs.Each.{every}
@@ -46,7 +45,7 @@ pub record NamesGiven (t : List ℕ) : Type 0 where
 -- parent's, and each such one is accepted: "it equals an earlier node's name, the first such". Of the other nodes nothing is asked, as of names
 pub record ParentStands (all : List book.Node) (i p : ℕ) : Type 0 where
   pub earlier : p < i
-  pub first : first_named all 0 (name_at all p) ≡ some p
+  pub first : first_named all 0 (name_at all p) ≡ Some p
   pub given : ParentGiven (name_at all i) (name_at all p)
 
 pub record ParentsGiven (all : List book.Node) (i p : ℕ) : Type 0 where

@@ -6,6 +6,7 @@ use lib.ListN.{length}
 use Rattle.numbers.specs.Editions.{reld}
 use Rattle.linker_script.specs.Parts.{part}
 use Rattle.storing.specs.Keeping.{Keep, kept, refused, keep}
+use Rattle.reading_cursors.specs.declared.places.Place.{Place}
 use Rattle.reading_cursors.specs.declared.Event.{Event}
 use Rattle.reading_cursors.specs.declared.Event.TheVariants.{Node, Body, Section, Extern, Closed, Line, Parent}
 use Rattle.reading.specs.Events.{Outcome, reading}
@@ -55,7 +56,7 @@ module _ (b b' : Buffers) (a : Alike b b') where
   same_on (on h) f f' k = k h
   same_on (no n p) f f' k = refl
 
-  pub build-alike : (place : ℕ) (s : List ℕ) (g : Building) (es : List Event) (o : Outcome) → build place b s g es o ≡ build place b' s g es o
+  pub build-alike : (place : Place) (s : List ℕ) (g : Building) (es : List Event) (o : Outcome) → build place b s g es o ≡ build place b' s g es o
   unfolding build
   build-alike place s g [] o = refl
   build-alike place s g (e ∷ es) o =

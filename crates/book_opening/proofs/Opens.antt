@@ -10,18 +10,18 @@ use lib.ListN.{length, length-replicate}
 use Rattle.numbers.specs.Editions.{reld}
 use Rattle.numbers.specs.Limits.{line_limit, node_limit, pool_limit, script_limit}
 use Rattle.numbers.specs.Refusals.{no_room, too_long}
+use Rattle.numbers.specs.Saying.{number}
+use Rattle.std.specs.Prelude.{Err}
 use Rattle.packing.specs.Padding.{pad, zeros}
 use Rattle.packing.specs.Tables.{rows}
 use Rattle.packing.proofs.PaddingLaws.{pad-fits, pad-nil}
+use Rattle.reading_cursors.specs.declared.places.Place.{Place}
 use Rattle.reading_cursors.specs.declared.Cursor.{Cursor}
 use Rattle.reading_cursors.specs.declared.Event.{Event}
-use Rattle.reading_cursors.specs.declared.Step.{Step}
-use Rattle.reading_cursors.specs.declared.Step.TheVariants.{Go, End}
-use Rattle.reading_cursors.specs.declared.Step.TheVariants as step
-use Rattle.reading_cursors.specs.Moves.{start}
+use Rattle.reading_cursors.specs.declared.RefusedAt.{RefusedAt}
+use Rattle.reading_cursors.specs.Moves.{Step, stepped, finished as finished_step, start}
 use Rattle.reading.specs.Scripts.{next}
 use Rattle.reading.specs.Events.{on_step, reading, reading_from}
-use Rattle.reading.specs.Events as events
 use Rattle.reading.specs.Standing.{Standing}
 use Rattle.reading.proofs.Onward.{next_onward, next_stands, reading_step, start_stands}
 use Rattle.reading.proofs.Parts.{Marked, next_parts, start_marked}
@@ -46,7 +46,7 @@ use Rattle.book_opening.proofs.States.{finished-layout, none_yet, starts-built}
 use Rattle.book_opening.proofs.EachEvent.{Alike, build-alike, opening-alike, parts_lie}
 
 -- ---- the loop: n m l q are the buffers at entry, and n' m' l' q' as they are
-pub record Going (place : ℕ) (s n m l q n' m' l' q' : List ℕ) (c : Cursor) (g : Progress) : Type 0 where
+pub record Going (place : Place) (s n m l q n' m' l' q' : List ℕ) (c : Cursor) (g : Progress) : Type 0 where
   pub stands : Standing s c
   pub marked : Marked c
   pub holds : built g (four n' m' l' q') ≡ true
@@ -61,7 +61,7 @@ ended-open o w r b b' z x y = rw z (x, y)
 ended_no : (o : Opening) (k p : ℕ) (r : Built) (b b' : Buffers) → o ≡ declined k p → r ≡ Refused k p → Ended o r b b'
 ended_no o k p r b b' z x = rw z x
 
-module _ (place : ℕ) (s n m l q : List ℕ) where
+module _ (place : Place) (s n m l q : List ℕ) where
   pub going_starts : (c : Cursor) → c ≡ start reld place → node_width ≤ length n → AllClear (four n m l q)
       → Going place s n m l q n m l q c none_yet
   unfolding reading
@@ -89,23 +89,23 @@ module _ (place : ℕ) (s n m l q : List ℕ) where
         (t.nodes, omega (arith, t.names, t.nodes), t.lines, t.pool)
 
     -- the text has ended: r is what `finished` answers
-    pub going_ends : (r : Counts) → x ≡ End → Finished place g r
+    pub going_ends : (r : Counts) → x ≡ finished_step → Finished place g r
         → Builds place (four n m l q) s (Done r) (four n' m' l' q')
     unfolding build_reading build
     going_ends r z f =
         let w : Book = finished place (building g (four n' m' l' q')) in
         let e = i.alike in
-        ended-open _ w (Done r) (four n m l q) (four n' m' l' q') (left_to-read End z) (ap Done (f n' m' l' q' i.holds))
+        ended-open _ w (Done r) (four n m l q) (four n' m' l' q') (left_to-read finished_step z) (ap Done (f n' m' l' q' i.holds))
         (finished-layout place g n' m' l' q' i.holds
         ∙ sym (laid_out_same (four n m l q) (four n' m' l' q') w (record { nodes = e.nodes; names = e.names; lines = e.lines; pool = e.pool; journal = refl })))
 
     -- the reading is refused
-    pub going_refused : (a p : ℕ) → x ≡ step.Refused a p
-        → Builds place (four n m l q) s (Refused a p) (four n' m' l' q')
+    pub going_refused : (r : RefusedAt) → x ≡ Err r → (a : ℕ) → a ≡ number r.refusal
+        → Builds place (four n m l q) s (Refused a r.place) (four n' m' l' q')
     unfolding build_reading build
-    going_refused a p z = ended_no _ a p (Refused a p) (four n m l q) (four n' m' l' q') (left_to-read (step.Refused a p) z) refl
+    going_refused r z a y = rw y (ended_no _ (number r.refusal) r.place (Refused (number r.refusal) r.place) (four n m l q) (four n' m' l' q') (left_to-read (Err r) z) refl)
 
-    module _ (e : Event) (d : Cursor) (z : x ≡ Go e d) where
+    module _ (e : Event) (d : Cursor) (z : x ≡ stepped e d) where
       pub event_lies : Lies s e
       event_lies = parts_lie s e (next_parts s c i.marked (sym k ∙ z)).0
 
@@ -122,7 +122,7 @@ module _ (place : ℕ) (s n m l q : List ℕ) where
       going_no v a p n'' m'' l'' q'' y u =
           let t : take_event (four n' m' l' q') s (building g (four n' m' l' q')) e ≡ no a p = rw y at u in
           ended_no _ a p (Refused a p) (four n m l q) (four n'' m'' l'' q'')
-          (left_to-read (Go e d) z ∙ ap (λ (u : Taken). on_taken u (λ h. build place (four n' m' l' q') s h (reading_from s d).events (reading_from s d).outcome)) t) refl
+          (left_to-read (stepped e d) z ∙ ap (λ (u : Taken). on_taken u (λ h. build place (four n' m' l' q') s h (reading_from s d).events (reading_from s d).outcome)) t) refl
 
       -- it is taken
       pub going_on : (v : Taking) (h : Progress) (n'' m'' l'' q'' : List ℕ) → v ≡ On h
@@ -139,7 +139,7 @@ module _ (place : ℕ) (s n m l q : List ℕ) where
             marked = (next_parts s c i.marked (sym k ∙ z)).1;
             holds = t.1;
             alike = record { nodes = a.nodes ∙ b.nodes; names = a.names ∙ b.names; lines = a.lines ∙ b.lines; pool = a.pool ∙ b.pool };
-            whole = left_to-read (Go e d) z
+            whole = left_to-read (stepped e d) z
                 ∙ ap (λ (u : Taken). on_taken u (λ h. build place (four n' m' l' q') s h (reading_from s d).events (reading_from s d).outcome)) t.0
                 ∙ build-alike (four n' m' l' q') (four n'' m'' l'' q'') b place s (building h (four n'' m'' l'' q'')) (reading_from s d).events (reading_from s d).outcome;
           }

@@ -3,7 +3,7 @@ use Prim.Native.Nat.{ℕ, zero, suc, ◌≤◌}
 use mathlib.Core.Path.{◌≡◌, refl}
 use mathlib.Core.List.{List, [], ◌∷◌}
 use mathlib.Core.Bool.{Bool, true, false, cond}
-use mathlib.Core.Option.{Option, some, none}
+use Rattle.std.specs.Prelude.{Option, Some, None, Ok, Err}
 use native.Mathlib.Omega.{arith}
 use lib.Dec.{leb, ltb}
 use lib.ListN.{length}
@@ -12,12 +12,11 @@ use Rattle.numbers.specs.Editions.{reld}
 use Rattle.numbers.specs.Limits.{script_limit}
 use Rattle.numbers.specs.Refusals.{no_room, too_long, unknown_parent}
 use Rattle.storing.specs.Keeping.{Keep, kept, refused, keep}
+use Rattle.reading_cursors.specs.declared.places.Place.{Place}
 use Rattle.reading_cursors.specs.declared.Cursor.{Cursor}
 use Rattle.reading_cursors.specs.declared.Event.{Event}
 use Rattle.reading_cursors.specs.declared.Event.TheVariants.{Node, Body, Section, Extern, Closed, Line, Parent}
-use Rattle.reading_cursors.specs.declared.Step.{Step}
-use Rattle.reading_cursors.specs.declared.Step.TheVariants.{Go, End, Refused}
-use Rattle.reading_cursors.specs.Moves.{start}
+use Rattle.reading_cursors.specs.Moves.{Step, start}
 use Rattle.reading.specs.Scripts.{next}
 use Rattle.reading.specs.Events.{on_step, reading, reading_from, reading_within}
 use Rattle.reading.specs.Standing.{Standing}
@@ -54,8 +53,8 @@ module _ (s : List ℕ) where
   kept-within b g p section language (refused n) h = h
 
   found_within : (g : Building) (p : ℕ) (a : Option ℕ) → p ≤ length s → TakenWithin (to_parent g p a)
-  found_within g p (some q) h = when-within (ltb q _) _ unknown_parent p h
-  found_within g p none h = h
+  found_within g p (Some q) h = when-within (ltb q _) _ unknown_parent p h
+  found_within g p None h = h
 
   parent-within : (g : Building) (p : ℕ) (t : List ℕ) → p ≤ length s → TakenWithin (take_parent g p t)
   unfolding take_parent
@@ -77,7 +76,7 @@ module _ (s : List ℕ) where
   on_within (on g) f h k = k g
   on_within (no n p) f h k = h
 
-  module _ (place : ℕ) (b : Buffers) where
+  module _ (place : Place) (b : Buffers) where
     build-within : (m : ℕ) (c : Cursor) (g : Building) → Standing s c → Marked c → Within (build_reading place b s g (reading_within m s c))
     unfolding build_reading build reading_within
     build-within zero c g k r = tt
@@ -86,11 +85,11 @@ module _ (s : List ℕ) where
         go : (t : Step) → next s c ≡ t
             → ((d : Cursor) (h : Building) → Standing s d → Marked d → Within (build_reading place b s h (reading_within m s d)))
             → Within (build_reading place b s g (on_step t (λ d. reading_within m s d)))
-        go (Go e d) z more =
+        go (Ok (Some (e, d))) z more =
             let t = next_parts s c r z in
             on_within (take_event b s g e) _ (event_within b g e (parts_lie s e t.0)) (λ h. more d h (next_stands k z) t.1)
-        go End z more = tt
-        go (Refused n p) z more = (standing-refuses k z).1
+        go (Ok None) z more = tt
+        go (Err r) z more = (standing-refuses k {n = r.refusal} {p = r.place} z).1
 
   module _ (how : How) (b : Buffers) where
     opening-within : Within (opening how b s)

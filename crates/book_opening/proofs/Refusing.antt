@@ -3,7 +3,7 @@ use Prim.Native.Nat.{ℕ, ◌≤◌}
 use mathlib.Core.Path.{◌≡◌, refl, sym}
 use mathlib.Core.List.{List, [], ◌∷◌}
 use mathlib.Core.Bool.{Bool, true, false, cond, ◌||◌, true≢false}
-use mathlib.Core.Option.{Option, some, none}
+use Rattle.std.specs.Prelude.{Option, Some, None}
 use native.Mathlib.Omega.{arith}
 use borrow.Author.Tests.{eqb-true}
 use lib.Dec.{eqb, leb, ltb}
@@ -11,7 +11,7 @@ use lib.ListN.{length}
 use Rattle.linker_script.specs.Parts.{part}
 use Rattle.numbers.specs.Editions.{reld}
 use Rattle.numbers.specs.Limits.{over, script_limit, token_limit}
-use Rattle.numbers.specs.Refusals.{bad_extern, bad_pattern, glob_not_utf8, no_room, too_long, unclosed, unknown_parent, unreadable}
+use Rattle.numbers.specs.Refusals.{bad_extern, no_room, too_long, unclosed, unknown_parent, unreadable}
 use Rattle.utf8.specs.Utf8.{chars, utf8}
 use Rattle.numbers.specs.declared.Edition.{Edition}
 use Rattle.lists.specs.Pieces.{sound}
@@ -20,7 +20,11 @@ use Rattle.pattern.specs.Storing.{stored}
 use Rattle.classes.specs.declared.Class.{Class}
 use Rattle.classes.specs.declared.Class.TheVariants.{Exact, Escaped, NonStar, Star, All}
 use Rattle.classes.specs.Classes.{class_of}
+use Rattle.std.specs.Prelude.{Ok, Err}
+use Rattle.numbers.specs.declared.Refusal.TheVariants as why
+use Rattle.numbers.specs.Saying.{number}
 use Rattle.storing.specs.Keeping.{Keep, kept, refused, inside_kept, keep, keep_as, keep_glob, keep_when}
+use Rattle.reading_cursors.specs.declared.places.Place.{Place}
 use Rattle.reading_cursors.specs.declared.Event.{Event}
 use Rattle.reading_cursors.specs.declared.Event.TheVariants.{Node, Body, Section, Extern, Closed, Line, Parent}
 use Rattle.reading.specs.Events.{Outcome, accepted, reading}
@@ -40,7 +44,7 @@ Says n = (1 ≤ n) × (n ≤ 8)
 -- ---- what says no, at every step
 abbrev KeptSays : Keep → Type 0
 KeptSays (kept k bs) = Unit {0}
-KeptSays (refused n) = Says n
+KeptSays (refused n) = Says (number n)
 
 abbrev TakenSays : Taken → Type 0
 TakenSays (on g) = Unit {0}
@@ -55,7 +59,7 @@ unfolding keep_glob keep_when refusal
 glob-says e k t = go (utf8 (stored e t)) (sound (element e) (chars (stored e t)))
   where
     go : (x y : Bool)
-        → KeptSays (cond (eqb (cond x (cond y 0 bad_pattern) glob_not_utf8) 0) (kept k (stored e t)) (refused (cond x (cond y 0 bad_pattern) glob_not_utf8)))
+        → KeptSays (keep_when (cond x (cond y (Ok tt) (Err why.BadPattern)) (Err why.GlobNotUtf8)) k (stored e t))
     go true true = tt
     go true false = (omega arith, omega arith)
     go false y = (omega arith, omega arith)
@@ -72,7 +76,7 @@ keep-says : (e : Edition) (t : List ℕ) → KeptSays (keep e t)
 unfolding keep
 keep-says e t = go (over token_limit t)
   where
-    go : (x : Bool) → KeptSays (cond x (refused too_long) (keep_as e (class_of t) (inside_kept t)))
+    go : (x : Bool) → KeptSays (cond x (refused why.TooLong) (keep_as e (class_of t) (inside_kept t)))
     go true = (omega arith, omega arith)
     go false = as_says e (class_of t) (inside_kept t)
 
@@ -86,8 +90,8 @@ kept-says b g p section language (kept k bs) h = when-says (line_room b g.lines 
 kept-says b g p section language (refused n) h = h
 
 found-says : (g : Building) (p : ℕ) (a : Option ℕ) → TakenSays (to_parent g p a)
-found-says g p (some q) = when-says (ltb q _) _ unknown_parent p (omega arith, omega arith)
-found-says g p none = (omega arith, omega arith)
+found-says g p (Some q) = when-says (ltb q _) _ unknown_parent p (omega arith, omega arith)
+found-says g p None = (omega arith, omega arith)
 
 parent-says : (g : Building) (p : ℕ) (t : List ℕ) → TakenSays (take_parent g p t)
 unfolding take_parent
@@ -122,7 +126,7 @@ abbrev OutcomeSays : Outcome → Type 0
 OutcomeSays accepted = Unit {0}
 OutcomeSays (events.refused n p) = Says n
 
-outcome-says : (place : ℕ) (s : List ℕ) → OutcomeSays (reading reld place s).outcome
+outcome-says : (place : Place) (s : List ℕ) → OutcomeSays (reading reld place s).outcome
 outcome-says place s = go (reading reld place s).outcome refl
   where
     go : (o : Outcome) → (reading reld place s).outcome ≡ o → OutcomeSays o
@@ -134,11 +138,11 @@ on_says : (t : Taken) (f : Building → Opening) → TakenSays t → ((g : Build
 on_says (on g) f h k = k g
 on_says (no n p) f h k = h
 
-ended-says : (place : ℕ) (g : Building) (o : Outcome) → OutcomeSays o → SaysDeclined (ended place g o)
+ended-says : (place : Place) (g : Building) (o : Outcome) → OutcomeSays o → SaysDeclined (ended place g o)
 ended-says place g accepted h = tt
 ended-says place g (events.refused n p) h = h
 
-build-says : (place : ℕ) (b : Buffers) (s : List ℕ) (g : Building) (es : List Event) (o : Outcome) → OutcomeSays o → SaysDeclined (build place b s g es o)
+build-says : (place : Place) (b : Buffers) (s : List ℕ) (g : Building) (es : List Event) (o : Outcome) → OutcomeSays o → SaysDeclined (build place b s g es o)
 unfolding build
 build-says place b s g [] o h = ended-says place g o h
 build-says place b s g (e ∷ es) o h =

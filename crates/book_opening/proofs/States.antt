@@ -10,6 +10,7 @@ use Rattle.lists.specs.Each.{every}
 use Rattle.packing.specs.Tables.{packed, rows}
 use Rattle.packing.proofs.PaddingLaws.{pad-nil}
 use Rattle.packing.proofs.Packings.{packs-from}
+use Rattle.reading_cursors.specs.declared.places.Place.{Place}
 use Rattle.book.specs.declared.Counts.{Counts}
 use Rattle.book.specs.Books.{frame_with, no_node, regular}
 use Rattle.book.specs.Layout.{counts_of, laid_out, line_form, node_form, node_width}
@@ -46,7 +47,7 @@ module _ (n m l q : List ℕ) (a : Clear n) (b : Clear m) (c : Clear l) (d : Cle
   starts-built = state_is none_yet n m l q (no_node ∷ []) [] starts
 
 -- ---- the end
-module _ (place : ℕ) (g : Progress) (n m l q : List ℕ) (e : built g (four n m l q) ≡ true) where
+module _ (place : Place) (g : Progress) (n m l q : List ℕ) (e : built g (four n m l q) ≡ true) where
   pub finished-counts : (r : Counts)
       → r ≡ record {
         kind = kind_of place g.nodes g.starred g.mixed;

@@ -5,8 +5,9 @@ use Rattle.numbers.specs.Editions.{reld}
 use Rattle.numbers.specs.Limits.{over, script_limit}
 use Rattle.numbers.specs.Refusals.{no_room, too_long}
 use Rattle.packing.specs.Padding.{zeroed}
+use Rattle.reading_cursors.specs.declared.places.Place.{Place}
 use Rattle.reading_cursors.specs.declared.Event.{Event}
-use Rattle.reading_cursors.specs.Places.{at_list, at_script}
+use Rattle.reading_cursors.specs.Places.{at_list, at_script, is_list}
 use Rattle.reading.specs.Events.{Outcome, accepted, refused, Reading, reading}
 use Rattle.book.specs.Books.{Book, export, no_node, regular, rust}
 use Rattle.book.specs.Layout.{Buffers, counts_of, laid_out, no_counts, node_width}
@@ -32,10 +33,10 @@ nothing_yet = record { nodes = no_node ∷ []; lines = []; inside = false; mixed
 
 -- "Rust kind: a one-body script with a bare `*;` among its locals (outside extern) and only Exact lines, outside extern, as globals". A script with a line
 -- and no named node has one body. An export list's kind is its own, and any other script is Regular
-unfoldable pub kind_of : ℕ → ℕ → Bool → Bool → ℕ
-kind_of place nodes starred mixed = cond (eqb place at_list) export (cond (eqb nodes 1 && (starred && not mixed)) rust regular)
+unfoldable pub kind_of : Place → ℕ → Bool → Bool → ℕ
+kind_of place nodes starred mixed = cond (is_list place) export (cond (eqb nodes 1 && (starred && not mixed)) rust regular)
 
-abbrev pub finished : ℕ → Building → Book
+abbrev pub finished : Place → Building → Book
 finished place g = record {
   kind = kind_of place (length g.nodes) g.starred g.mixed;
   nodes = g.nodes;
@@ -48,15 +49,15 @@ abbrev pub on_taken : Taken → (Building → Opening) → Opening
 on_taken (on g) next = next g
 on_taken (no n p) next = declined n p
 
-abbrev pub ended : ℕ → Building → Outcome → Opening
+abbrev pub ended : Place → Building → Outcome → Opening
 ended place g accepted = opens (finished place g)
 ended place g (refused n p) = declined n p
 
-unfoldable pub build : ℕ → Buffers → List ℕ → Building → List Event → Outcome → Opening
+unfoldable pub build : Place → Buffers → List ℕ → Building → List Event → Outcome → Opening
 build place b s g [] o = ended place g o
 build place b s g (e ∷ es) o = on_taken (take_event b s g e) (λ h. build place b s h es o)
 
-unfoldable pub build_reading : ℕ → Buffers → List ℕ → Building → Reading → Opening
+unfoldable pub build_reading : Place → Buffers → List ℕ → Building → Reading → Opening
 build_reading place b s g r = build place b s g r.events r.outcome
 
 -- the text s, into buffers with the rooms of b

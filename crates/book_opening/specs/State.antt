@@ -1,6 +1,7 @@
 -- The buffers behind the events of a text: with a book laid out in them, or with nothing left of it. Assumes nothing.
 use Rattle.std.specs.Prelude.{ℕ, ◌≡◌, List, true}
 use Rattle.numbers.specs.Editions.{reld}
+use Rattle.reading_cursors.specs.declared.places.Place.{Place}
 use Rattle.reading.specs.Events.{reading}
 use Rattle.book.specs.declared.Counts.{Counts}
 use Rattle.book.specs.Layout.{Buffers, counts_of, laid_out}
@@ -13,7 +14,7 @@ use Rattle.book_opening.specs.declared.Opened.{Opened}
 use Rattle.book_opening.specs.Opening.{Opening, opens, declined, build_reading, finished, left, nothing_yet, opening, told}
 
 -- ---- the text has ended: the counts, in whatever buffers
-abbrev pub Finished : ℕ → Progress → Counts → Type 0
+abbrev pub Finished : Place → Progress → Counts → Type 0
 Finished place g r = (n m l q : List ℕ) → built g (four n m l q) ≡ true → r ≡ counts_of (finished place (building g (four n m l q)))
 
 -- an opening ended: with the book laid out in the buffers, or refused
@@ -26,7 +27,7 @@ abbrev pub Filled : Opening → Opened → Buffers → Buffers → Type 0
 Filled o r b b' = (r ≡ told o) × (b' ≡ left b o)
 
 -- ---- the text s, in the buffers b: its events, read from a place of the grammar on, and its opening
-abbrev pub Builds : ℕ → Buffers → List ℕ → Built → Buffers → Type 0
+abbrev pub Builds : Place → Buffers → List ℕ → Built → Buffers → Type 0
 Builds place b s r b' = Ended (build_reading place b s nothing_yet (reading reld place s)) r b b'
 
 abbrev pub Opens : How → Buffers → List ℕ → Opened → Buffers → Type 0

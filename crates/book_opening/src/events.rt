@@ -11,10 +11,10 @@ use book::{Counts, EXPORT, NODE_WIDTH, REGULAR, RUST, no_counts};
 use book_building::events::take_event;
 use book_building::{Progress, Taking, clear_book};
 use linker_script::last_close;
-use numbers::{NO_ROOM, RELD, SCRIPT_LIMIT, TOO_LONG};
+use numbers::{Edition, NO_ROOM, SCRIPT_LIMIT, TOO_LONG};
 use reading::scripts::next_event;
-use reading_cursors::places::AT_LIST;
-use reading_cursors::{Step, start_at};
+use reading_cursors::places::Place;
+use reading_cursors::start_at;
 
 fn refused(refusal: u32, place: usize) -> Opened
     ensures { result ≡ told (declined refusal place) }
@@ -26,10 +26,10 @@ fn refused(refusal: u32, place: usize) -> Opened
     }
 }
 
-fn kind_of(place: u32, g: Progress) -> u32
+fn kind_of(place: Place, g: Progress) -> u32
     ensures { result ≡ kind_of place g.nodes g.starred g.mixed }
 {
-    if place == AT_LIST {
+    if place == Place::AtList {
         return EXPORT;
     }
     if g.nodes != 1 {
@@ -45,7 +45,7 @@ fn kind_of(place: u32, g: Progress) -> u32
 }
 
 // The counts of a book whose text has ended.
-fn finished(place: u32, g: Progress) -> Counts
+fn finished(place: Place, g: Progress) -> Counts
     requires { (g.nodes ≤ node_limit) × (g.names ≤ script_limit * node_limit) × (g.lines ≤ line_limit) × (g.pool ≤ pool_limit) }
     ensures { Finished place g result }
 {
@@ -61,7 +61,7 @@ fn finished(place: u32, g: Progress) -> Counts
 
 // The events of a text, from a place of the grammar on, into cleared buffers.
 fn build(
-    place: u32,
+    place: Place,
     s: &[u8],
     nodes: &mut [u32],
     names: &mut [u8],
@@ -73,7 +73,7 @@ fn build(
         result (four nodes.new names.new lines.new pool.new) }
 {
     let last = last_close(s);
-    let mut c = start_at(RELD, place);
+    let mut c = start_at(Edition::Reld, place);
     let mut g = Progress {
         nodes: 1,
         names: 0,
@@ -85,13 +85,13 @@ fn build(
     };
     loop {
         match next_event(s, last, c) {
-            Step::End => {
+            Ok(None) => {
                 return Built::Done(finished(place, g));
             }
-            Step::Refused(n, p) => {
-                return Built::Refused(n, p);
+            Err(no) => {
+                return Built::Refused(no.refusal.number(), no.place);
             }
-            Step::Go(e, d) => match take_event(s, e, g, nodes, names, lines, pool) {
+            Ok(Some((e, d))) => match take_event(s, e, g, nodes, names, lines, pool) {
                 Taking::No(n, p) => {
                     return Built::Refused(n, p);
                 }

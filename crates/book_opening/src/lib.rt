@@ -9,20 +9,24 @@ use crate::events::fill;
 use book::Counts;
 use book_building::clear_book;
 use packing::clear_numbers;
-use reading_cursors::places::{AT_LIST, AT_SCRIPT};
+use reading_cursors::places::Place;
 
 mod events;
 
 // How a text is opened: from which place of the grammar on it is read.
 #[derive(Clone, Copy)]
 pub struct How {
-    pub place: u32,
+    pub place: Place,
 }
 
 impl How {
-    pub const SCRIPT: How = How { place: AT_SCRIPT };
+    pub const SCRIPT: How = How {
+        place: Place::AtScript,
+    };
 
-    pub const LIST: How = How { place: AT_LIST };
+    pub const LIST: How = How {
+        place: Place::AtList,
+    };
 }
 
 // What an opening answers: 0 and the counts, or the number that says no, its place in the text, and zero counts.

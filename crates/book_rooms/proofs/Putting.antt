@@ -11,12 +11,12 @@ use lib.Dec.{leb, ltb}
 use lib.ListN.{length, take, drop, length-take, length-drop, take-append-drop}
 use lib.Seq.{paste, drop-append-le, drop-drop, take-length}
 use Rattle.numbers.specs.Limits.{pool_limit}
-use Rattle.numbers.specs.Refusals.{no_room}
 use Rattle.lists.specs.Front.{front}
 use Rattle.classes.specs.declared.Class.{Class}
 use Rattle.storing.specs.declared.Stored.{Stored}
-use Rattle.storing.specs.declared.Stored.TheVariants.{As}
-use Rattle.storing.specs.declared.Stored.TheVariants as stored
+use Rattle.std.specs.Prelude.{Result, Ok, Err}
+use Rattle.numbers.specs.declared.Refusal.{Refusal}
+use Rattle.numbers.specs.declared.Refusal.TheVariants as no
 use Rattle.storing.specs.Keeping.{Keep, kept, refused}
 use Rattle.storing.specs.Answers.{Stores, keep_answer, keep_buffer}
 use Rattle.book_rooms.specs.Rooms.{Put, open_part, pool_room}
@@ -50,7 +50,7 @@ behind_part q at h =
     drop-drop (pool_room q - at) at q ∙ ap (λ (k : ℕ). drop k q) n
 
 -- what `store_token` answers and leaves in the part up to `end`
-pub put-part : (K : Keep) (q v : List ℕ) (at end : ℕ) (r : Stored) → end ≡ pool_room q → at ≤ pool_room q
+pub put-part : (K : Keep) (q v : List ℕ) (at end : ℕ) (r : Result Stored Refusal) → end ≡ pool_room q → at ≤ pool_room q
     → Stores K (take (end - at) (drop at q)) r v → Put K q at r (take at q ++ (v ++ drop (end - at) (drop at q)))
 put-part K q v at end r e h s =
     let t : Stores K (open_part q at) r v = rw e at s in
@@ -80,13 +80,13 @@ part_length : (q : List ℕ) (at : ℕ) → length (open_part q at) ≡ pool_roo
 part_length q at = omega (arith, room-length q, length-take (pool_room q - at) (drop at q), length-drop at q)
 
 -- ---- by the room that there is: the bytes are pasted into the pool, or it is as it was
-abbrev Placed : Keep → List ℕ → ℕ → Stored → List ℕ → Type 0
+abbrev Placed : Keep → List ℕ → ℕ → Result Stored Refusal → List ℕ → Type 0
 Placed (kept k bs) q at r q' =
-    (at + length bs ≤ pool_room q → (r ≡ As k (length bs)) × (q' ≡ paste q at bs (length bs)))
-    × (pool_room q < at + length bs → (r ≡ stored.Refused no_room) × (q' ≡ q))
-Placed (refused n) q at r q' = (r ≡ stored.Refused n) × (q' ≡ q)
+    (at + length bs ≤ pool_room q → (r ≡ Ok (record { class = k; size = length bs })) × (q' ≡ paste q at bs (length bs)))
+    × (pool_room q < at + length bs → (r ≡ Err no.NoRoom) × (q' ≡ q))
+Placed (refused n) q at r q' = (r ≡ Err n) × (q' ≡ q)
 
-placed : (K : Keep) (q : List ℕ) (at : ℕ) (r : Stored) (q' : List ℕ) → at ≤ pool_room q → Put K q at r q' → Placed K q at r q'
+placed : (K : Keep) (q : List ℕ) (at : ℕ) (r : Result Stored Refusal) (q' : List ℕ) → at ≤ pool_room q → Put K q at r q' → Placed K q at r q'
 unfolding keep_answer keep_buffer
 placed (kept k bs) q at r q' h p =
     let n = part_length q at in (
@@ -107,27 +107,28 @@ pub record Kept (K : Keep) (q : List ℕ) (at : ℕ) (q' : List ℕ) (k : Class)
   pub room : at + length bytes ≤ pool_room q
   pub put : q' ≡ paste q at bytes (length bytes)
 
-pub was_kept : (K : Keep) (q : List ℕ) (at : ℕ) (r : Stored) (q' : List ℕ) (k : Class) (i : ℕ) → at ≤ pool_room q → Put K q at r q'
-    → r ≡ As k i → Kept K q at q' k i
-was_kept (kept j bs) q at r q' k i a p z = go (dec_le (at + length bs) (pool_room q))
+pub was_kept : (K : Keep) (q : List ℕ) (at : ℕ) (r : Result Stored Refusal) (q' : List ℕ) (s : Stored) → at ≤ pool_room q → Put K q at r q'
+    → r ≡ Ok s → Kept K q at q' s.class s.size
+was_kept (kept j bs) q at r q' s a p z = go (dec_le (at + length bs) (pool_room q))
   where
-    go : Dec (at + length bs ≤ pool_room q) → Kept (kept j bs) q at q' k i
+    go : Dec (at + length bs ≤ pool_room q) → Kept (kept j bs) q at q' s.class s.size
     go (yes h) =
         let v = (placed (kept j bs) q at r q' a p).0 h in
         let b = v.0 in
-        let d : j ≡ k = cc in
-        let c : i ≡ length bs = cc in
+        let w : record { class = j; size = length bs } ≡ s = cc in
+        let d : j ≡ s.class = ap (λ (x : Stored). x.class) w in
+        let c : s.size ≡ length bs = sym (ap (λ (x : Stored). x.size) w) in
         record { bytes = bs; keeps = ap (λ (x : Class). kept x bs) d; size = c; room = h; put = v.1 }
     go (no h) = let b = ((placed (kept j bs) q at r q' a p).1 (omega arith)).0 in absurd (true≢false (cc))
-was_kept (refused n) q at r q' k i a p z = let b = (placed (refused n) q at r q' a p).0 in absurd (true≢false (cc))
+was_kept (refused n) q at r q' s a p z = let b = (placed (refused n) q at r q' a p).0 in absurd (true≢false (cc))
 
--- of one that was refused: by its number, or for want of room; and the pool is as it was
-abbrev pub RefusedAs : Keep → List ℕ → ℕ → ℕ → Type 0
-RefusedAs (kept k bs) q at x = (pool_room q < at + length bs) × (x ≡ no_room)
+-- of one that was refused: by its refusal, or for want of room; and the pool is as it was
+abbrev pub RefusedAs : Keep → List ℕ → ℕ → Refusal → Type 0
+RefusedAs (kept k bs) q at x = (pool_room q < at + length bs) × (x ≡ no.NoRoom)
 RefusedAs (refused n) q at x = x ≡ n
 
-pub was_refused : (K : Keep) (q : List ℕ) (at : ℕ) (r : Stored) (q' : List ℕ) (x : ℕ) → at ≤ pool_room q → Put K q at r q'
-    → r ≡ stored.Refused x → RefusedAs K q at x × (q' ≡ q)
+pub was_refused : (K : Keep) (q : List ℕ) (at : ℕ) (r : Result Stored Refusal) (q' : List ℕ) (x : Refusal) → at ≤ pool_room q → Put K q at r q'
+    → r ≡ Err x → RefusedAs K q at x × (q' ≡ q)
 was_refused (kept k bs) q at r q' x a p z = go (dec_le (at + length bs) (pool_room q))
   where
     go : Dec (at + length bs ≤ pool_room q) → RefusedAs (kept k bs) q at x × (q' ≡ q)
@@ -136,7 +137,7 @@ was_refused (kept k bs) q at r q' x a p z = go (dec_le (at + length bs) (pool_ro
         let m : pool_room q < at + length bs = omega arith in
         let v = (placed (kept k bs) q at r q' a p).1 m in
         let b = v.0 in
-        let i : x ≡ no_room = cc in
+        let i : x ≡ no.NoRoom = cc in
         ((m, i), v.1)
 was_refused (refused n) q at r q' x a p z =
     let v = placed (refused n) q at r q' a p in

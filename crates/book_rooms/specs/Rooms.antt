@@ -1,8 +1,9 @@
 -- Whether a row or bytes more have room in lent buffers and are within their limits: "a row, byte or journal limit or room would be passed" is 8. Assumes
 -- nothing.
-use Rattle.std.specs.Prelude.{ℕ, ◌+◌, ◌-◌, ◌*◌, ◌≡◌, List, ◌++◌, Bool, cond, ◌&&◌, leb, ltb, length, take, drop}
+use Rattle.std.specs.Prelude.{Result, ℕ, ◌+◌, ◌-◌, ◌*◌, ◌≡◌, List, ◌++◌, Bool, cond, ◌&&◌, leb, ltb, length, take, drop}
 use Rattle.numbers.specs.Limits.{edit_limit, line_limit, node_limit, over, pool_limit}
 use Rattle.packing.specs.Tables.{packed}
+use Rattle.numbers.specs.declared.Refusal.{Refusal}
 use Rattle.storing.specs.declared.Stored.{Stored}
 use Rattle.storing.specs.Keeping.{Keep}
 use Rattle.storing.specs.Answers.{keep_answer, keep_buffer}
@@ -34,7 +35,7 @@ line_room b xs bs = fits_row b.lines (length xs) && leb (length (packed line_for
 abbrev pub open_part : List ℕ → ℕ → List ℕ
 open_part q at = take (pool_room q - at) (drop at q)
 
-abbrev pub Put : Keep → List ℕ → ℕ → Stored → List ℕ → Type 0
+abbrev pub Put : Keep → List ℕ → ℕ → Result Stored Refusal → List ℕ → Type 0
 Put x q at r q' =
     (r ≡ keep_answer x (length (open_part q at))) × (q' ≡ take at q ++ (keep_buffer x (open_part q at) ++ drop (pool_room q) q))
 

@@ -4,11 +4,13 @@ ghost use Rattle.std.specs.Prelude.{◌≡◌};
 ghost use Rattle.book.specs.Layout.{five};
 ghost use Rattle.ranking.specs.Matching.{name_of};
 ghost use Rattle.lookups.specs.Lookups.{wanted_of};
-ghost use Rattle.reasons.specs.Why.{seven, why_asked, why_numbers, why_refusal};
+ghost use Rattle.numbers.specs.Saying.{refusal_of};
+ghost use Rattle.reasons.specs.Why.{seven, why_asked, why_numbers};
 ghost use Rattle.c_lending.specs.Calls.{RepliesWith, flag, lent, numbers_left, numbers_told};
 
+use book::lent::Lent;
 use c_lending::counts_of;
-use numbers::NO_ROOM;
+use numbers::{NO_ROOM, Refusal};
 use reasons::{Reason, Why};
 
 // How many numbers the answer is.
@@ -45,14 +47,22 @@ fn answer_seven(no: u32, what: u32, r: Reason, out: &mut [u32]) -> u32
 }
 
 // 0 for no line, 1 for a line, 2 for the wanted version.
-fn tell_why(y: Why, out: &mut [u32]) -> u32
-    ensures { RepliesWith why_refusal why_numbers y out.old result out.new }
+fn tell_done(y: Why, out: &mut [u32]) -> u32
+    ensures { RepliesWith refusal_of why_numbers (Ok y) out.old result out.new }
 {
     match y {
-        Why::Refused(no) => answer_seven(no, 0, NO_REASON, out),
         Why::NoLine => answer_seven(0, 0, NO_REASON, out),
         Why::Wanted => answer_seven(0, 2, NO_REASON, out),
         Why::Line(r) => answer_seven(0, 1, r, out),
+    }
+}
+
+fn tell_why(y: Result<Why, Refusal>, out: &mut [u32]) -> u32
+    ensures { RepliesWith refusal_of why_numbers y out.old result out.new }
+{
+    match y {
+        Ok(y) => tell_done(y, out),
+        Err(no) => answer_seven(no.number(), 0, NO_REASON, out),
     }
 }
 
@@ -70,7 +80,7 @@ pub fn why(
     wanted: &[u8],
     out: &mut [u32],
 ) -> u32
-    ensures { RepliesWith why_refusal why_numbers
+    ensures { RepliesWith refusal_of why_numbers
         (why_asked (lent counts.now
         (five nodes.now names.now lines.now pool.now journal.now))
         (name_of raw.now demangled.now) (wanted_of (flag has_wanted) wanted.now))
@@ -78,16 +88,17 @@ pub fn why(
 {
     let has = has_wanted != 0;
     let y = reasons::asking::why(
-        counts_of(counts),
-        nodes,
-        names,
-        lines,
-        pool,
-        journal,
+        Lent {
+            counts: counts_of(counts),
+            nodes,
+            names,
+            lines,
+            pool,
+            journal,
+        },
         raw,
         demangled,
-        has,
-        wanted,
+        has.then_some(wanted),
     );
     tell_why(y, out)
 }

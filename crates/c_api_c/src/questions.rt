@@ -1,10 +1,11 @@
 // What a lent book is asked.
 ghost use Rattle.book.specs.Layout.{five};
 ghost use Rattle.ranking.specs.Matching.{name_of};
-ghost use Rattle.counting.specs.Questions.{count_refusal, count_value, counted, parent_count, version_count};
-ghost use Rattle.lookups.specs.Lookups.{locality_asked, locality_refusal, locality_value, version_asked, version_refusal, version_value, wanted_of};
-ghost use Rattle.export_list.specs.Membership.{contains_asked, membership_refusal, membership_value};
-ghost use Rattle.reasons.specs.Why.{why_asked, why_numbers, why_refusal};
+ghost use Rattle.numbers.specs.Saying.{refusal_of};
+ghost use Rattle.counting.specs.Questions.{count_value, counted, parent_count, version_count};
+ghost use Rattle.lookups.specs.Lookups.{locality_asked, locality_value, version_asked, version_value, wanted_of};
+ghost use Rattle.export_list.specs.Membership.{contains_asked, membership_value};
+ghost use Rattle.reasons.specs.Why.{why_asked, why_numbers};
 ghost use Rattle.c_lending.specs.Calls.{Replies, RepliesWith, flag, lent};
 
 #[unsafe(no_mangle)]
@@ -17,7 +18,7 @@ pub extern "C" fn tuno_version_count(
     journal: &[u32],
     out: &mut [u32],
 ) -> u32
-    ensures { Replies count_refusal count_value
+    ensures { Replies refusal_of count_value
         (counted version_count (lent counts.now
         (five nodes.now names.now lines.now pool.now journal.now)))
         out.old result out.new }
@@ -35,7 +36,7 @@ pub extern "C" fn tuno_parent_count(
     journal: &[u32],
     out: &mut [u32],
 ) -> u32
-    ensures { Replies count_refusal count_value
+    ensures { Replies refusal_of count_value
         (counted parent_count (lent counts.now
         (five nodes.now names.now lines.now pool.now journal.now)))
         out.old result out.new }
@@ -57,7 +58,7 @@ pub extern "C" fn tuno_version_for_symbol(
     wanted: &[u8],
     out: &mut [u32],
 ) -> u32
-    ensures { Replies version_refusal version_value
+    ensures { Replies refusal_of version_value
         (version_asked (lent counts.now
         (five nodes.now names.now lines.now pool.now journal.now))
         (name_of raw.now demangled.now) (wanted_of (flag has_wanted) wanted.now))
@@ -80,7 +81,7 @@ pub extern "C" fn tuno_locality(
     demangled: &[u8],
     out: &mut [u32],
 ) -> u32
-    ensures { Replies locality_refusal locality_value
+    ensures { Replies refusal_of locality_value
         (locality_asked (lent counts.now
         (five nodes.now names.now lines.now pool.now journal.now))
         (name_of raw.now demangled.now))
@@ -103,7 +104,7 @@ pub extern "C" fn tuno_contains(
     demangled: &[u8],
     out: &mut [u32],
 ) -> u32
-    ensures { Replies membership_refusal membership_value
+    ensures { Replies refusal_of membership_value
         (contains_asked (lent counts.now
         (five nodes.now names.now lines.now pool.now journal.now))
         (name_of raw.now demangled.now))
@@ -128,7 +129,7 @@ pub extern "C" fn tuno_why(
     wanted: &[u8],
     out: &mut [u32],
 ) -> u32
-    ensures { RepliesWith why_refusal why_numbers
+    ensures { RepliesWith refusal_of why_numbers
         (why_asked (lent counts.now
         (five nodes.now names.now lines.now pool.now journal.now))
         (name_of raw.now demangled.now) (wanted_of (flag has_wanted) wanted.now))

@@ -4,14 +4,12 @@ use Prim.Native.Nat.{ℕ}
 use mathlib.Core.Path.{◌≡◌, refl, ap, ◌∙◌}
 use mathlib.Core.List.{List}
 use mathlib.Core.Bool.{Bool, true, false}
-use mathlib.Core.Option.{Option, none}
+use Rattle.std.specs.Prelude.{Option, None, Result, Ok}
 use Rattle.numbers.specs.Refusals.{no_book}
 use Rattle.book.specs.declared.Counts.{Counts}
 use Rattle.book.specs.Books.{Book}
 use Rattle.book.specs.Layout.{Buffers}
 use Rattle.book.specs.View.{view}
-use Rattle.trial.specs.declared.Edited.{Edited}
-use Rattle.trial.specs.declared.Edited.TheVariants as answer
 use Rattle.trial.specs.Changes.{Answers, Change, after, edit_refusal, edited, no, to}
 use Rattle.trial.specs.Symbols.{symbol_asked}
 use Rattle.trial.specs.Trial.{add_asked, settle_asked, strike_asked, undo_asked}
@@ -19,12 +17,12 @@ use Rattle.c_lending.specs.Calls.{Edits, Finishes, counts_edited, counts_put, co
 use Rattle.c_lending.proofs.Lending.{lent-viewed}
 
 -- ---- an edit that is done: its counts are written
-pub counts-written : (l l' : List ℕ) (a : Edited) (d : Counts) → a ≡ answer.Done d → l' ≡ counts_put l d → Finishes l a 0 l'
+pub counts-written : (l l' : List ℕ) (a : Result Counts ℕ) (d : Counts) → a ≡ Ok d → l' ≡ counts_put l d → Finishes l a 0 l'
 counts-written l l' a d e x = rw e (refl, x)
 
-module _ (l : List ℕ) (b : Buffers) (c : Counts) (e : c ≡ lent_counts l) (a : Edited) (r : ℕ) (l' : List ℕ) (b' : Buffers) where
+module _ (l : List ℕ) (b : Buffers) (c : Counts) (e : c ≡ lent_counts l) (a : Result Counts ℕ) (r : ℕ) (l' : List ℕ) (b' : Buffers) where
   -- the counts of a change of what is lent: without six numbers there is no book, and no change
-  counted : (ask : Buffers → Option Book → Change) → ask b none ≡ no no_book → l' ≡ counts_told l (edited (ask b (lent l b)))
+  counted : (ask : Buffers → Option Book → Change) → ask b None ≡ no no_book → l' ≡ counts_told l (edited (ask b (lent l b)))
       → l' ≡ counts_edited l (ask b (lent l b))
   unfolding edited counts_edited lent
   counted ask none-asked k = go (six l) refl
@@ -36,10 +34,10 @@ module _ (l : List ℕ) (b : Buffers) (c : Counts) (e : c ≡ lent_counts l) (a 
       go : (t : Bool) → six l ≡ t → l' ≡ counts_edited l (ask b (lent l b))
       go true h = written h (ask b (lent l b)) k
       go false h =
-          let q : lent l b ≡ none = rw h in
+          let q : lent l b ≡ None = rw h in
           rw (q, none-asked) (rw (q, none-asked) at k)
 
-  told : (ask : Buffers → Option Book → Change) → ask b none ≡ no no_book → Answers c b ask a b' → Finishes l a r l' → Edits l b ask r l' b'
+  told : (ask : Buffers → Option Book → Change) → ask b None ≡ no no_book → Answers c b ask a b' → Finishes l a r l' → Edits l b ask r l' b'
   unfolding Edits
   told ask none-asked y z =
       let q : view c b ≡ lent l b = lent-viewed l b c e in

@@ -3,7 +3,7 @@ use Prim.Native.Nat.{ℕ}
 use mathlib.Core.Path.{◌≡◌, refl, ap, ◌∙◌}
 use mathlib.Core.List.{List, [], ◌∷◌}
 use mathlib.Core.Bool.{Bool, true, false, cond}
-use mathlib.Core.Option.{Option, none}
+use Rattle.std.specs.Prelude.{Option, None}
 use native.Mathlib.Omega.{arith}
 use borrow.Author.Tests.{eq-eqb, ne_eqb}
 use lib.ListN.{length, set}
@@ -48,7 +48,7 @@ module _ (l : List ℕ) where
   unfolding lent view holds laid within_limits
   lent-viewed b c e = rw e (go (six l))
     where
-      go : (t : Bool) → view (cond t (row_counts l) unheld_counts) b ≡ cond t (view (row_counts l) b) none
+      go : (t : Bool) → view (cond t (row_counts l) unheld_counts) b ≡ cond t (view (row_counts l) b) None
       go true = refl
       go false = refl
 

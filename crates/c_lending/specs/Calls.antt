@@ -1,7 +1,6 @@
 -- The library for C, C++ and Rust programs: numbers and slices only. The book is six lent buffers: its counts, then nodes, names, lines, pool and journal.
 -- Assumes nothing.
-use Rattle.std.specs.Prelude.{ℕ, ◌+◌, ◌*◌, ◌≡◌, List, [], ◌∷◌, Bool, cond, not, eqb, ltb, length, get_or, set}
-use Rattle.std.proofs.Math.Option.{Option, none}
+use Rattle.std.specs.Prelude.{ℕ, ◌+◌, ◌*◌, ◌≡◌, List, [], ◌∷◌, Bool, cond, not, eqb, ltb, length, get_or, set, Option, None, Result, Ok, Err}
 use Rattle.numbers.specs.Limits.{node_limit, over, script_limit}
 use Rattle.numbers.specs.Refusals.{no_room, too_long}
 use Rattle.lists.specs.Front.{front}
@@ -12,8 +11,6 @@ use Rattle.book.specs.Layout.{Buffers, counts_of}
 use Rattle.book.specs.View.{view}
 use Rattle.book_opening.specs.declared.How.{How}
 use Rattle.book_opening.specs.Opening.{Opening, opens, declined, left, opening, told}
-use Rattle.trial.specs.declared.Edited.{Edited}
-use Rattle.trial.specs.declared.Edited.TheVariants as answer
 use Rattle.trial.specs.Changes.{Change, to, no, after, edit_refusal, edited}
 
 -- "kind, nodes, name bytes, lines, pool bytes, edits"
@@ -28,7 +25,7 @@ abbrev pub six : List ℕ → Bool
 six l = eqb (length l) 6
 
 unfoldable pub lent : List ℕ → Buffers → Option Book
-lent l b = cond (six l) (view (row_counts l) b) none
+lent l b = cond (six l) (view (row_counts l) b) None
 
 -- the counts that the functions below the calls are given: where six numbers are not lent, those of more nodes than a book has, which no buffers hold
 abbrev pub unheld_counts : Counts
@@ -90,12 +87,12 @@ unfoldable pub counts_edited : List ℕ → Change → List ℕ
 counts_edited l (to w) = counts_row (counts_of w)
 counts_edited l (no n) = l
 
-abbrev pub counts_told : List ℕ → Edited → List ℕ
-counts_told l (answer.Done c) = counts_put l c
-counts_told l (answer.Refused n) = l
+abbrev pub counts_told : List ℕ → Result Counts ℕ → List ℕ
+counts_told l (Ok c) = counts_put l c
+counts_told l (Err n) = l
 
 -- what is told of the answer a: r, and the counts l become l'
-abbrev pub Finishes : List ℕ → Edited → ℕ → List ℕ → Type 0
+abbrev pub Finishes : List ℕ → Result Counts ℕ → ℕ → List ℕ → Type 0
 Finishes l a r l' = (r ≡ edit_refusal a) × (l' ≡ counts_told l a)
 
 -- what an edit that is asked of a lent book leaves: r answered, the counts l' and the buffers b'

@@ -7,7 +7,6 @@ ghost use Rattle.c_lending.specs.Calls.{Finishes, counts_put, lent_counts, numbe
 
 use book::Counts;
 use numbers::{NO_ROOM, NODE_LIMIT};
-use trial::Edited;
 
 // How many numbers the counts of a book are.
 pub const COUNTS: usize = 6;
@@ -69,12 +68,12 @@ pub fn answer(no: u32, value: u32, out: &mut [u32]) -> u32
 }
 
 // What an edit answered, with the counts of the book behind it.
-pub fn finish(r: Edited, counts: &mut [u32]) -> u32
+pub fn finish(r: Result<Counts, u32>, counts: &mut [u32]) -> u32
     ensures { Finishes counts.old r result counts.new }
 {
     match r {
-        Edited::Refused(no) => no,
-        Edited::Done(c) => {
+        Err(no) => no,
+        Ok(c) => {
             put_counts(counts, c);
             0
         }

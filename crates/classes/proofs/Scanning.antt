@@ -2,11 +2,11 @@
 use Prim.Native.Nat.{ℕ, ◌+◌, ◌-◌, ◌<◌, ◌≤◌}
 use mathlib.Core.Path.{◌≡◌, refl, sym, ◌∙◌}
 use mathlib.Core.List.{List, [], ◌∷◌}
+use mathlib.Core.Logic.{◌⊎◌, inl, inr}
 use mathlib.Core.Bool.{Bool, true, false, cond, ◌&&◌, ◌||◌, true≢false}
 use native.Mathlib.Nat.{add_assoc}
 use native.Mathlib.Numerals.{add-one}
 use native.Mathlib.Omega.{arith}
-use mir.Val.{bool_byte}
 use borrow.Author.Tests.{eq-eqb, ne_eqb, le-leb, lt-leb, leb-true}
 use lib.Dec.{eqb, leb}
 use lib.ListN.{length, get_or, drop, drop_of_length-le}
@@ -79,14 +79,20 @@ module _ (k : Class) (c : ℕ) where
   unfolding scanned
   scanned-escape r e h = rw (eq-eqb c 92 h) e
 
-  module _ (n : c ≡ 92 → ⊥) (b : Bool) (e : b ≡ nonstar c) where
-    pub scanned-nonstar : b ≡ true → NonStar ≡ scanned k c
+  module _ (n : c ≡ 92 → ⊥) where
+    pub scanned-nonstar : nonstar c ≡ true → NonStar ≡ scanned k c
     unfolding scanned
-    scanned-nonstar h = rw (ne_eqb c 92 n, ← e, h)
+    scanned-nonstar h = rw (ne_eqb c 92 n, h)
 
-    pub scanned_same : b ≡ false → k ≡ scanned k c
-    unfolding scanned
-    scanned_same h = rw (ne_eqb c 92 n, ← e, h)
+    pub scanned_same : (c ≡ 63 → ⊥) → (c ≡ 91 → ⊥) → (c ≡ 93 → ⊥) → k ≡ scanned k c
+    unfolding scanned nonstar
+    scanned_same a b d = rw (ne_eqb c 92 n, ne_eqb c 63 a, ne_eqb c 91 b, ne_eqb c 93 d)
+
+pub is_nonstar : (c : ℕ) → (c ≡ 63) ⊎ ((c ≡ 91) ⊎ (c ≡ 93)) → (k : Class) → NonStar ≡ scanned k c
+unfolding scanned nonstar
+is_nonstar c (inl e) k = rw e refl
+is_nonstar c (inr (inl e)) k = rw e refl
+is_nonstar c (inr (inr e)) k = rw e refl
 
 scan-skip : (k : Class) (s : List ℕ) → scan k true s ≡ scan k false (drop 1 s)
 unfolding scan
@@ -122,14 +128,6 @@ module _ (s : List ℕ) (k : Class) (i : ℕ) (left : scan Exact false s ≡ sca
       scan_on n q = here ∙ rw (ne_eqb (get_or s i 0) 42 n, ne_eqb (get_or s i 0) 92 q, ← e)
 
 -- ---- blocks without a sign
-pub mark_byte : (b : Bool) → bool_byte b ≡ cond b 1 0
-mark_byte true = refl
-mark_byte false = refl
-
-unmarked : (b : Bool) → cond b 1 0 ≤ 0 → b ≡ false
-unmarked true h = absurd (omega arith)
-unmarked false h = refl
-
 scan_none : (s : List ℕ) (i : ℕ) → i < length s → sign (get_or s i 0) ≡ false → scan Exact false (drop i s) ≡ scan Exact false (drop (i + 1) s)
 unfolding sign scan scanned
 scan_none s i h q =
@@ -139,26 +137,25 @@ scan_none s i h q =
     rw (add-one i, drop-cons s i 0 h, a.0, b.0, b.1)
 
 -- what is known before byte i of the block at a place
-pub record Block (s : List ℕ) (at most i : ℕ) : Type 0 where
+pub record Block (s : List ℕ) (at : ℕ) (found : Bool) (i : ℕ) : Type 0 where
   pub within : i ≤ 16
-  pub left : most ≡ 0 → scan Exact false (drop at s) ≡ scan Exact false (drop (at + i) s)
+  pub left : found ≡ false → scan Exact false (drop at s) ≡ scan Exact false (drop (at + i) s)
 
-pub block_start : {s : List ℕ} {at : ℕ} → Block s at 0 0
+pub block_start : {s : List ℕ} {at : ℕ} → Block s at false 0
 block_start {at = at} =
     let e : at + 0 ≡ at = omega arith in
     record { within = omega arith; left = λ z. rw e }
 
-module _ {s : List ℕ} {at most i : ℕ} (known : Block s at most i) where
-  pub block_on : at + 16 ≤ length s → i < 16 → (m : ℕ) → m ≡ cond (sign (get_or s (at + i) 0)) 1 0 → (r : ℕ) → most ≤ r → m ≤ r → Block s at r (i + 1)
-  block_on room h m e r g k = record {
+module _ {s : List ℕ} {at : ℕ} {found : Bool} {i : ℕ} (known : Block s at found i) where
+  pub block_on : at + 16 ≤ length s → i < 16 → (m : Bool) → m ≡ sign (get_or s (at + i) 0) → Block s at (found || m) (i + 1)
+  block_on room h m e = record {
     within = omega arith;
     left = λ z.
-        known.left (omega arith)
-        ∙ scan_none s (at + i) (omega arith) (unmarked (sign (get_or s (at + i) 0)) (omega (arith, e)))
-        ∙ rw (add_assoc at i 1);
+        let q = neither found m z in
+        known.left q.0 ∙ scan_none s (at + i) (omega arith) (sym e ∙ q.1) ∙ rw (add_assoc at i 1);
   }
 
-  pub block_end : 16 ≤ i → most ≡ 0 → scan Exact false (drop at s) ≡ scan Exact false (drop (at + 16) s)
+  pub block_end : 16 ≤ i → found ≡ false → scan Exact false (drop at s) ≡ scan Exact false (drop (at + 16) s)
   block_end h z =
       let e : i ≡ 16 = omega (arith, known.within) in
       known.left z ∙ rw e
@@ -169,7 +166,7 @@ pub record Blocks (s : List ℕ) (i : ℕ) : Type 0 where
   pub left : scan Exact false s ≡ scan Exact false (drop i s)
 
 module _ {s : List ℕ} {i : ℕ} (known : Blocks s i) where
-  pub blocks_on : 16 ≤ length s - i → (m : ℕ) → (m ≡ 0 → scan Exact false (drop i s) ≡ scan Exact false (drop (i + 16) s)) → m ≡ 0 → Blocks s (i + 16)
+  pub blocks_on : 16 ≤ length s - i → (m : Bool) → (m ≡ false → scan Exact false (drop i s) ≡ scan Exact false (drop (i + 16) s)) → m ≡ false → Blocks s (i + 16)
   blocks_on room m e z = record { within = omega (arith, known.within); left = known.left ∙ e z }
 
   pub blocks_end : scan Exact false s ≡ scan Exact false (drop i s)

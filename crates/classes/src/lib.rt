@@ -1,32 +1,24 @@
 // glob_match.rs: the class of a token. `classify` has the quote and `*` rules of `parse_matcher` too. Definitions: specs/Classes.antt, from document 01.
 #![tactic(auto)]
 
-ghost use Rattle.std.specs.Prelude.{◌≡◌, cond, false, ◌+◌, ◌≤◌, drop, length};
-ghost use Rattle.classes.specs.Classes.{class_number, class_of, escaped, lone_star, nonstar, quoted, scan, scanned, sign};
+ghost use Rattle.std.specs.Prelude.{◌≡◌, false, ◌+◌, ◌≤◌, drop, length};
+ghost use Rattle.classes.specs.Classes.{class_number, class_of, escaped, lone_star, quoted, scan, scanned, sign};
 
-use numbers::{ALL_CLASS, ESCAPED_CLASS, EXACT_CLASS, NONSTAR_CLASS, STAR_CLASS};
-
-// The classes of 01. Their numbers are `class_number` of specs/Classes.antt.
+// The classes of 01, with their numbers.
 #[derive(Clone, Copy)]
 pub enum Class {
-    Exact,
-    Escaped,
-    NonStar,
-    Star,
-    All,
+    Exact = 0,
+    Escaped = 1,
+    NonStar = 2,
+    Star = 3,
+    All = 4,
 }
 
 // The paper's number of a class.
 pub fn class_number(class: Class) -> u32
     ensures { result ≡ class_number class }
 {
-    match class {
-        Class::Exact => EXACT_CLASS,
-        Class::Escaped => ESCAPED_CLASS,
-        Class::NonStar => NONSTAR_CLASS,
-        Class::Star => STAR_CLASS,
-        Class::All => ALL_CLASS,
-    }
+    class as u32
 }
 
 // A `\` makes an Exact into Escaped.
@@ -35,70 +27,49 @@ fn with_escape(class: Class) -> Class
 {
     match class {
         Class::Exact => Class::Escaped,
-        Class::Escaped => Class::Escaped,
-        Class::NonStar => Class::NonStar,
-        Class::Star => Class::Star,
-        Class::All => Class::All,
+        other => other,
     }
-}
-
-fn is_nonstar(c: u8) -> bool
-    ensures { result ≡ nonstar c }
-{
-    c == b'[' || (c == b']' || c == b'?')
 }
 
 // The class behind one byte more, which is no `*`.
 fn with_byte(class: Class, c: u8) -> Class
     ensures { result ≡ scanned class c }
 {
-    if c == b'\\' {
-        return with_escape(class);
+    match c {
+        b'\\' => with_escape(class),
+        b'[' | b']' | b'?' => Class::NonStar,
+        _ => class,
     }
-    if is_nonstar(c) {
-        return Class::NonStar;
-    }
-    class
 }
 
-// 1 for a sign that the scan looks for, else 0. All tests are made at every byte, so that many bytes can be tested at a time.
-fn mark(c: u8) -> u8
-    ensures { result ≡ cond (sign c) 1 0 }
+// Whether a byte is a sign that the scan looks for. All tests are made at every byte, with no way out between them, so that many bytes can be tested at a
+// time.
+fn is_sign(c: u8) -> bool
+    ensures { result ≡ sign c }
 {
-    ((c == b'*') | ((c == b'\\') | ((c == b'[') | ((c == b']') | (c == b'?'))))) as u8
+    (c == b'*') | ((c == b'\\') | ((c == b'[') | ((c == b']') | (c == b'?'))))
 }
 
-fn greater(a: u8, b: u8) -> u8
-    ensures { (a ≤ result) × (b ≤ result) }
-{
-    if a < b {
-        return b;
-    }
-    a
-}
-
-// 0 where no sign stands in the 16 bytes from a place on.
-fn block_mark(pattern: &[u8], at: usize) -> u8
+// Whether a sign stands in the 16 bytes from a place on. `any` would leave at the first, and test one byte at a time.
+fn has_sign(pattern: &[u8], at: usize) -> bool
     requires { at + 16 ≤ length pattern.now }
-    ensures { result ≡ 0
+    ensures { result ≡ false
         → scan Class.Exact false (drop at pattern.now) ≡ scan Class.Exact false (drop (at + 16) pattern.now) }
 {
-    let mut most = 0;
-    let mut i = 0;
-    while i < 16 {
-        most = greater(most, mark(pattern[at + i]));
-        i += 1;
+    let mut found = false;
+    for i in 0..16 {
+        found |= is_sign(pattern[at + i]);
     }
-    most
+    found
 }
 
-// How many bytes the blocks of 16 at the front have, up to the first block with a sign.
+// How many bytes the blocks of 16 at the front have, up to the first block with a sign. Over `chunks_exact` the place would be counted beside the blocks.
 fn plain_blocks(pattern: &[u8]) -> usize
     ensures { scan Class.Exact false pattern.now ≡ scan Class.Exact false (drop result pattern.now) }
 {
     let mut i = 0;
     while 16 <= pattern.len() - i {
-        if block_mark(pattern, i) != 0 {
+        if has_sign(pattern, i) {
             return i;
         }
         i += 16;
@@ -106,7 +77,8 @@ fn plain_blocks(pattern: &[u8]) -> usize
     i
 }
 
-// The scan: a `*` decides at once, a `\` skips a byte. Blocks without a sign are passed first. No sign stands behind `]`, and most letters do.
+// The scan: a `*` decides at once, a `\` skips a byte, so that a step is one byte or two. Blocks without a sign are passed first. No sign stands behind `]`,
+// and most letters do.
 pub fn analyze_glob_pattern(pattern: &[u8]) -> Class
     ensures { result ≡ scan Class.Exact false pattern.now }
 {
@@ -134,23 +106,13 @@ pub fn analyze_glob_pattern(pattern: &[u8]) -> Class
 pub fn is_quoted(token: &[u8]) -> bool
     ensures { result ≡ quoted token.now }
 {
-    let n = token.len();
-    if n < 2 {
-        return false;
-    }
-    if token[0] != b'"' {
-        return false;
-    }
-    token[n - 1] == b'"'
+    2 <= token.len() && (token[0] == b'"' && token[token.len() - 1] == b'"')
 }
 
 pub fn is_lone_star(token: &[u8]) -> bool
     ensures { result ≡ lone_star token.now }
 {
-    if token.len() == 1 {
-        return token[0] == b'*';
-    }
-    false
+    token.len() == 1 && token[0] == b'*'
 }
 
 // The class of a token, by its quotes, as `*`, or by the scan, in this order.

@@ -5,51 +5,50 @@
 ghost use Rattle.std.specs.Prelude.{◌≡◌, [], ◌*◌, ◌≤◌, length};
 ghost use Rattle.numbers.specs.Limits.{node_limit};
 ghost use Rattle.packing.specs.Tables.{things};
+ghost use Rattle.book.specs.Lending.{view_of};
 ghost use Rattle.book.specs.Layout.{five, node_form, node_width};
 ghost use Rattle.book.specs.View.{view};
-ghost use Rattle.counting.specs.Questions.{counted, node_of, parent_count, parents_among, version_count};
+ghost use Rattle.counting.specs.Questions.{counted, node_of, parent_count, parents_among, unasked, version_count};
 
-use book::{Counts, EXPORT, NODE_WIDTH};
+use book::lent::Lent;
+use book::{EXPORT, NODE_WIDTH};
 use book_check::is_book;
-use numbers::{NO_BOOK, NO_SUCH, WRONG_KIND};
+use numbers::Refusal;
 
-// A count, or the number that says no.
-#[derive(Clone, Copy)]
-pub enum Count {
-    Counted(u32),
-    Refused(u32),
+// A node: where its name starts among the names, how long it is, and its parent's number or 0.
+#[derive(Clone, Copy, Debug, PartialEq, Eq)]
+pub struct Node {
+    pub start: u32,
+    pub len: u32,
+    pub parent: u32,
 }
 
-// A node: where its name starts among the names, how long it is, and its parent's number or 0; or the number that says no.
-#[derive(Clone, Copy)]
-pub enum NodeAnswer {
-    Node { start: u32, len: u32, parent: u32 },
-    Refused(u32),
+// Whether a question is refused: what is no book, and an export list.
+fn ask(book: Lent) -> Result<(), Refusal>
+    ensures { result ≡ unasked
+        (view_of book.entry) }
+{
+    let c = book.counts;
+    if !is_book(book) {
+        return Err(Refusal::NoBook);
+    }
+    if c.kind == EXPORT {
+        return Err(Refusal::WrongKind);
+    }
+    Ok(())
 }
 
 // How many versions there are: 0 where only node 0 stands, else all nodes.
-pub fn version_count(
-    c: Counts,
-    nodes: &[u32],
-    names: &[u8],
-    lines: &[u32],
-    pool: &[u8],
-    journal: &[u32],
-) -> Count
+pub fn version_count(book: Lent) -> Result<u32, Refusal>
     ensures { result ≡ counted version_count
-        (view c (five nodes.now names.now lines.now pool.now journal.now)) }
+        (view_of book.entry) }
 {
-    if !is_book(c, nodes, names, lines, pool, journal) {
-        return Count::Refused(NO_BOOK);
+    let c = book.counts;
+    ask(book)?;
+    if c.nodes == 1 {
+        return Ok(0);
     }
-    if c.kind == EXPORT {
-        return Count::Refused(WRONG_KIND);
-    }
-    let n = c.nodes;
-    if n == 1 {
-        return Count::Counted(0);
-    }
-    Count::Counted(n)
+    Ok(c.nodes)
 }
 
 // How many of the first n rows of nodes tell a parent.
@@ -57,67 +56,40 @@ fn parents_among(nodes: &[u32], n: usize) -> u32
     requires { (node_width * n ≤ length nodes.now) × (n ≤ node_limit) }
     ensures { result ≡ parents_among (things node_form n nodes.now []) }
 {
-    let mut i = 0;
-    let mut at = NODE_WIDTH - 1;
     let mut r = 0;
-    while i < n {
-        let here = at;
-        at += NODE_WIDTH;
-        i += 1;
-        if nodes[here] != 0 {
-            r += 1;
+    for i in 0..n {
+        if nodes[NODE_WIDTH * i + 2] == 0 {
+            continue;
         }
+        r += 1;
     }
     r
 }
 
 // How many nodes have a parent.
-pub fn parent_count(
-    c: Counts,
-    nodes: &[u32],
-    names: &[u8],
-    lines: &[u32],
-    pool: &[u8],
-    journal: &[u32],
-) -> Count
+pub fn parent_count(book: Lent) -> Result<u32, Refusal>
     ensures { result ≡ counted parent_count
-        (view c (five nodes.now names.now lines.now pool.now journal.now)) }
+        (view_of book.entry) }
 {
-    if !is_book(c, nodes, names, lines, pool, journal) {
-        return Count::Refused(NO_BOOK);
-    }
-    if c.kind == EXPORT {
-        return Count::Refused(WRONG_KIND);
-    }
-    Count::Counted(parents_among(nodes, c.nodes as usize))
+    let c = book.counts;
+    ask(book)?;
+    Ok(parents_among(book.nodes, c.nodes as usize))
 }
 
 // A node's name and parent, by its number.
-pub fn version_node(
-    c: Counts,
-    nodes: &[u32],
-    names: &[u8],
-    lines: &[u32],
-    pool: &[u8],
-    journal: &[u32],
-    node: u32,
-) -> NodeAnswer
+pub fn version_node(book: Lent, node: u32) -> Result<Node, Refusal>
     ensures { result ≡ node_of node
-        (view c (five nodes.now names.now lines.now pool.now journal.now)) }
+        (view_of book.entry) }
 {
-    if !is_book(c, nodes, names, lines, pool, journal) {
-        return NodeAnswer::Refused(NO_BOOK);
-    }
-    if c.kind == EXPORT {
-        return NodeAnswer::Refused(WRONG_KIND);
-    }
+    let c = book.counts;
+    ask(book)?;
     if c.nodes <= node {
-        return NodeAnswer::Refused(NO_SUCH);
+        return Err(Refusal::NoSuch);
     }
     let at = NODE_WIDTH * (node as usize);
-    NodeAnswer::Node {
-        start: nodes[at],
-        len: nodes[at + 1],
-        parent: nodes[at + 2],
-    }
+    Ok(Node {
+        start: book.nodes[at],
+        len: book.nodes[at + 1],
+        parent: book.nodes[at + 2],
+    })
 }

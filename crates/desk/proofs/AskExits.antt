@@ -2,8 +2,10 @@
 use Prim.Native.Nat.{ℕ, ◌+◌, ◌≤◌}
 use mathlib.Core.Path.{◌≡◌, ap, ◌∙◌}
 use mathlib.Core.List.{List, [], ◌∷◌, ◌++◌}
-use mathlib.Core.Bool.{true}
-use mathlib.Core.Option.{Option}
+use mathlib.Core.Bool.{Bool, true, false}
+use Rattle.std.specs.Prelude.{Option, Result, Ok, Err}
+use Rattle.numbers.specs.declared.Refusal.{Refusal}
+use Rattle.numbers.specs.Saying.{number}
 use native.Mathlib.Omega.{arith}
 use borrow.Author.Tests.{eq-eqb, ne_eqb}
 use lib.ListN.{length, length-append}
@@ -15,11 +17,7 @@ use Rattle.book.specs.Books.{Book, export}
 use Rattle.book.specs.Layout.{Buffers}
 use Rattle.book.specs.View.{view}
 use Rattle.ranking.specs.Matching.{name_of}
-use Rattle.lookups.specs.declared.answers.Version.{Version}
-use Rattle.lookups.specs.declared.answers.Locality.{Locality}
-use Rattle.lookups.specs.Lookups.{locality_asked, version_asked}
-use Rattle.export_list.specs.declared.Membership.{Membership}
-use Rattle.export_list.specs.declared.Membership.TheVariants as membership
+use Rattle.lookups.specs.Lookups.{LocalityAnswer, VersionAnswer, locality_asked, version_asked}
 use Rattle.export_list.specs.Membership.{contains_asked}
 use Rattle.input.specs.Splitting.{demangled_part, part_before, symbol_part}
 use Rattle.input.proofs.Halves.{part-short}
@@ -33,13 +31,13 @@ use Rattle.desk.specs.Answers.{Tells, ran_with}
 use Rattle.desk.specs.Asked.{AsksAsVerlist, asked, member_asked, member_fields, member_line, version_asked_line}
 
 -- ---- a name and whether it is in an export list
-few-member : (m : Membership) → length (member_fields m) ≤ 12
+few-member : (m : Result Bool Refusal) → length (member_fields m) ≤ 12
 unfolding codes
-few-member membership.Within = omega arith
-few-member membership.Without = omega arith
-few-member (membership.Refused n) = few-refused n
+few-member (Ok true) = omega arith
+few-member (Ok false) = omega arith
+few-member (Err e) = few-refused (number e)
 
-module _ (d name : List ℕ) (m : Membership) {d₁ d₂ : List ℕ} {a b : ℕ} (room : length name + 48 ≤ length d) (p : Puts d 0 name d₁ a)
+module _ (d name : List ℕ) (m : Result Bool Refusal) {d₁ d₂ : List ℕ} {a b : ℕ} (room : length name + 48 ≤ length d) (p : Puts d 0 name d₁ a)
     (q : Puts d₁ a (space ∷ []) d₂ b) where
   -- the fields and the end of the line stand behind the blank
   member-put : {l : List ℕ} {r : ℕ} → Puts d₂ b (member_fields m ++ line_end) l r → Begins d (member_line name m) l r
@@ -52,22 +50,17 @@ module _ (d name : List ℕ) (m : Membership) {d₁ d₂ : List ℕ} {a b : ℕ}
       let y : Puts d₁ a (space ∷ (member_fields m ++ line_end)) l r = puts-both d₁ a (space ∷ []) (member_fields m ++ line_end) (omega arith) q s in
       begins d (member_line name m) (puts-both d 0 name (space ∷ (member_fields m ++ line_end)) (omega arith) p y)
 
-  pub within-put : {l : List ℕ} {r : ℕ} → m ≡ membership.Within → Puts d₂ b (105 ∷ 110 ∷ 10 ∷ []) l r → Begins d (member_line name m) l r
-  unfolding codes
+  pub within-put : {w : Bool} {l : List ℕ} {r : ℕ} → m ≡ Ok w → Puts d₂ b (member_fields (Ok w) ++ line_end) l r → Begins d (member_line name m) l r
   within-put e s = member-put (rw e s)
 
-  pub without-put : {l : List ℕ} {r : ℕ} → m ≡ membership.Without → Puts d₂ b (111 ∷ 117 ∷ 116 ∷ 10 ∷ []) l r → Begins d (member_line name m) l r
-  unfolding codes
-  without-put e s = member-put (rw e s)
-
-  pub refused-put : {n : ℕ} {d₃ l : List ℕ} {f r : ℕ} → m ≡ membership.Refused n → Puts d₂ b (refused_fields n) d₃ f → Puts d₃ f line_end l r
+  pub refused-put : {z : Refusal} {d₃ l : List ℕ} {f r : ℕ} → m ≡ Err z → Puts d₂ b (refused_fields (number z)) d₃ f → Puts d₃ f line_end l r
       → Begins d (member_line name m) l r
-  refused-put {n} {l = l} {r = r} e s t =
+  refused-put {z} {l = l} {r = r} e s t =
       let w : a ≡ 0 + length name = p.0 in
       let w₂ : b ≡ a + 1 = q.0 in
       let x₁ = puts-long d 0 name (omega arith) p in
       let x₂ = puts-long d₁ a (space ∷ []) (omega arith) q in
-      let y : Puts d₂ b (refused_fields n ++ line_end) l r = puts-both d₂ b (refused_fields n) line_end (omega (arith, few-refused n)) s t in
+      let y : Puts d₂ b (refused_fields (number z) ++ line_end) l r = puts-both d₂ b (refused_fields (number z)) line_end (omega (arith, few-refused (number z))) s t in
       member-put (rw e y)
 
 -- ---- a part of a part of a line is no longer than the line
@@ -76,12 +69,12 @@ pub part_room : (t symbol raw d : List ℕ) (m k : ℕ) → symbol ≡ part_befo
 part_room t symbol raw d m k e f h = omega (arith, ap length e, ap length f, part-short t m, part-short symbol k)
 
 -- ---- a name asked
-pub member-put-asked : (d raw demangled : List ℕ) (w : Option Book) (m : Membership) (l : List ℕ) (r : ℕ) → m ≡ contains_asked w (name_of raw demangled)
+pub member-put-asked : (d raw demangled : List ℕ) (w : Option Book) (m : Result Bool Refusal) (l : List ℕ) (r : ℕ) → m ≡ contains_asked w (name_of raw demangled)
     → Begins d (member_line raw m) l r → Begins d (member_asked w (name_of raw demangled)) l r
 unfolding member_asked
 member-put-asked d raw demangled w m l r e p = rw (← e) p
 
-pub version-put-asked : (d raw demangled : List ℕ) (w : Option Book) (wanted : Option (List ℕ)) (v : Version) (s : Locality) (l : List ℕ) (r : ℕ)
+pub version-put-asked : (d raw demangled : List ℕ) (w : Option Book) (wanted : Option (List ℕ)) (v : VersionAnswer) (s : LocalityAnswer) (l : List ℕ) (r : ℕ)
     → v ≡ version_asked w (name_of raw demangled) wanted → s ≡ locality_asked w (name_of raw demangled) → Begins d (symbol_line raw v s) l r
     → Begins d (version_asked_line w (name_of raw demangled) wanted) l r
 unfolding version_asked_line

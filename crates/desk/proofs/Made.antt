@@ -3,11 +3,11 @@ use Prim.Native.Nat.{ℕ}
 use mathlib.Core.Path.{◌≡◌}
 use mathlib.Core.List.{List}
 use mathlib.Core.Bool.{Bool}
-use mathlib.Core.Option.{Option}
+use Rattle.std.specs.Prelude.{Option, Result}
 use lib.ListN.{drop}
+use Rattle.book.specs.declared.Counts.{Counts}
 use Rattle.book.specs.Books.{Book}
 use Rattle.book.specs.Layout.{Buffers}
-use Rattle.trial.specs.declared.Edited.{Edited}
 use Rattle.trial.specs.Changes.{Leaves}
 use Rattle.trial.specs.Symbols.{symbol_asked}
 use Rattle.trial.specs.Trial.{add_asked, settle_asked, strike_asked, undo_asked}
@@ -15,7 +15,7 @@ use Rattle.desk_commands.specs.declared.Edit.{Edit}
 use Rattle.desk_commands.specs.declared.Edit.TheVariants as edit
 use Rattle.desk.specs.Edits.{edit_asked}
 
-module _ (b b' : Buffers) (w : Option Book) (t : List ℕ) (e : Edit) (a : Edited) where
+module _ (b b' : Buffers) (w : Option Book) (t : List ℕ) (e : Edit) (a : Result Counts ℕ) where
   pub add_made : (node section language at : ℕ) (u : List ℕ) → e ≡ edit.Add node section language at → u ≡ drop at t
       → Leaves b (add_asked b w node section language u) a b' → Leaves b (edit_asked b w t e) a b'
   unfolding edit_asked

@@ -12,14 +12,14 @@ use Rattle.input.specs.Positions.{position, position_from}
 use Rattle.input.specs.Splitting.{demangled_part, name_part, symbol_part, wanted_part}
 use Rattle.printing.specs.Printing.{decimal, numbered, refused_answer, refused_fields, spaced, spelled}
 use Rattle.reasons.specs.Why.{rust_deciding, why_asked, why_of}
-use Rattle.printing_symbols.specs.Lines.{fields, index_field, symbol_line, with_locality}
+use Rattle.printing_symbols.specs.Lines.{fields, index_field, locality_field, symbol_line}
 use Rattle.printing_book.specs.Shown.{buffer_shown, counts_shown, dump_shown, fields_shown, line_shown, lines_shown, numbers_shown}
 use Rattle.printing_why.specs.Splits.{asked_name}
 use Rattle.printing_why.specs.WhyLine.{class_word, head_told, language_word, marks_told, name_told, offset_told, place_told, position_told}
 use Rattle.printing_why.specs.WhyLine.{reason_told, section_word, why_fields, why_line}
 use Rattle.printing_why.specs.Whys.{asked_why, why_answered}
 use Rattle.desk_commands.specs.Parts.{digit, digits, number_at, number_of, worth}
-use Rattle.desk_commands.specs.Commands.{add_command, command_of, question_of, strike_command}
+use Rattle.desk_commands.specs.Commands.{add_command, command_of, field_at, question_of, strike_command}
 use Rattle.desk.specs.Answers.{Step, telling}
 use Rattle.desk.specs.Asked.{asked, member_asked, member_line, version_asked_line}
 use Rattle.desk.specs.Edits.{done_said, edit_asked, edit_step, said}
@@ -134,10 +134,10 @@ record Points : Type 0 where
 
 points : Points
 unfolding computing position position_from demangled_part name_part symbol_part wanted_part decimal numbered refused_answer refused_fields spaced spelled
-    fields index_field symbol_line with_locality rust_deciding why_asked why_of
+    fields index_field locality_field symbol_line rust_deciding why_asked why_of
     class_word head_told language_word marks_told name_told offset_told place_told position_told reason_told section_word why_fields why_line
     asked_name asked_why why_answered
     buffer_shown counts_shown dump_shown fields_shown line_shown lines_shown numbers_shown
-    digit digits number_at number_of worth add_command command_of question_of strike_command
+    digit digits number_at number_of worth add_command command_of field_at question_of strike_command
     asked member_asked member_line version_asked_line done_said edit_asked edit_step said book_shown question_step question_told line_step step printed_from
 points = search

@@ -8,6 +8,7 @@ use native.Mathlib.Omega.{arith}
 use borrow.Author.Tests.{leb-false, leb-true, le-leb, lt-leb}
 use lib.Dec.{leb}
 use lib.ListN.{length}
+use Rattle.std.specs.Prelude.{Option, Some, None}
 use Rattle.numbers.specs.Signs.{line_feed, question}
 use Rattle.lists.specs.Front.{front}
 use Rattle.book.specs.declared.Counts.{Counts}
@@ -59,20 +60,20 @@ unfolding line_ran line_printed line_leaves has_room
 not_answered s c b t d h = rw (lt-leb (shown_room c + length t) (length d) h) (refl, refl, refl)
 
 -- and for which there is: r is answered, l is left of d, and b' of the buffers b
-module _ (s : List ℕ) (c : Counts) (t d : List ℕ) (h : shown_room c + length t ≤ length d) (b : Buffers) (m : Command) (f : m ≡ command_of t) (l : List ℕ) (r : Ran)
+module _ (s : List ℕ) (c : Counts) (t d : List ℕ) (h : shown_room c + length t ≤ length d) (b : Buffers) (m : Option Command) (f : m ≡ command_of t) (l : List ℕ) (r : Ran)
     (b' : Buffers) where
   answered : Runs c b (λ b w. step s c b w t m) d r l b' → RunsLine s c b t d r l b'
   unfolding line_ran line_printed line_leaves has_room line_step
   answered p = rw (le-leb (shown_room c + length t) (length d) h, ← f) p
 
-  pub edit_answered : (v : Edit) → m ≡ command.Edits v → Runs c b (λ b w. edit_step c b w t v) d r l b' → RunsLine s c b t d r l b'
+  pub edit_answered : (v : Edit) → m ≡ Some (command.Edits v) → Runs c b (λ b w. edit_step c b w t v) d r l b' → RunsLine s c b t d r l b'
   unfolding step
   edit_answered v g p = answered (rw g p)
 
-  pub question-answered : (q : Question) → m ≡ command.Asks q → Tells c b (λ b w. question_told s c b w t q) d r l → b' ≡ b → RunsLine s c b t d r l b'
+  pub question-answered : (q : Question) → m ≡ Some (command.Asks q) → Tells c b (λ b w. question_told s c b w t q) d r l → b' ≡ b → RunsLine s c b t d r l b'
   unfolding step question_step
   question-answered q g p i = answered (rw g (p.0, p.1, i))
 
-  pub unknown-answered : m ≡ command.Unknown → (r ≡ untold c 2) × (l ≡ front (question ∷ line_feed ∷ []) d) → b' ≡ b → RunsLine s c b t d r l b'
+  pub unknown-answered : m ≡ None → (r ≡ untold c 2) × (l ≡ front (question ∷ line_feed ∷ []) d) → b' ≡ b → RunsLine s c b t d r l b'
   unfolding step
   unknown-answered g p i = answered (rw g (p.0, p.1, i))

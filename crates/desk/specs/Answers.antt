@@ -1,13 +1,10 @@
 -- What a command of the release desk prints and leaves, and what is answered when it has run. Assumes nothing.
-use Rattle.std.specs.Prelude.{ℕ, ◌≡◌, List, Bool, true, length}
-use Rattle.std.proofs.Math.Option.{Option}
+use Rattle.std.specs.Prelude.{ℕ, ◌≡◌, List, Bool, true, length, Option, Result, Ok, Err}
 use Rattle.lists.specs.Front.{front}
 use Rattle.book.specs.declared.Counts.{Counts}
 use Rattle.book.specs.Books.{Book}
 use Rattle.book.specs.Layout.{Buffers}
 use Rattle.book.specs.View.{view}
-use Rattle.trial.specs.declared.Edited.{Edited}
-use Rattle.trial.specs.declared.Edited.TheVariants as answer
 use Rattle.trial.specs.Changes.{Change, after, counts_after, edited}
 use Rattle.desk.specs.declared.answering.Ran.{Ran}
 
@@ -19,7 +16,7 @@ pub record Step : Type 0 where
   pub known : Bool
 
 -- an edit x, and what is said of its answer
-abbrev pub editing : Counts → Buffers → (Edited → List ℕ) → Change → Step
+abbrev pub editing : Counts → Buffers → (Result Counts ℕ → List ℕ) → Change → Step
 editing c b say x = record { printed = say (edited x); counts = counts_after c x; left = after b x; known = true }
 
 -- nothing is changed
@@ -34,12 +31,12 @@ abbrev pub ran : Step → Ran
 ran s = ran_with s.counts (length s.printed) s.known
 
 -- the same of an edit's answer, with the counts c before it
-abbrev pub edit_ran : Counts → (Edited → List ℕ) → Edited → Ran
-edit_ran c say (answer.Done d) = ran_with d (length (say (answer.Done d))) true
-edit_ran c say (answer.Refused n) = ran_with c (length (say (answer.Refused n))) true
+abbrev pub edit_ran : Counts → (Result Counts ℕ → List ℕ) → Result Counts ℕ → Ran
+edit_ran c say (Ok d) = ran_with d (length (say (Ok d))) true
+edit_ran c say (Err n) = ran_with c (length (say (Err n))) true
 
 -- what an edit answered (a) is told by `say`, with the counts c before it: n is answered, and the text stands at the front of d, which is l then
-abbrev pub Finishes : Counts → (Edited → List ℕ) → Edited → List ℕ → List ℕ → Ran → Type 0
+abbrev pub Finishes : Counts → (Result Counts ℕ → List ℕ) → Result Counts ℕ → List ℕ → List ℕ → Ran → Type 0
 Finishes c say a d l n = (n ≡ edit_ran c say a) × (l ≡ front (say a) d)
 
 -- the command `does` has run on the buffers b and the book that they hold with the counts c: r is answered, what it prints stands at the front of `out`, and

@@ -1,6 +1,5 @@
 -- The release desk: what a line of its input prints on a trial book, and what it leaves. Assumes nothing.
-use Rattle.std.specs.Prelude.{ℕ, ◌+◌, ◌≡◌, List, [], ◌∷◌, Bool, true, false, cond, leb, length}
-use Rattle.std.proofs.Math.Option.{Option}
+use Rattle.std.specs.Prelude.{ℕ, ◌+◌, ◌≡◌, List, [], ◌∷◌, Bool, true, false, cond, leb, length, Option, Some, None}
 use Rattle.numbers.specs.Refusals.{no_room}
 use Rattle.numbers.specs.Signs.{line_feed, question}
 use Rattle.lists.specs.Front.{front}
@@ -22,10 +21,10 @@ abbrev pub unknown_printed : List ℕ
 unknown_printed = question ∷ line_feed ∷ []
 
 -- a command of the line l, on the book w of the counts c and the buffers b, which the text s was opened as
-unfoldable pub step : List ℕ → Counts → Buffers → Option Book → List ℕ → Command → Step
-step s c b w l (command.Edits e) = edit_step c b w l e
-step s c b w l (command.Asks q) = question_step s c b w l q
-step s c b w l command.Unknown = record { printed = unknown_printed; counts = c; left = b; known = false }
+unfoldable pub step : List ℕ → Counts → Buffers → Option Book → List ℕ → Option Command → Step
+step s c b w l (Some (command.Edits e)) = edit_step c b w l e
+step s c b w l (Some (command.Asks q)) = question_step s c b w l q
+step s c b w l None = record { printed = unknown_printed; counts = c; left = b; known = false }
 
 unfoldable pub line_step : List ℕ → Counts → Buffers → List ℕ → Step
 line_step s c b l = step s c b (view c b) l (command_of l)

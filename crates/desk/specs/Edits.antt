@@ -1,13 +1,10 @@
 -- The release desk's edits: what each asks of a trial book, what it prints, and what it leaves. Assumes nothing.
-use Rattle.std.specs.Prelude.{ℕ, ◌-◌, List, [], ◌∷◌, ◌++◌, drop}
-use Rattle.std.proofs.Math.Option.{Option}
+use Rattle.std.specs.Prelude.{ℕ, ◌-◌, List, [], ◌∷◌, ◌++◌, drop, Option, Result, Ok, Err}
 use Rattle.numbers.specs.Signs.{line_feed}
 use Rattle.lists.specs.Texts.{codes}
 use Rattle.book.specs.declared.Counts.{Counts}
 use Rattle.book.specs.Books.{Book}
 use Rattle.book.specs.Layout.{Buffers}
-use Rattle.trial.specs.declared.Edited.{Edited}
-use Rattle.trial.specs.declared.Edited.TheVariants as answer
 use Rattle.trial.specs.Changes.{Change}
 use Rattle.trial.specs.Symbols.{symbol_asked}
 use Rattle.trial.specs.Trial.{add_asked, settle_asked, strike_asked, undo_asked}
@@ -34,9 +31,9 @@ done_said c d edit.Settle = numbered (codes "settled") d.lines
 done_said c d (edit.Symbol at bare) = numbered (codes "added") (d.lines - c.lines)
 
 -- what is printed for what an edit answers; a refusal is `! N`
-unfoldable pub said : Counts → Edit → Edited → List ℕ
-said c e (answer.Done d) = done_said c d e
-said c e (answer.Refused n) = refused_answer n
+unfoldable pub said : Counts → Edit → Result Counts ℕ → List ℕ
+said c e (Ok d) = done_said c d e
+said c e (Err n) = refused_answer n
 
 -- ---- an edit of the line l, on the book w of the counts c and the buffers b
 unfoldable pub edit_step : Counts → Buffers → Option Book → List ℕ → Edit → Step

@@ -1,6 +1,5 @@
 -- The release desk's questions: what each prints of a book. Assumes nothing.
-use Rattle.std.specs.Prelude.{ℕ, List, drop}
-use Rattle.std.proofs.Math.Option.{Option, some, none}
+use Rattle.std.specs.Prelude.{ℕ, List, drop, Option, Some, None}
 use Rattle.numbers.specs.Refusals.{no_book}
 use Rattle.book.specs.declared.Counts.{Counts}
 use Rattle.book.specs.Books.{Book}
@@ -18,8 +17,8 @@ use Rattle.desk.specs.Asked.{asked}
 
 -- ---- what is shown of a book; where there is none it is refused 14
 abbrev pub of_book : Option Book → (Book → List ℕ) → List ℕ
-of_book none show = refused_answer no_book
-of_book (some w) show = show w
+of_book None show = refused_answer no_book
+of_book (Some w) show = show w
 
 -- of the book v of the counts c and the buffers b
 unfoldable pub book_shown : Counts → Buffers → Shown → Book → List ℕ

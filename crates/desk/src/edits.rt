@@ -13,7 +13,6 @@ use book::Counts;
 use desk_commands::Edit;
 use desk_commands::parts::tail;
 use printing::{put_numbered, put_refused_answer, put_text};
-use trial::Edited;
 use trial_add::add;
 use trial_settle::settle;
 use trial_strike::strike;
@@ -30,7 +29,7 @@ fn make_edit(
     journal: &mut [u32],
     line: &[u8],
     e: Edit,
-) -> Edited
+) -> Result<Counts, u32>
     ensures { Answers c (five nodes.now names.now lines.old pool.old journal.old)
         (λ b w. edit_asked b w line.now e)
         result (five nodes.now names.now lines.new pool.new journal.new) }
@@ -94,13 +93,13 @@ fn say_done(c: Counts, d: Counts, e: Edit, out: &mut [u8]) -> usize
 }
 
 // What an edit answered.
-fn say_edit(c: Counts, e: Edit, r: Edited, out: &mut [u8]) -> Ran
+fn say_edit(c: Counts, e: Edit, r: Result<Counts, u32>, out: &mut [u8]) -> Ran
     requires { answer_room ≤ length out.old }
     ensures { Finishes c (said c e) r out.old out.new result }
 {
     match r {
-        Edited::Refused(no) => printed(c, put_refused_answer(out, no)),
-        Edited::Done(d) => printed(d, say_done(c, d, e, out)),
+        Err(no) => printed(c, put_refused_answer(out, no)),
+        Ok(d) => printed(d, say_done(c, d, e, out)),
     }
 }
 

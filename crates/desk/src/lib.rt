@@ -12,6 +12,7 @@ use crate::answering::Ran;
 use crate::edits::run_edit;
 use crate::questions::run_question;
 use book::Counts;
+use book::lent::Lent;
 use desk_commands::{Command, command_of};
 use numbers::NO_ROOM;
 use printing::put_text;
@@ -74,8 +75,18 @@ pub fn run_line(
         };
     }
     match command_of(line) {
-        Command::Edits(e) => run_edit(c, nodes, names, lines, pool, journal, line, e, out),
-        Command::Asks(q) => run_question(c, nodes, names, lines, pool, journal, text, line, q, out),
-        Command::Unknown => run_unknown(c, out),
+        Some(Command::Edits(e)) => run_edit(c, nodes, names, lines, pool, journal, line, e, out),
+        Some(Command::Asks(q)) => {
+            let book = Lent {
+                counts: c,
+                nodes,
+                names,
+                lines,
+                pool,
+                journal,
+            };
+            run_question(book, text, line, q, out)
+        }
+        None => run_unknown(c, out),
     }
 }

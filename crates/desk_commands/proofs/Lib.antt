@@ -1,6 +1,3 @@
 mod Exits
-mod Points
-mod Behind
-pub mod Ends
 mod Numbers
-pub mod Cuts
+mod Points

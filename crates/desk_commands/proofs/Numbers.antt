@@ -1,131 +1,123 @@
--- The turns of `number_at`: some digits are behind, and the digits that are left decide. Assumes nothing.
-use Prim.Native.Nat.{ℕ, ◌+◌, ◌-◌, ◌*◌, ◌<◌, ◌≤◌}
+-- The digits that stand at a place, and the turns of `number_at`: the digits that are left decide. Assumes nothing.
+use Prim.Native.Nat.{ℕ, zero, suc, ◌+◌, ◌-◌, ◌*◌, ◌<◌, ◌≤◌}
 use mathlib.Core.Path.{◌≡◌, refl, sym, ◌∙◌}
-use mathlib.Core.List.{List, [], ◌∷◌, ◌++◌, append_assoc, append-nil}
-use mathlib.Core.Bool.{Bool, true, false, cond}
+use mathlib.Core.List.{List, [], ◌∷◌}
+use mathlib.Core.Bool.{Bool, true, false, cond, not}
+use native.Mathlib.Decide.{dec_lt}
 use native.Mathlib.Omega.{arith}
-use borrow.Author.Tests.{le-leb, le-ltb, leb-true, lt-leb, lt-ltb}
+use borrow.Author.Tests.{le-ltb, leb-true, lt-ltb}
 use mir.Syntax.{w64}
 use mir.Val.{Fits}
 use lib.Dec.{leb, ltb}
-use lib.ListN.{length, get_or, drop, drop_of_length-le, length-append}
+use lib.ListN.{length, get_or, take, drop, length-drop, drop_of_length-le}
+use Rattle.std.specs.Char.{is_ascii_digit}
+use Rattle.std.specs.List.{position, position_or_len}
+use Rattle.std.specs.Option.{unwrap_or}
+use Rattle.std.specs.Prelude.{Option, Some, None}
+use Rattle.std.proofs.lemmas.List.Sums.{prefix_len-le-length}
 use Rattle.lists.proofs.Tests.{both}
 use Rattle.linker_script.proofs.Searches.{drop_next}
-use Rattle.desk_commands.specs.declared.parts.Numeral.TheVariants.{Number, Nothing}
-use Rattle.desk_commands.specs.Parts.{digit, digits, number_at, number_limit, number_of, worth}
+use Rattle.desk_commands.specs.Parts.{digit, digits, number_at, number_limit, number_of, other, worth}
 
--- ---- a digit
-pub digit_no : (b : ℕ) → b < 48 → false ≡ digit b
+-- ---- the digits that a text begins with
+prefix : (l : List ℕ) → take (position_or_len other l) l ≡ digits l
+unfolding digits digit
+prefix [] = refl
+prefix (b ∷ l) = go (is_ascii_digit b) refl (prefix l)
+  where
+    go : (v : Bool) → is_ascii_digit b ≡ v → take (position_or_len other l) l ≡ digits l → take (position_or_len other (b ∷ l)) (b ∷ l) ≡ digits (b ∷ l)
+    go true e f =
+        let z : 1 + position_or_len other l ≡ suc (position_or_len other l) = omega arith in
+        rw (e, z, f)
+    go false e f = rw e
+
+-- the first place that passes, or the length
+place : (p : ℕ → Bool) (l : List ℕ) → unwrap_or (position p l) (length l) ≡ position_or_len p l
+place p l = go (dec_lt (position_or_len p l) (length l))
+  where
+    go : Dec (position_or_len p l < length l)
+        → unwrap_or (cond (ltb (position_or_len p l) (length l)) (Some (position_or_len p l)) None) (length l) ≡ position_or_len p l
+    go (yes h) = rw (lt-ltb (position_or_len p l) (length l) h)
+    go (no h) =
+        let w : position_or_len p l ≤ length l = prefix_len-le-length (λ x. not (p x)) l in
+        rw (le-ltb (position_or_len p l) (length l) (omega arith)) (omega arith)
+
+pub digits_stand : (l : List ℕ) (f : Option ℕ) (n : ℕ) → f ≡ position other l → n ≡ unwrap_or f (length l) → take n l ≡ digits l
+digits_stand l f n e h =
+    let z : n ≡ position_or_len other l = h ∙ rw e (place other l) in
+    rw z (prefix l)
+
+-- ---- a digit among them
+within : (l : List ℕ) → length (digits l) ≤ length l
+unfolding digits
+within [] = omega arith
+within (b ∷ l) = go (digit b) (within l)
+  where
+    go : (v : Bool) → length (digits l) ≤ length l → length (cond v (b ∷ digits l) []) ≤ length (b ∷ l)
+    go true h = omega arith
+    go false h = omega arith
+
+each : (l : List ℕ) (i : ℕ) → i < length (digits l) → digit (get_or (digits l) i 0) ≡ true
+unfolding digits
+each [] i h = absurd (omega arith)
+each (b ∷ l) i h = go (digit b) refl i h (each l)
+  where
+    go : (v : Bool) → digit b ≡ v → (j : ℕ) → j < length (cond v (b ∷ digits l) []) → ((k : ℕ) → k < length (digits l) → digit (get_or (digits l) k 0) ≡ true)
+        → digit (get_or (cond v (b ∷ digits l) []) j 0) ≡ true
+    go true e zero k on = e
+    go true e (suc j) k on = on j (omega arith)
+    go false e j k on = absurd (omega arith)
+
+pub digit_low : (l ds : List ℕ) (i : ℕ) → ds ≡ digits l → i < length ds → 48 ≤ get_or ds i 0
 unfolding digit
-digit_no b h = sym (rw (lt-leb 48 b h))
+digit_low l ds i e h =
+    let t : digit (get_or ds i 0) ≡ true = rw e (each l i (rw (← e) h)) in
+    leb-true 48 (get_or ds i 0) (both (leb 48 (get_or ds i 0)) (leb (get_or ds i 0) 57) t).0
 
-pub digit_by : (b : ℕ) → 48 ≤ b → leb b 57 ≡ digit b
-unfolding digit
-digit_by b h = sym (rw (le-leb 48 b h))
+pub end_fits : (l : List ℕ) (at : ℕ) (ds : List ℕ) → ds ≡ digits (drop at l) → 0 < length ds → Fits w64 (length l) → Fits w64 (at + length ds)
+end_fits l at ds e h n =
+    let k : length ds ≤ length (drop at l) = rw e (within (drop at l)) in
+    omega (arith, length-drop at l)
 
-module _ (b : ℕ) {v : Bool} (e : v ≡ digit b) (t : v ≡ true) where
-  ends : (leb 48 b ≡ true) × (leb b 57 ≡ true)
-  unfolding digit
-  ends = both (leb 48 b) (leb b 57) (sym e ∙ t)
-
-  pub digit_low : 48 ≤ b
-  digit_low = leb-true 48 b ends.0
-
-  pub value_fits : Fits w64 (b - 48)
-  value_fits = omega (arith, leb-true b 57 ends.1)
-
-  pub sum_fits : (n : ℕ) → n < number_limit → Fits w64 (n * 10 + (b - 48))
-  sum_fits n h = omega (arith, leb-true b 57 ends.1)
-
--- ---- the digits from a place on
-module _ (s : List ℕ) (i : ℕ) where
-  pub digits-past : length s ≤ i → digits (drop i s) ≡ []
-  unfolding digits
-  digits-past h = rw (drop_of_length-le s h)
-
-  module _ (h : i < length s) {v : Bool} (e : v ≡ digit (get_or s i 0)) where
-    pub digits_end : v ≡ false → digits (drop i s) ≡ []
-    unfolding digits
-    digits_end f = rw (drop_next s i h, ← e, f)
-
-    digits_next : v ≡ true → digits (drop i s) ≡ get_or s i 0 ∷ digits (drop (i + 1) s)
-    unfolding digits
-    digits_next t = rw (drop_next s i h, ← e, t)
-
-worth_next : (n : ℕ) (ds : List ℕ) (d : ℕ) → worth n (ds ++ d ∷ []) ≡ worth n ds * 10 + (d - 48)
+-- ---- what digits are worth
+pub worth_next : (n : ℕ) (ds : List ℕ) (i : ℕ) → i < length ds → worth n (drop i ds) ≡ worth (n * 10 + (get_or ds i 0 - 48)) (drop (i + 1) ds)
 unfolding worth
-worth_next n [] d = refl
-worth_next n (c ∷ ds) d = worth_next (n * 10 + (c - 48)) ds d
+worth_next n ds i h = rw (drop_next ds i h)
 
--- ---- the loop: i is behind the digits so far, which are worth n, or are over the limit with it
-pub record Read (s : List ℕ) (at i n : ℕ) : Type 0 where
-  pub so_far : List ℕ
-  pub all : digits (drop at s) ≡ so_far ++ digits (drop i s)
-  pub place : i ≡ at + length so_far
-  pub below : n < number_limit → n ≡ worth 0 so_far
-  pub over : number_limit ≤ n → number_limit ≤ worth 0 so_far
-
-pub read-starts : {s : List ℕ} {at : ℕ} → Read s at at 0
+least : (n : ℕ) (ds : List ℕ) → n ≤ worth n ds
 unfolding worth
-read-starts = record { so_far = []; all = refl; place = omega arith; below = λ h. refl; over = λ h. absurd (omega arith) }
+least n [] = omega arith
+least n (d ∷ ds) = omega (arith, least (n * 10 + (d - 48)) ds)
 
-number_some : (p : ℕ) (ds : List ℕ) → 0 < length ds → number_of p ds ≡ cond (ltb (worth 0 ds) number_limit) (Number (worth 0 ds) (p + length ds)) Nothing
-unfolding number_of
-number_some p [] h = absurd (omega arith)
-number_some p (d ∷ ds) h = refl
+-- ---- the exits
+module _ (l : List ℕ) (at : ℕ) (ds : List ℕ) (e : ds ≡ digits (drop at l)) where
+  pub no_digit : length ds ≡ 0 → None ≡ number_at l at
+  unfolding number_at number_of
+  no_digit h = rw (← e) (go ds h)
+    where
+      go : (xs : List ℕ) → length xs ≡ 0 → None ≡ number_of at xs
+      go [] k = refl
+      go (x ∷ xs) k = absurd (omega arith)
 
-number_none : (p : ℕ) (ds : List ℕ) → length ds ≡ 0 → number_of p ds ≡ Nothing
-unfolding number_of
-number_none p [] h = refl
-number_none p (d ∷ ds) h = absurd (omega arith)
+  over : number_limit ≤ worth 0 ds → None ≡ number_at l at
+  unfolding number_at number_of
+  over h = rw (← e) (go ds h)
+    where
+      go : (xs : List ℕ) → number_limit ≤ worth 0 xs → None ≡ number_of at xs
+      go [] k = refl
+      go (x ∷ xs) k = rw (le-ltb (worth 0 (x ∷ xs)) number_limit k)
 
-number_large : (p : ℕ) (ds : List ℕ) → number_limit ≤ worth 0 ds → number_of p ds ≡ Nothing
-unfolding number_of
-number_large p [] h = refl
-number_large p (d ∷ ds) h = rw (le-ltb (worth 0 (d ∷ ds)) number_limit h)
+  module _ (n i : ℕ) (inv : worth n (drop i ds) ≡ worth 0 ds) where
+    pub too_large : i < length ds → (n * 10 + (get_or ds i 0 - 48) < number_limit → ⊥) → None ≡ number_at l at
+    too_large h k = over (omega (arith, least (n * 10 + (get_or ds i 0 - 48)) (drop (i + 1) ds), sym inv ∙ worth_next n ds i h))
 
-module _ {s : List ℕ} {at i n : ℕ} (inv : Read s at i n) where
-  -- one digit more
-  module _ (h : i < length s) {v : Bool} (e : v ≡ digit (get_or s i 0)) (t : v ≡ true) where
-    abbrev more : List ℕ
-    more = inv.so_far ++ get_or s i 0 ∷ []
+    pub is_number : length ds ≤ i → 0 < length ds → n < number_limit → Some (record { value = n; end = at + length ds }) ≡ number_at l at
+    unfolding number_at number_of worth
+    is_number h k f = rw (← e) (go ds k value)
+      where
+        value : n ≡ worth 0 ds
+        value = rw (drop_of_length-le ds h) at inv
 
-    next_all : digits (drop at s) ≡ more ++ digits (drop (i + 1) s)
-    next_all = inv.all ∙ rw (digits_next s i h e t) (sym (append_assoc inv.so_far (get_or s i 0 ∷ []) (digits (drop (i + 1) s))))
-
-    next_place : i + 1 ≡ at + length more
-    next_place = omega (arith, inv.place, length-append inv.so_far (get_or s i 0 ∷ []))
-
-    next_worth : worth 0 more ≡ worth 0 inv.so_far * 10 + (get_or s i 0 - 48)
-    next_worth = worth_next 0 inv.so_far (get_or s i 0)
-
-    pub read_more : n < number_limit → Read s at (i + 1) (n * 10 + (get_or s i 0 - 48))
-    read_more k =
-        let z : n * 10 + (get_or s i 0 - 48) ≡ worth 0 more = omega (arith, inv.below k, next_worth) in
-        record { so_far = more; all = next_all; place = next_place; below = λ b. z; over = λ b. omega arith }
-
-    pub read-over : number_limit ≤ n → Read s at (i + 1) n
-    read-over k = record {
-      so_far = more;
-      all = next_all;
-      place = next_place;
-      below = λ b. absurd (omega arith);
-      over = λ b. omega (arith, inv.over k, next_worth);
-    }
-
-  -- no digit is left
-  module _ (e : digits (drop i s) ≡ []) where
-    whole : number_at s at ≡ number_of at inv.so_far
-    unfolding number_at
-    whole = rw (inv.all, e, append-nil)
-
-    pub read_none : i ≤ at → Nothing ≡ number_at s at
-    read_none h = sym (whole ∙ number_none at inv.so_far (omega (arith, inv.place)))
-
-    pub read_large : number_limit ≤ n → Nothing ≡ number_at s at
-    read_large k = sym (whole ∙ number_large at inv.so_far (inv.over k))
-
-    pub read_number : at < i → n < number_limit → Number n i ≡ number_at s at
-    read_number h k =
-        let z = inv.below k in
-        sym (whole ∙ number_some at inv.so_far (omega (arith, inv.place)) ∙ rw (← z, ← inv.place, lt-ltb n number_limit k))
+        go : (xs : List ℕ) → 0 < length xs → n ≡ worth 0 xs → Some (record { value = n; end = at + length xs }) ≡ number_of at xs
+        go [] k v = absurd (omega arith)
+        go (x ∷ xs) k v = rw (← v, lt-ltb n number_limit f)

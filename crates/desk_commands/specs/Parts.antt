@@ -1,11 +1,8 @@
--- Parts of a line of the release desk's input: a number in it, and where it ends. Assumes nothing.
-use Rattle.std.specs.Prelude.{ℕ, ◌+◌, ◌-◌, ◌*◌, List, [], ◌∷◌, Bool, cond, ◌&&◌, leb, ltb, length, drop}
-use Rattle.numbers.specs.Signs.{line_feed, nought}
-use Rattle.linker_script.specs.declared.Found.{Found}
-use Rattle.linker_script.specs.declared.Found.TheVariants.{Here, Nowhere}
-use Rattle.linker_script.specs.Finding.{first_from, is}
+-- A part of a line of the release desk's input: a number in it. Assumes nothing.
+use Rattle.std.specs.Prelude.{ℕ, ◌+◌, ◌-◌, ◌*◌, List, [], ◌∷◌, Bool, cond, ◌&&◌, not, leb, ltb, length, drop, Option, Some, None}
+use Rattle.std.specs.Char.{is_ascii_digit}
+use Rattle.numbers.specs.Signs.{nought}
 use Rattle.desk_commands.specs.declared.parts.Numeral.{Numeral}
-use Rattle.desk_commands.specs.declared.parts.Numeral.TheVariants.{Number, Nothing}
 
 -- ---- a number: one decimal digit or more, below 2^32; the place behind it
 abbrev pub number_limit : ℕ
@@ -13,6 +10,10 @@ number_limit = 4294967296
 
 unfoldable pub digit : ℕ → Bool
 digit b = leb nought b && leb b (nought + 9)
+
+-- what ends them
+abbrev pub other : ℕ → Bool
+other b = not (is_ascii_digit b)
 
 -- the digits that a text begins with
 unfoldable pub digits : List ℕ → List ℕ
@@ -25,17 +26,9 @@ worth n [] = n
 worth n (d ∷ ds) = worth (n * 10 + (d - nought)) ds
 
 -- the number of the digits that stand at the place p
-unfoldable pub number_of : ℕ → List ℕ → Numeral
-number_of p [] = Nothing
-number_of p (d ∷ ds) = cond (ltb (worth 0 (d ∷ ds)) number_limit) (Number (worth 0 (d ∷ ds)) (p + length (d ∷ ds))) Nothing
+unfoldable pub number_of : ℕ → List ℕ → Option Numeral
+number_of p [] = None
+number_of p (d ∷ ds) = cond (ltb (worth 0 (d ∷ ds)) number_limit) (Some (record { value = worth 0 (d ∷ ds); end = p + length (d ∷ ds) })) None
 
-unfoldable pub number_at : List ℕ → ℕ → Numeral
+unfoldable pub number_at : List ℕ → ℕ → Option Numeral
 number_at l p = number_of p (digits (drop p l))
-
--- ---- one command a line: a line goes to the first line feed from its place on, or to the end of the text
-abbrev pub end_by : List ℕ → Found → ℕ
-end_by s (Here p) = p
-end_by s Nowhere = length s
-
-unfoldable pub line_end : List ℕ → ℕ → ℕ
-line_end s p = end_by s (first_from (is line_feed) s p)

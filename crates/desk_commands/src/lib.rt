@@ -2,12 +2,10 @@
 #![tactic(auto)]
 
 ghost use Rattle.std.specs.Prelude.{◌≡◌};
-ghost use Rattle.desk_commands.specs.Commands.{add_command, command_of, question_of, strike_command};
+ghost use Rattle.desk_commands.specs.Commands.{add_command, command_of, field_at, question_of, strike_command};
 
 use crate::parts::{Numeral, number_at};
 use linker_script::byte_at;
-use packing::same_bytes;
-use reading_tokens::try_take;
 
 pub mod parts;
 
@@ -49,112 +47,91 @@ pub enum Question {
 pub enum Command {
     Edits(Edit),
     Asks(Question),
-    Unknown,
+}
+
+// The number at a place of a line, a blank behind it, and the place behind that.
+fn field_at(line: &[u8], at: usize) -> Option<Numeral>
+    ensures { result ≡ field_at line.now at }
+{
+    let number = number_at(line, at)?;
+    if byte_at(line, number.end) != b' ' {
+        return None;
+    }
+    Some(Numeral {
+        end: number.end + 1,
+        ..number
+    })
 }
 
 // `add NODE SECTION LANGUAGE TOKEN`
-fn add_command(line: &[u8]) -> Command
+fn add_command(line: &[u8]) -> Option<Command>
     ensures { result ≡ add_command line.now }
 {
-    match number_at(line, 4) {
-        Numeral::Nothing => Command::Unknown,
-        Numeral::Number {
-            value: node,
-            end: p,
-        } => {
-            if byte_at(line, p) != b' ' {
-                return Command::Unknown;
-            }
-            match number_at(line, p + 1) {
-                Numeral::Nothing => Command::Unknown,
-                Numeral::Number {
-                    value: section,
-                    end: q,
-                } => {
-                    if byte_at(line, q) != b' ' {
-                        return Command::Unknown;
-                    }
-                    match number_at(line, q + 1) {
-                        Numeral::Nothing => Command::Unknown,
-                        Numeral::Number {
-                            value: language,
-                            end: r,
-                        } => {
-                            if byte_at(line, r) != b' ' {
-                                return Command::Unknown;
-                            }
-                            Command::Edits(Edit::Add {
-                                node,
-                                section,
-                                language,
-                                at: r + 1,
-                            })
-                        }
-                    }
-                }
-            }
-        }
-    }
+    let node = field_at(line, 4)?;
+    let section = field_at(line, node.end)?;
+    let language = field_at(line, section.end)?;
+    Some(Command::Edits(Edit::Add {
+        node: node.value,
+        section: section.value,
+        language: language.value,
+        at: language.end,
+    }))
 }
 
 // `strike LINE`
-fn strike_command(line: &[u8]) -> Command
+fn strike_command(line: &[u8]) -> Option<Command>
     ensures { result ≡ strike_command line.now }
 {
-    match number_at(line, 7) {
-        Numeral::Nothing => Command::Unknown,
-        Numeral::Number { value, end } => {
-            if end == line.len() {
-                return Command::Edits(Edit::Strike(value));
-            }
-            Command::Unknown
-        }
+    let number = number_at(line, 7)?;
+    if number.end != line.len() {
+        return None;
     }
+    Some(Command::Edits(Edit::Strike(number.value)))
 }
 
 // A line as a question.
-fn question_of(line: &[u8]) -> Command
+fn question_of(line: &[u8]) -> Option<Command>
     ensures { result ≡ question_of line.now }
 {
-    if try_take(line, b"ask ", 0) {
-        return Command::Asks(Question::Ask(4));
+    if line.starts_with(b"ask ") {
+        return Some(Command::Asks(Question::Ask(4)));
     }
-    if try_take(line, b"why ", 0) {
-        return Command::Asks(Question::Why(4));
+    if line.starts_with(b"why ") {
+        return Some(Command::Asks(Question::Why(4)));
     }
-    if same_bytes(line, b"counts") {
-        return Command::Asks(Question::Show(Shown::Counts));
+    if line == b"counts".as_slice() {
+        return Some(Command::Asks(Question::Show(Shown::Counts)));
     }
-    if same_bytes(line, b"lines") {
-        return Command::Asks(Question::Show(Shown::Lines));
+    if line == b"lines".as_slice() {
+        return Some(Command::Asks(Question::Show(Shown::Lines)));
     }
-    if same_bytes(line, b"dump") {
-        return Command::Asks(Question::Show(Shown::Dump));
+    if line == b"dump".as_slice() {
+        return Some(Command::Asks(Question::Show(Shown::Dump)));
     }
-    Command::Unknown
+    None
 }
 
 // A line as a command.
-pub fn command_of(line: &[u8]) -> Command
+pub fn command_of(line: &[u8]) -> Option<Command>
     ensures { result ≡ command_of line.now }
 {
-    if try_take(line, b"add ", 0) {
+    if line.starts_with(b"add ") {
         return add_command(line);
     }
-    if try_take(line, b"strike ", 0) {
+    if line.starts_with(b"strike ") {
         return strike_command(line);
     }
-    if same_bytes(line, b"undo") {
-        return Command::Edits(Edit::Undo);
+    if line == b"undo".as_slice() {
+        return Some(Command::Edits(Edit::Undo));
     }
-    if same_bytes(line, b"settle") {
-        return Command::Edits(Edit::Settle);
+    if line == b"settle".as_slice() {
+        return Some(Command::Edits(Edit::Settle));
     }
-    if try_take(line, b"symbol ", 0) {
-        return Command::Edits(Edit::Symbol { at: 7, bare: false });
+    if line.starts_with(b"symbol ") {
+        return Some(Command::Edits(Edit::Symbol { at: 7, bare: false }));
     }
-    if try_take(line, b"symbol! ", 0) {
-        return Command::Edits(Edit::Symbol { at: 8, bare: true });
+    if line.starts_with(b"symbol! ") {
+        return Some(Command::Edits(Edit::Symbol { at: 8, bare: true }));
     }
     question_of(line)
 }

@@ -1,74 +1,51 @@
-// Parts of a line of the release desk's input: a number in it, the rest behind a place, and where it ends. Definitions: specs/Parts.antt.
+// Parts of a line of the release desk's input: a number in it, and the rest behind a place. Definitions: specs/Parts.antt.
 ghost use Rattle.std.specs.Prelude.{◌≡◌, drop};
-ghost use Rattle.desk_commands.specs.Parts.{digit, line_end, number_at};
-
-use linker_script::Found;
-use linker_script::searching::find;
-
-const NUMBER_LIMIT: u64 = 4294967296;
+ghost use Rattle.std.specs.List.{position};
+ghost use Rattle.desk_commands.specs.Parts.{digits, number_at, other};
 
 // A number and the place behind it.
 #[derive(Clone, Copy)]
-pub enum Numeral {
-    Number { value: u32, end: usize },
-    Nothing,
+pub struct Numeral {
+    pub value: u32,
+    pub end: usize,
 }
 
-// Whether a byte is a decimal digit.
-fn is_digit(b: u8) -> bool
-    ensures { result ≡ digit b }
+// Where the digits end that a text begins with, if it goes on behind them.
+fn digits_end(s: &[u8]) -> Option<usize>
+    ensures { result ≡ position other s.now }
 {
-    if b < b'0' {
-        return false;
-    }
-    b <= b'9'
+    s.iter().position(|b| !b.is_ascii_digit())
 }
 
-// The number at a place of a line: one digit or more, below 2^32. What is over the limit stays as it is.
-pub fn number_at(line: &[u8], at: usize) -> Numeral
+// The digits that stand at a place of a line.
+fn digits_at(line: &[u8], at: usize) -> &[u8]
+    ensures { result.now ≡ digits (drop at line.now) }
+{
+    let rest = tail(line, at);
+    &rest[..digits_end(rest).unwrap_or(rest.len())]
+}
+
+// The number at a place of a line: one digit or more, below 2^32.
+pub fn number_at(line: &[u8], at: usize) -> Option<Numeral>
     ensures { result ≡ number_at line.now at }
 {
-    let mut i = at;
-    let mut n: u64 = 0;
-    while i < line.len() {
-        let b = line[i];
-        if !is_digit(b) {
-            break;
-        }
-        i += 1;
-        if n < NUMBER_LIMIT {
-            n = n * 10 + ((b - b'0') as u64);
-        }
+    let digits = digits_at(line, at);
+    if digits.is_empty() {
+        return None;
     }
-    if i == at {
-        return Numeral::Nothing;
+    let mut value: u32 = 0;
+    for b in digits {
+        value = value.checked_mul(10)?.checked_add(u32::from(*b - b'0'))?;
     }
-    if NUMBER_LIMIT <= n {
-        return Numeral::Nothing;
-    }
-    Numeral::Number {
-        value: n as u32,
-        end: i,
-    }
+    Some(Numeral {
+        value,
+        end: at + digits.len(),
+    })
 }
 
 // The rest of a line, from a place on; nothing past its end.
 pub fn tail(line: &[u8], at: usize) -> &[u8]
     ensures { result.now ≡ drop at line.now }
 {
-    let n = line.len();
-    if n < at {
-        return &line[n..];
-    }
-    &line[at..]
-}
-
-// Where the line ends that begins at a place.
-pub fn line_end(s: &[u8], at: usize) -> usize
-    ensures { result ≡ line_end s.now at }
-{
-    match find(s, b'\n', at) {
-        Found::Here(p) => p,
-        Found::Nowhere => s.len(),
-    }
+    &line[at.min(line.len())..]
 }

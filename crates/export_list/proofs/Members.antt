@@ -8,7 +8,9 @@ use native.Mathlib.Omega.{arith}
 use borrow.Author.Tests.{eq-eqb, ne_eqb}
 use lib.ListN.{length, get_or}
 use Rattle.numbers.specs.Limits.{name_limit, node_limit}
-use Rattle.numbers.specs.Refusals.{no_book, wrong_kind}
+use Rattle.std.specs.Prelude.{Option, Some, None, Result, Ok, Err, ⊤, is_some}
+use Rattle.numbers.specs.declared.Refusal.{Refusal}
+use Rattle.numbers.specs.declared.Refusal.TheVariants as no
 use Rattle.lists.specs.Each.{any, every}
 use Rattle.packing.specs.Tables.{packs, things}
 use Rattle.book.specs.declared.Counts.{Counts}
@@ -19,15 +21,11 @@ use Rattle.book.specs.Sanity.{in_range, line_ok}
 use Rattle.book.specs.View.{book_of, holds, view}
 use Rattle.book.proofs.LineRows.{lines_in-range, lines_packed}
 use Rattle.book.proofs.Asking.{Held, asked_none, asked-held}
-use Rattle.ranking.specs.declared.Deciding.{Deciding}
-use Rattle.ranking.specs.declared.Deciding.TheVariants as answer
 use Rattle.ranking.specs.Matching.{line_matches, name_of}
 use Rattle.ranking.specs.Names.{name_refusal}
-use Rattle.ranking.specs.Walk.{decided, deciding_among}
-use Rattle.ranking.proofs.Answers.{decided_line, decided_none}
+use Rattle.ranking.specs.Walk.{deciding_among}
 use Rattle.ranking.proofs.Deciders.{walk_decides, walk-nothing}
 use Rattle.ranking.proofs.NameTests.{short-names}
-use Rattle.export_list.specs.declared.Membership.TheVariants as membership
 use Rattle.export_list.specs.Membership.{member_of, contains_asked}
 
 -- ---- some line matches
@@ -45,7 +43,7 @@ module _ (m : Line → Bool) where
 
 -- ---- the exits of the question
 module _ (c : Counts) (n m l p j raw demangled : List ℕ) (x : Bool) (e : x ≡ holds c (five n m l p j)) where
-  pub list-no_book : not x ≡ true → membership.Refused no_book ≡ contains_asked (view c (five n m l p j)) (name_of raw demangled)
+  pub list-no_book : not x ≡ true → Err no.NoBook ≡ contains_asked (view c (five n m l p j)) (name_of raw demangled)
   unfolding contains_asked
   list-no_book h = rw (asked_none c (five n m l p j) x e h)
 
@@ -53,21 +51,22 @@ module _ (c : Counts) (n m l p j raw demangled : List ℕ) (x : Bool) (e : x ≡
     held : Held c (five n m l p j)
     held = asked-held c (five n m l p j) x e h
 
-    pub list_other_kind : (c.kind ≡ export → ⊥) → membership.Refused wrong_kind ≡ contains_asked (view c (five n m l p j)) (name_of raw demangled)
+    pub list_other_kind : (c.kind ≡ export → ⊥) → Err no.WrongKind ≡ contains_asked (view c (five n m l p j)) (name_of raw demangled)
     unfolding contains_asked book_of
     list_other_kind k = rw (held.viewed, ne_eqb _ _ k)
 
-    module _ (k : c.kind ≡ export) (no : ℕ) (f : no ≡ name_refusal (name_of raw demangled) false) where
-      pub list-no_name : (no ≡ 0 → ⊥) → membership.Refused no ≡ contains_asked (view c (five n m l p j)) (name_of raw demangled)
+    -- r is what the names were asked
+    module _ (k : c.kind ≡ export) (r : Result ⊤ Refusal) (f : r ≡ name_refusal (name_of raw demangled) false) where
+      pub list-no_name : (z : Refusal) → r ≡ Err z → Err z ≡ contains_asked (view c (five n m l p j)) (name_of raw demangled)
       unfolding contains_asked book_of
-      list-no_name g = rw (held.viewed, eq-eqb _ _ k, ← f, ne_eqb _ _ g)
+      list-no_name z g = rw (held.viewed, eq-eqb _ _ k, ← f, g)
 
       -- the search for the deciding line is given the frame `given`
-      module _ (g : no ≡ 0) (given : Frame) (u : given ≡ frame_of c) where
+      module _ (u : ⊤) (g : r ≡ Ok u) (given : Frame) (q : given ≡ frame_of c) where
         -- what it asks
         pub asks_match : (packs line_form (line_ok given) c.lines c.pool l p ≡ true) × (given.nodes ≤ node_limit)
             × (length raw ≤ name_limit) × (length demangled ≤ name_limit)
-        asks_match = let s = short-names (name_of raw demangled) false (sym f ∙ g) in rw u (held.lines, held.few, omega (arith, s.raw), s.demangled)
+        asks_match = let s = short-names (name_of raw demangled) false u (sym f ∙ g) in rw q (held.lines, held.few, omega (arith, s.raw), s.demangled)
 
         in_order : every (in_range c.nodes) (things line_form c.lines l p) ≡ true
         in_order = lines_in-range (frame_of c) _ (lines_packed (frame_of c) c.lines c.pool l p held.lines).all
@@ -78,18 +77,15 @@ module _ (c : Counts) (n m l p j raw demangled : List ℕ) (x : Bool) (e : x ≡
         abbrev xs : List Line
         xs = things line_form c.lines l p
 
-        module _ (d : Deciding) (s : d ≡ decided (deciding_among given (name_of raw demangled) xs)) where
-          w : d ≡ decided (deciding_among (frame_of c) (name_of raw demangled) xs)
-          w = rw u at s
+        -- d is what it answered, and b whether there is a line
+        module _ (d : Option ℕ) (s : d ≡ deciding_among given (name_of raw demangled) xs) (b : Bool) (t : b ≡ is_some d) where
+          w : d ≡ deciding_among (frame_of c) (name_of raw demangled) xs
+          w = rw q at s
 
-          pub list-within : (i : ℕ) → d ≡ answer.Line i → membership.Within ≡ contains_asked (view c (five n m l p j)) (name_of raw demangled)
-          unfolding contains_asked member_of book_of
-          list-within i q =
-              let t = (walk_decides c.nodes asked xs in_order i).0 (decided_line _ d i w q) in
-              rw (held.viewed, eq-eqb _ _ k, ← f, eq-eqb _ _ g, match_at asked xs i t.there t.matching)
+          some_match : (o : Option ℕ) → deciding_among (frame_of c) (name_of raw demangled) xs ≡ o → is_some o ≡ any asked xs
+          some_match (Some i) v = let z = (walk_decides c.nodes asked xs in_order i).0 v in sym (match_at asked xs i z.there z.matching)
+          some_match None v = sym (match_none asked xs ((walk-nothing c.nodes asked xs in_order).0 v))
 
-          pub list-without : d ≡ answer.Nothing → membership.Without ≡ contains_asked (view c (five n m l p j)) (name_of raw demangled)
+          pub list-told : Ok b ≡ contains_asked (view c (five n m l p j)) (name_of raw demangled)
           unfolding contains_asked member_of book_of
-          list-without q =
-              let t = (walk-nothing c.nodes asked xs in_order).0 (decided_none _ d w q) in
-              rw (held.viewed, eq-eqb _ _ k, ← f, eq-eqb _ _ g, match_none asked xs t)
+          list-told = rw (held.viewed, eq-eqb _ _ k, ← f, g, t, some_match d (sym w))

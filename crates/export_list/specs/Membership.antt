@@ -1,33 +1,24 @@
 -- Whether a name is in an export list, as 01 has it under 'Ranking'. Assumes nothing.
-use Rattle.std.specs.Prelude.{ℕ, false, cond, eqb}
-use Rattle.std.proofs.Math.Option.{Option, some, none}
-use Rattle.numbers.specs.Refusals.{no_book, wrong_kind}
+use Rattle.std.specs.Prelude.{ℕ, Bool, true, false, cond, eqb, Option, Some, None, Result, Ok, Err}
+use Rattle.std.specs.Result.{result_and}
+use Rattle.numbers.specs.declared.Refusal.{Refusal}
+use Rattle.numbers.specs.declared.Refusal.TheVariants as no
 use Rattle.lists.specs.Each.{any}
 use Rattle.book.specs.Books.{Book, book_frame, edition_of, export}
 use Rattle.ranking.specs.Matching.{Name, line_matches}
 use Rattle.ranking.specs.Names.{name_refusal}
-use Rattle.export_list.specs.declared.Membership.{Membership}
-use Rattle.export_list.specs.declared.Membership.TheVariants as membership
 
 -- "A name is in an export list exactly when some line matches."
-unfoldable pub member_of : Book → Name → Membership
-member_of w n = cond (any (line_matches (edition_of (book_frame w)) n) w.lines) membership.Within membership.Without
+unfoldable pub member_of : Book → Name → Bool
+member_of w n = any (line_matches (edition_of (book_frame w)) n) w.lines
 
 -- "export query … on a version book" is 13; "Order: 14, 13, … 1, 9"
-unfoldable pub contains_asked : Option Book → Name → Membership
-contains_asked none n = membership.Refused no_book
-contains_asked (some w) n =
-    cond (eqb w.kind export)
-    (cond (eqb (name_refusal n false) 0) (member_of w n) (membership.Refused (name_refusal n false)))
-    (membership.Refused wrong_kind)
+unfoldable pub contains_asked : Option Book → Name → Result Bool Refusal
+contains_asked None n = Err no.NoBook
+contains_asked (Some w) n = cond (eqb w.kind export) (result_and (name_refusal n false) (Ok (member_of w n))) (Err no.WrongKind)
 
--- the paper's number of these answers, and its value
-abbrev pub membership_refusal : Membership → ℕ
-membership_refusal membership.Within = 0
-membership_refusal membership.Without = 0
-membership_refusal (membership.Refused n) = n
-
-abbrev pub membership_value : Membership → ℕ
-membership_value membership.Within = 1
-membership_value membership.Without = 0
-membership_value (membership.Refused n) = 0
+-- the value of these answers; their number is `refusal_of`
+abbrev pub membership_value : Result Bool Refusal → ℕ
+membership_value (Ok true) = 1
+membership_value (Ok false) = 0
+membership_value (Err e) = 0

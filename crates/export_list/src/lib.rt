@@ -10,14 +10,6 @@ use book_opening::{How, Opened};
 
 pub mod lookups;
 
-// In the list or not, or the number that says no.
-#[derive(Clone, Copy)]
-pub enum Membership {
-    Within,
-    Without,
-    Refused(u32),
-}
-
 // An export list, opened into lent buffers.
 pub fn open(
     text: &[u8],

@@ -1,53 +1,40 @@
 // Whether a name is in an export list.
 ghost use Rattle.std.specs.Prelude.{◌≡◌};
+ghost use Rattle.book.specs.Lending.{view_of};
 ghost use Rattle.book.specs.Layout.{five};
 ghost use Rattle.book.specs.View.{view};
 ghost use Rattle.ranking.specs.Matching.{name_of};
 ghost use Rattle.export_list.specs.Membership.{contains_asked};
 
-use crate::Membership;
-use book::{Counts, EXPORT, frame_of};
+use book::lent::Lent;
+use book::{EXPORT, frame_of};
 use book_check::is_book;
-use numbers::{NO_BOOK, WRONG_KIND};
-use ranking::Deciding;
+use numbers::Refusal;
 use ranking::finding::find_match;
 use ranking::names::name_refusal;
 
 // Whether some line matches a name, the raw one or, of a C++ line, the demangled one.
-pub fn contains(
-    c: Counts,
-    nodes: &[u32],
-    names: &[u8],
-    lines: &[u32],
-    pool: &[u8],
-    journal: &[u32],
-    raw: &[u8],
-    demangled: &[u8],
-) -> Membership
+pub fn contains(book: Lent, raw: &[u8], demangled: &[u8]) -> Result<bool, Refusal>
     ensures { result ≡ contains_asked
-        (view c (five nodes.now names.now lines.now pool.now journal.now))
+        (view_of book.entry)
         (name_of raw.now demangled.now) }
 {
-    if !is_book(c, nodes, names, lines, pool, journal) {
-        return Membership::Refused(NO_BOOK);
+    let c = book.counts;
+    if !is_book(book) {
+        return Err(Refusal::NoBook);
     }
     if c.kind != EXPORT {
-        return Membership::Refused(WRONG_KIND);
+        return Err(Refusal::WrongKind);
     }
-    let no = name_refusal(raw, demangled, false);
-    if no != 0 {
-        return Membership::Refused(no);
-    }
-    match find_match(
+    name_refusal(raw, demangled, false)?;
+    let decider = find_match(
         frame_of(c),
-        lines,
-        pool,
+        book.lines,
+        book.pool,
         c.lines as usize,
         c.pool as usize,
         raw,
         demangled,
-    ) {
-        Deciding::Nothing => Membership::Without,
-        Deciding::Line(_) => Membership::Within,
-    }
+    );
+    Ok(decider.is_some())
 }

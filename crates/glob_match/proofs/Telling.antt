@@ -1,10 +1,10 @@
 -- What a host is told, exit by exit, and how large a class and a length can be. Assumes nothing.
 use Prim.Native.Nat.{ℕ, ◌+◌, ◌*◌, ◌<◌, ◌≤◌}
-use mathlib.Core.Path.{◌≡◌, sym, ◌∙◌}
+use mathlib.Core.Path.{◌≡◌, sym, ap, ◌∙◌}
 use mathlib.Core.List.{List}
-use mathlib.Core.Bool.{Bool, true, false, not, cond, ◌||◌}
+use mathlib.Core.Bool.{Bool, true, false, cond, ◌||◌}
 use native.Mathlib.Omega.{arith}
-use borrow.Author.Tests.{ne_eqb, lt-ltb, le-ltb, not-true, not-false}
+use borrow.Author.Tests.{lt-ltb, le-ltb}
 use lib.Dec.{leb}
 use lib.ListN.{length}
 use Rattle.numbers.specs.Classes.{all_class}
@@ -17,7 +17,10 @@ use Rattle.matching.specs.Tests.{match_of}
 use Rattle.classes.specs.declared.Class.{Class}
 use Rattle.classes.specs.declared.Class.TheVariants.{Escaped}
 use Rattle.storing.specs.declared.Stored.{Stored}
-use Rattle.storing.specs.declared.Stored.TheVariants.{As, Refused}
+use Rattle.std.specs.Prelude.{Result, Ok, Err}
+use Rattle.numbers.specs.declared.Refusal.{Refusal}
+use Rattle.numbers.specs.declared.Refusal.TheVariants as no
+use Rattle.numbers.specs.Saying.{number}
 use Rattle.classes.specs.Classes.{class_number, class_of}
 use Rattle.classes.proofs.ClassNumbers.{class-few}
 use Rattle.storing.specs.Keeping.{unescape, Keep, kept, refused, keep}
@@ -27,12 +30,12 @@ use Rattle.glob_match.specs.Answers.{Unescapes, unescape_leaves, unescape_told}
 use Rattle.storing.proofs.Keeping.{bytes, keep-few, unescape-few}
 
 -- ---- how many bytes are told
-told-long : (x : Keep) (m : ℕ) {k : Class} {n : ℕ} → As k n ≡ keep_answer x m → n ≡ length (bytes x)
+told-long : (x : Keep) (m : ℕ) {s : Stored} → Ok s ≡ keep_answer x m → s.size ≡ length (bytes x)
 unfolding keep_answer
-told-long (kept j b) m {k} {n} e = by (leb (length b) m) e
+told-long (kept j b) m {s} e = by (leb (length b) m) e
   where
-    by : (t : Bool) → As k n ≡ cond t (As j (length b)) (Refused 8) → n ≡ length b
-    by true e = cc
+    by : (t : Bool) → ◌≡◌ {A = Result Stored Refusal} (Ok s) (cond t (Ok (record { class = j; size = length b })) (Err no.NoRoom)) → s.size ≡ length b
+    by true e = let z : s ≡ record { class = j; size = length b } = cc in ap (λ (v : Stored). v.size) z
     by false e = let z : ◌≡◌ {A = ℕ} 0 1 = cc in absurd (omega arith)
 told-long (refused j) m e = let z : ◌≡◌ {A = ℕ} 0 1 = cc in absurd (omega arith)
 
@@ -52,7 +55,7 @@ module _ (t d : List ℕ) where
   unfolding unescape_told unescape_leaves
   unescape-over h = (rw (lt-ltb token_limit (length t) h), rw (lt-ltb token_limit (length t) h))
 
-  module _ (h : length t ≤ token_limit) (r : Stored) (d' : List ℕ) (a : Stores (kept Escaped (unescape t)) d r d') where
+  module _ (h : length t ≤ token_limit) (r : Result Stored Refusal) (d' : List ℕ) (a : Stores (kept Escaped (unescape t)) d r d') where
     within : unescape_told t (length d) ≡ length_told r
     unfolding unescape_told
     within = rw (le-ltb token_limit (length t) h, ← a.0)
@@ -61,31 +64,31 @@ module _ (t d : List ℕ) where
     unfolding unescape_leaves
     leaves = rw (le-ltb token_limit (length t) h) a.1
 
-    pub unescape-refused : (n : ℕ) → r ≡ Refused n → Unescapes t d n d'
+    pub unescape-refused : (n : Refusal) → r ≡ Err n → (v : ℕ) → v ≡ number n → Unescapes t d v d'
     unfolding length_told
-    unescape-refused n q = (sym (within ∙ rw q), leaves)
+    unescape-refused n q v j = (j ∙ sym (within ∙ rw q), leaves)
 
-    module _ (k : Class) (n : ℕ) (q : r ≡ As k n) where
-      pub unescape-short : n ≤ token_limit
+    module _ (s : Stored) (q : r ≡ Ok s) where
+      pub unescape-short : s.size ≤ token_limit
       unescape-short = omega (arith, told-long (kept Escaped (unescape t)) (length d) (sym q ∙ a.0), unescape-few t)
 
-      pub unescape-done : Unescapes t d (256 * n) d'
+      pub unescape-done : Unescapes t d (256 * s.size) d'
       unfolding length_told
       unescape-done = (sym (within ∙ rw q), leaves)
 
 -- ---- a token as it is stored; r is what `store_token` answers
-module _ (e : Edition) (t : List ℕ) (m : ℕ) (r : Stored) (a : r ≡ keep_answer (keep e t) m) where
-  pub store-refused : (n : ℕ) → r ≡ Refused n → n ≡ store_told (keep_answer (keep e t) m)
+module _ (e : Edition) (t : List ℕ) (m : ℕ) (r : Result Stored Refusal) (a : r ≡ keep_answer (keep e t) m) where
+  pub store-refused : (n : Refusal) → r ≡ Err n → (v : ℕ) → v ≡ number n → v ≡ store_told (keep_answer (keep e t) m)
   unfolding store_told
-  store-refused n q = rw (← a, q)
+  store-refused n q v j = rw (← a, q) j
 
-  module _ (k : Class) (n : ℕ) (q : r ≡ As k n) (j : ℕ) (c : j ≡ class_number k) where
-    pub store-done : 256 * (j + 8 * n) ≡ store_told (keep_answer (keep e t) m)
+  module _ (s : Stored) (q : r ≡ Ok s) (j : ℕ) (c : j ≡ class_number s.class) where
+    pub store-done : 256 * (j + 8 * s.size) ≡ store_told (keep_answer (keep e t) m)
     unfolding store_told
     store-done = rw (← a, q, c)
 
-    pub store-small : (j ≤ all_class) × (n ≤ token_limit)
-    store-small = (omega (arith, class-few k), omega (arith, told-long (keep e t) m (sym q ∙ a), keep-few e t))
+    pub store-small : (j ≤ all_class) × (s.size ≤ token_limit)
+    store-small = (omega (arith, class-few s.class), omega (arith, told-long (keep e t) m (sym q ∙ a), keep-few e t))
 
 -- ---- a pattern p and a name n
 module _ (p n : List ℕ) where
@@ -117,16 +120,16 @@ module _ (e : Edition) (p n : List ℕ) where
       unasked-done = rw (none_over p n h g) (a ∙ rw t)
 
     -- c is what `pattern_refusal` answers, and u what `is_utf8` does
-    module _ (c : ℕ) (r : c ≡ refusal e p) where
-      pub match_refused : (c ≡ 0 → ⊥) → c ≡ match_told e p n
+    module _ (c : Result (Unit {0}) Refusal) (r : c ≡ refusal e p) where
+      pub match_refused : (x : Refusal) → c ≡ Err x → (v : ℕ) → v ≡ number x → v ≡ match_told e p n
       unfolding match_told match_when
-      match_refused z = rw (none_over p n h g, ← r, ne_eqb c 0 z)
+      match_refused x z v j = rw (none_over p n h g, ← r, z) j
 
-      module _ (z : c ≡ 0) (u : Bool) (w : u ≡ utf8 n) where
-        pub match_not_utf8 : not u ≡ true → 9 ≡ match_told e p n
+      module _ (x : Unit {0}) (z : c ≡ Ok x) (u : Bool) (w : u ≡ utf8 n) where
+        pub match_not_utf8 : u ≡ false → 9 ≡ match_told e p n
         unfolding match_told match_when
-        match_not_utf8 f = rw (none_over p n h g, ← r, z, ← w, not-true u f)
+        match_not_utf8 f = rw (none_over p n h g, ← r, z, ← w, f)
 
-        pub match_done : not u ≡ false → (m : Tried) → m ≡ match_of e p n → (v : ℕ) → v ≡ answer_told m.matched → v ≡ match_told e p n
+        pub match_done : u ≡ true → (m : Tried) → m ≡ match_of e p n → (v : ℕ) → v ≡ answer_told m.matched → v ≡ match_told e p n
         unfolding match_told match_when match_of
-        match_done f m t v a = rw (none_over p n h g, ← r, z, ← w, not-false u f) (a ∙ rw t)
+        match_done f m t v a = rw (none_over p n h g, ← r, z, ← w, f) (a ∙ rw t)

@@ -7,7 +7,7 @@ ghost use Rattle.glob_match.specs.Answers.{TellsStored, Unescapes, answer_told, 
 
 use classes::{class_number, classify};
 use numbers::{Edition, NAME_LIMIT, NAME_NOT_UTF8, TOKEN_LIMIT, TOO_LONG};
-use storing::{Stored, store_token, unescape_pattern};
+use storing::{store_token, unescape_pattern};
 
 // The class of a token: 1, or 256 times its number.
 #[unsafe(no_mangle)]
@@ -29,8 +29,8 @@ pub extern "C" fn glob_match_unescape(pattern: &[u8], out: &mut [u8]) -> u64
         return TOO_LONG as u64;
     }
     match unescape_pattern(pattern, out) {
-        Stored::As(_, n) => 256 * (n as u64),
-        Stored::Refused(no) => no as u64,
+        Ok(stored) => 256 * (stored.size as u64),
+        Err(no) => no.number() as u64,
     }
 }
 
@@ -40,8 +40,8 @@ pub extern "C" fn glob_match_store(token: &[u8], out: &mut [u8]) -> u64
     ensures { TellsStored (keep Reld token.now) out.old result out.new }
 {
     match store_token(Edition::Reld, token, out) {
-        Stored::As(class, n) => 256 * ((class_number(class) as u64) + 8 * (n as u64)),
-        Stored::Refused(no) => no as u64,
+        Ok(stored) => 256 * ((class_number(stored.class) as u64) + 8 * (stored.size as u64)),
+        Err(no) => no.number() as u64,
     }
 }
 
@@ -62,9 +62,8 @@ pub extern "C" fn glob_match_matches(stored: &[u8], name: &[u8]) -> u64
     if NAME_LIMIT < name.len() {
         return TOO_LONG as u64;
     }
-    let no = pattern_check::pattern_refusal(Edition::Reld, stored, false);
-    if no != 0 {
-        return no as u64;
+    if let Err(no) = pattern_check::pattern_refusal(Edition::Reld, stored, false) {
+        return no.number() as u64;
     }
     if !utf8::is_utf8(name) {
         return NAME_NOT_UTF8 as u64;

@@ -4,7 +4,7 @@ use Prim.Native.Nat.{ℕ, ◌≤◌, ◌<◌}
 use mathlib.Core.Path.{◌≡◌, refl, sym, ap, subst, ◌∙◌}
 use mathlib.Core.List.{List, [], ◌∷◌, ◌++◌}
 use mathlib.Core.Bool.{Bool, true, false, cond, not, ◌&&◌, ◌||◌, true≢false}
-use mathlib.Core.Option.{some}
+use Rattle.std.specs.Prelude.{Some}
 use native.Mathlib.Omega.{arith}
 use borrow.Author.Tests.{eqb-true, leb-true, ltb-true, ne_eqb}
 use lib.Dec.{eqb, leb, ltb}
@@ -56,7 +56,7 @@ leads-cond true f g = f refl
 leads-cond false f g = g
 
 module _ (b : Buffers) (w : Book) (d : Desk) (x : Lent) (h : Held b w d x) where
-  pub seen : view x.counts x.buffers ≡ some (book_with w d.lines h.edits)
+  pub seen : view x.counts x.buffers ≡ Some (book_with w d.lines h.edits)
   seen =
       let v = h.sound.viewable in
       ap (λ (y : Lent). view y.counts y.buffers) h.lent ∙ view_of_layout b (book_with w d.lines h.edits) v.fits v.sane
@@ -95,7 +95,7 @@ module _ (a b : Buffers) (r : Rooms a b) (w : Book) (k : eqb w.kind rust ≡ fal
           let p = both (line_room a d.lines bs) (edit_room a es) m in
           let x : Line = new_line node section language (class_number c) bs in
           let e : Edit = record { what = add; line = length d.lines } in
-          let z : take_back e (d.lines ++ x ∷ []) ≡ some d.lines = added_back d.lines x refl in
+          let z : take_back e (d.lines ++ x ∷ []) ≡ Some d.lines = added_back d.lines x refl in
           let o = added_ok (book_frame w) k s c bs q node section language i j l f in
           done (es ++ e ∷ []) (record {
             viewable = viewable-line b w d.lines es g.viewable k x o (sym (line_room_same a b r d.lines bs) ∙ p.0)
@@ -106,7 +106,7 @@ module _ (a b : Buffers) (r : Rooms a b) (w : Book) (k : eqb w.kind rust ≡ fal
 
   -- what may stand
   pub add-leads : (node section language : ℕ) (s : List ℕ)
-      → Leads b w (with_kept d node section language (keep (edition_of (book_frame w)) (trim_end s))) (add_asked a (some held) node section language s)
+      → Leads b w (with_kept d node section language (keep (edition_of (book_frame w)) (trim_end s))) (add_asked a (Some held) node section language s)
   unfolding add_asked append may_stand
   add-leads node section language s = rw k (leads-cond (may_stand held node section language) stood (declined (λ h. omega arith)))
     where
@@ -123,7 +123,7 @@ module _ (a b : Buffers) (r : Rooms a b) (w : Book) (k : eqb w.kind rust ≡ fal
           append-leads node section language (ltb-true _ _ f.0) (leb-true _ _ c.0) (leb-true _ _ h.0)
           (λ e. globals (eqb w.kind export) e h.1) (trim_end s) (keep (edition_of (book_frame w)) (trim_end s)) refl
 
-  pub strike-leads : (i : ℕ) → Leads b w (edited_to d (set d.lines i (marked 1 (line_at d.lines i)))) (strike_asked a (some held) i)
+  pub strike-leads : (i : ℕ) → Leads b w (edited_to d (set d.lines i (marked 1 (line_at d.lines i)))) (strike_asked a (Some held) i)
   unfolding strike_asked strike_line edit_ok
   strike-leads i =
       rw k (leads-cond (ltb i (length d.lines) && stands (line_at d.lines i)) (λ m. leads-cond (edit_room a es) (struck m) (declined (λ h. omega arith)))
@@ -141,7 +141,7 @@ module _ (a b : Buffers) (r : Rooms a b) (w : Book) (k : eqb w.kind rust ≡ fal
             trail = goes es e d.lines refl z g.viewable g.trail;
           })
 
-  pub settle-leads : Leads b w (settled_to (every stands d.lines) d) (settle_asked (some held))
+  pub settle-leads : Leads b w (settled_to (every stands d.lines) d) (settle_asked (Some held))
   unfolding settle_asked settled
   settle-leads = go (every stands d.lines)
     where
@@ -150,8 +150,8 @@ module _ (a b : Buffers) (r : Rooms a b) (w : Book) (k : eqb w.kind rust ≡ fal
       go false = done [] (record { viewable = viewable-standing b w d.lines es g.viewable k; trail = begins refl refl })
 
 -- ---- undo, by the trail
-pub undo_is : (w : Book) (fs : List Edit) (e : Edit) (before ls : List Line) → take_back e ls ≡ some before
-    → undo_asked (some (book_with w ls (fs ++ e ∷ []))) ≡ to (book_with w before fs)
+pub undo_is : (w : Book) (fs : List Edit) (e : Edit) (before ls : List Line) → take_back e ls ≡ Some before
+    → undo_asked (Some (book_with w ls (fs ++ e ∷ []))) ≡ to (book_with w before fs)
 unfolding undo_asked without_latest
 undo_is w fs e before ls z =
     let n : eqb (length (fs ++ e ∷ [])) 0 ≡ false = ne_eqb (length (fs ++ e ∷ [])) 0 (λ h. omega (arith, length_last fs e)) in
@@ -159,7 +159,7 @@ undo_is w fs e before ls z =
 
 pub undo-leads : (b : Buffers) (w : Book) (moment : List Line) {earlier : List (List Line)} {es : List Edit} {ls : List Line}
     → Trail b w moment earlier es ls
-    → Leads b w (back_to (record { moment = moment; earlier = earlier; lines = ls }) earlier) (undo_asked (some (book_with w ls es)))
+    → Leads b w (back_to (record { moment = moment; earlier = earlier; lines = ls }) earlier) (undo_asked (Some (book_with w ls es)))
 unfolding undo_asked
 undo-leads b w moment (begins z e) = rw z (declined {n = nothing_to_undo} (λ h. omega arith))
 undo-leads b w moment {ls = ls} (goes fs e before z h v t) = rw (z, undo_is w fs e before ls h) (done fs (record { viewable = v; trail = t }))

@@ -4,7 +4,7 @@ use Prim.Native.Nat.{ℕ, ◌+◌, ◌-◌}
 use mathlib.Core.Path.{◌≡◌, refl, sym, ap, subst, ◌∙◌}
 use mathlib.Core.List.{List, [], ◌∷◌, ◌++◌}
 use mathlib.Core.Bool.{Bool, true, false, cond, not, ◌&&◌, true≢false}
-use mathlib.Core.Option.{Option, some, none}
+use Rattle.std.specs.Prelude.{Option, Some, None}
 use native.Mathlib.Omega.{arith}
 use borrow.Author.Tests.{eqb-true}
 use lib.Dec.{eqb, ltb}
@@ -82,10 +82,10 @@ module _ (a : Buffers) (s : List ℕ) (o : Outcome) where
 -- ---- each call of a book that is there
 without-edits : (w : Book) (o : Option (List Line)) → EditsOf (length w.edits - 1) (without_latest w o)
 unfolding without_latest
-without-edits w (some ls) =
+without-edits w (Some ls) =
     let n : length (take (length w.edits - 1) w.edits) ≡ length w.edits - 1 = simp length-take (omega arith) in
     has n
-without-edits w none = none_made
+without-edits w None = none_made
 
 settled-edits : (w : Book) → not (every stands w.lines) ≡ false → length (settled w).edits ≡ length w.edits
 unfolding settled
@@ -95,7 +95,7 @@ settled-edits w m = go (every stands w.lines) m
     go true e = refl
     go false e = absurd (true≢false e)
 
-change-edits : (x : Lent) (w : Book) → view x.counts x.buffers ≡ some w → (k : Call) → drops w.lines k ≡ false
+change-edits : (x : Lent) (w : Book) → view x.counts x.buffers ≡ Some w → (k : Call) → drops w.lines k ≡ false
     → EditsOf (edits_after (length w.edits) k) (change x k)
 unfolding change add_asked append strike_asked strike_line undo_asked settle_asked symbol_asked add_reading
 change-edits x w v (adds node section language t) n =

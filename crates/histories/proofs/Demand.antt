@@ -4,7 +4,7 @@ use Prim.Native.Nat.{ℕ, ◌<◌}
 use mathlib.Core.Path.{◌≡◌, refl, sym, ap, subst, ◌∙◌}
 use mathlib.Core.List.{List, [], ◌∷◌, ◌++◌}
 use mathlib.Core.Bool.{Bool, true, false, cond, true≢false}
-use mathlib.Core.Option.{some}
+use Rattle.std.specs.Prelude.{Some}
 use borrow.Author.Tests.{lt-ltb}
 use lib.Dec.{eqb, leb, ltb}
 use lib.ListN.{length}
@@ -15,6 +15,7 @@ use Rattle.linker_script.specs.Trim.{trim_end}
 use Rattle.lists.specs.Each.{every}
 use Rattle.classes.specs.declared.Class.{Class}
 use Rattle.storing.specs.Keeping.{kept, keep}
+use Rattle.reading_cursors.specs.declared.places.Place.{Place}
 use Rattle.reading_cursors.specs.declared.Event.{Event}
 use Rattle.reading.specs.Events.{Outcome, accepted, refused, reading}
 use Rattle.book.specs.Books.{Book, Edit, Line, book_frame, edition_of, export, rust, with_lines}
@@ -44,7 +45,7 @@ use Rattle.histories.proofs.SymbolRooms.{events-done}
 use Rattle.histories.proofs.Counted.{leads_on, run-counted}
 
 -- ---- a book that is opened has no edit
-module _ (place : ℕ) (b : Buffers) (s : List ℕ) (w : Book) where
+module _ (place : Place) (b : Buffers) (s : List ℕ) (w : Book) where
   build-edits : (es : List Event) (o : Outcome) (g : Building) → build place b s g es o ≡ opens w → w.edits ≡ []
   unfolding build
   build-edits [] accepted g e = let z : finished place g ≡ w = cc in ap (λ (u : Book). u.edits) (sym z)
@@ -83,7 +84,7 @@ module _ (b : Buffers) (w : Book) where
   left_by d x h c u e = rw (e, laid_out_same x.buffers b u (rooms b w d x h))
 
   undo-change : (d : Desk) (x : Lent) (h : Held b w d x) (fs : List Edit) (e : Edit) (before : List Line) → h.edits ≡ fs ++ e ∷ []
-      → take_back e d.lines ≡ some before → change x undoes ≡ to (book_with w before fs)
+      → take_back e d.lines ≡ Some before → change x undoes ≡ to (book_with w before fs)
   unfolding change
   undo-change d x h fs e before z q = rw (seen b w d x h, z) (undo_is w fs e before d.lines q)
 
@@ -132,7 +133,7 @@ module _ (b : Buffers) (w : Book) (k : eqb w.kind rust ≡ false) (d : Desk) (x 
 
   symbols-done : (t : List ℕ) (bare : Bool) (ls : List Line) → eqb w.kind export ≡ true → over token_limit t ≡ false
       → (reading reld (symbol_place bare) t).outcome ≡ accepted
-      → lines_kept (edition_of (book_frame w)) t (reading reld (symbol_place bare) t).events ≡ some ls → all_room b d.lines h.edits ls ≡ true
+      → lines_kept (edition_of (book_frame w)) t (reading reld (symbol_place bare) t).events ≡ Some ls → all_room b d.lines h.edits ls ≡ true
       → answer x (adds_symbol t bare) ≡ 0
   unfolding answer change symbol_asked add_reading
   symbols-done t bare ls z n o q m =

@@ -4,7 +4,7 @@ use Prim.Native.Nat.{ℕ, zero, suc, ◌+◌, ◌<◌, ◌≤◌}
 use mathlib.Core.Path.{◌≡◌, refl, sym, ap, ap₂, ◌∙◌}
 use mathlib.Core.List.{List, [], ◌∷◌, ◌++◌}
 use mathlib.Core.Bool.{Bool, true, false, cond, ◌||◌, or-true}
-use mathlib.Core.Option.{Option, some, none, some-injective}
+use Rattle.std.specs.Prelude.{Option, Some, None}
 use native.Mathlib.Omega.{arith}
 use lib.Dec.{eqb}
 use lib.ListN.{length, set}
@@ -53,17 +53,17 @@ module _ (w : Book) (n : Name) where
   same_deciding = deciding_ignores_offsets (book_frame w) n w.lines
 
   same_version : (d : Option ℕ) → decided_version (without_offsets w.lines) d ≡ decided_version w.lines d
-  same_version (some i) = rw (line-without w.lines i)
-  same_version none = refl
+  same_version (Some i) = rw (line-without w.lines i)
+  same_version None = refl
 
   same_locality : (d : Option ℕ) → decided_locality (without_offsets w.lines) d ≡ decided_locality w.lines d
-  same_locality (some i) = rw (line-without w.lines i)
-  same_locality none = refl
+  same_locality (Some i) = rw (line-without w.lines i)
+  same_locality None = refl
 
   version-without : (v : Option (List ℕ)) → version_of (book_without_offsets w) n v ≡ version_of w n v
   unfolding version_of
-  version-without (some v) = refl
-  version-without none = rw (same_deciding, same_version (deciding n w))
+  version-without (Some v) = refl
+  version-without None = rw (same_deciding, same_version (deciding n w))
 
   listed-without : listed (without_offsets w.lines) n.raw ≡ listed w.lines n.raw
   unfolding listed listed_as
@@ -192,6 +192,9 @@ module _ (ls : List Line) where
 pub offsets_survive : OffsetsSurvive
 offsets_survive how b s w ks h o r v e i k =
     let t = leads_so w.lines (edition_of (book_frame w)) (desk_at w.lines) (history_behind how b s ks) (λ a. a) (starts w.lines) in
-    let held = (demand_3 how b s w ks h o r).held in
-    let z : (desk_behind how b s w ks).lines ≡ v.lines = ap (λ (u : Book). u.lines) (some-injective _ v (sym held ∙ e)) in
+    let x = demand_3 how b s w ks h o r in
+    let u : Book = record { kind = w.kind; nodes = w.nodes; lines = (desk_behind how b s w ks).lines; edits = x.edits } in
+    let f : Some u ≡ Some v = sym x.held ∙ e in
+    let q : u ≡ v = cc in
+    let z : (desk_behind how b s w ks).lines ≡ v.lines = ap (λ (y : Book). y.lines) q in
     each_at (rw z at t.lines) i k

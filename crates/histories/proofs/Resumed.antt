@@ -4,7 +4,7 @@ use Prim.Native.Nat.{ℕ, zero, suc}
 use mathlib.Core.Path.{◌≡◌, refl, sym, ap, subst, ◌∙◌}
 use mathlib.Core.List.{List, [], ◌∷◌, ◌++◌}
 use mathlib.Core.Bool.{false}
-use mathlib.Core.Option.{some}
+use Rattle.std.specs.Prelude.{Some}
 use native.Mathlib.Omega.{arith}
 use lib.Dec.{eqb}
 use lib.ListN.{length, get_or, take}
@@ -35,7 +35,7 @@ module _ (b : Buffers) (w : Book) (k : eqb w.kind rust ≡ false) where
   abbrev OwnTrail : List Edit → List Line → Type 0
   OwnTrail es ls = Trail b w (led_back (all_back es ls)) (earlier_lines es ls) es ls
 
-  goes_on : (es fs : List Edit) (e : Edit) (ls before : List Line) → es ≡ fs ++ e ∷ [] → take_back e ls ≡ some before
+  goes_on : (es fs : List Edit) (e : Edit) (ls before : List Line) → es ≡ fs ++ e ∷ [] → take_back e ls ≡ Some before
       → Viewable b (book_with w before fs) → OwnTrail fs before → OwnTrail es ls
   goes_on es fs e ls before z h v t =
       let m : led_back (all_back es ls) ≡ led_back (all_back fs before)
@@ -59,7 +59,7 @@ module _ (b : Buffers) (w : Book) (k : eqb w.kind rust ≡ false) where
 
 -- counts and buffers in which a book is viewed hold it, with its own desk
 pub held-viewed : (w : Book) (ls : List Line) (es : List Edit) (x : Lent) → eqb w.kind rust ≡ false
-    → view x.counts x.buffers ≡ some (book_with w ls es) → Held x.buffers w (desk_of_book (book_with w ls es)) x
+    → view x.counts x.buffers ≡ Some (book_with w ls es) → Held x.buffers w (desk_of_book (book_with w ls es)) x
 unfolding desk_of_book
 held-viewed w ls es x k h =
     let t = layout_of_view x.counts x.buffers (book_with w ls es) h in

@@ -3,7 +3,7 @@ use Prim.Native.Nat.{ℕ, zero, suc, ◌+◌, ◌-◌}
 use mathlib.Core.Path.{◌≡◌, refl}
 use mathlib.Core.List.{List}
 use mathlib.Core.Bool.{Bool, false}
-use mathlib.Core.Option.{some}
+use Rattle.std.specs.Prelude.{Some, None, Ok, Err}
 use native.Mathlib.Omega.{arith}
 use lib.Dec.{eqb, ltb}
 use lib.ListN.{length}
@@ -13,12 +13,11 @@ use Rattle.numbers.specs.Limits.{token_limit}
 use Rattle.numbers.specs.Marks.{global}
 use Rattle.lists.proofs.Tests.{both}
 use Rattle.storing.specs.Keeping.{keep}
+use Rattle.numbers.specs.Saying.{number}
 use Rattle.reading_cursors.specs.declared.Cursor.{Cursor}
 use Rattle.reading_cursors.specs.declared.Event.{Event}
 use Rattle.reading_cursors.specs.declared.Event.TheVariants.{Node, Body, Section, Extern, Closed, Line, Parent}
-use Rattle.reading_cursors.specs.declared.Step.{Step}
-use Rattle.reading_cursors.specs.declared.Step.TheVariants.{Go, End, Refused}
-use Rattle.reading_cursors.specs.Moves.{start}
+use Rattle.reading_cursors.specs.Moves.{Step, start}
 use Rattle.reading.specs.Scripts.{next}
 use Rattle.reading.specs.Events.{Reading, on_step, reading, reading_from, reading_within}
 use Rattle.reading.proofs.Parts.{Marked, Parts, line, next_parts, start_marked}
@@ -70,15 +69,15 @@ module _ (a b : Buffers) (r : Rooms a b) (w : Book) (k : eqb w.kind rust ≡ fal
   along (suc n) c m = go (next s c) refl (along n)
     where
       go : (q : Step) → next s c ≡ q → ((c : Cursor) → Marked c → Along (reading_within n s c)) → Along (on_step q (λ c'. reading_within n s c'))
-      go (Go x c') z more d es g =
+      go (Ok (Some (x, c'))) z more d es g =
           let p = next_parts s c m z in
           let d' : Desk = with_event (edition_of (book_frame w)) s d x in
           on_leads d' _ (add_event a s (book_with w d.lines es) x) _ (event_leads d es g x p.0) (λ fs o. more c' p.1 d' fs o)
-      go End z more d es g = done es g
-      go (Refused i p) z more d es g = declined (reader_numbered i (next_refuses s c z).0)
+      go (Ok None) z more d es g = done es g
+      go (Err r) z more d es g = declined (reader_numbered (number r.refusal) (next_refuses s c {n = r.refusal} {p = r.place} z).0)
 
   pub symbol-leads : (bare : Bool) (d : Desk) (es : List Edit) → Sound b w d es
-      → Leads b w (with_events (edition_of (book_frame w)) s d (reading reld (symbol_place bare) s).events) (symbol_asked a (some (book_with w d.lines es)) s bare)
+      → Leads b w (with_events (edition_of (book_frame w)) s d (reading reld (symbol_place bare) s).events) (symbol_asked a (Some (book_with w d.lines es)) s bare)
   unfolding symbol_asked reading reading_from
   symbol-leads bare d es g =
       let c : Cursor = start reld (symbol_place bare) in

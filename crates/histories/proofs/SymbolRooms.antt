@@ -3,7 +3,7 @@ use Prim.Native.Nat.{ℕ}
 use mathlib.Core.Path.{◌≡◌, refl}
 use mathlib.Core.List.{List, [], ◌∷◌}
 use mathlib.Core.Bool.{true, true≢false}
-use mathlib.Core.Option.{Option, some, none}
+use Rattle.std.specs.Prelude.{Option, Some, None}
 use Rattle.linker_script.specs.Parts.{part}
 use Rattle.numbers.specs.Marks.{global}
 use Rattle.lists.proofs.Tests.{both}
@@ -26,21 +26,21 @@ module _ (a b : Buffers) (r : Rooms a b) (s : List ℕ) where
   -- what follows the events so far is done
   abbrev RestDone : List Event → Type 0
   RestDone xs =
-      (w : Book) (ls : List Line) → lines_kept (edition_of (book_frame w)) s xs ≡ some ls → all_room b w.lines w.edits ls ≡ true
+      (w : Book) (ls : List Line) → lines_kept (edition_of (book_frame w)) s xs ≡ Some ls → all_room b w.lines w.edits ls ≡ true
       → edit_refusal (edited (add_events a s w xs accepted)) ≡ 0
 
   line-done : (w : Book) (language : ℕ) (t : List ℕ) (xs : List Event) → RestDone xs → (K : Keep) → keep (edition_of (book_frame w)) t ≡ K
-      → (o : Option (List Line)) → lines_kept (edition_of (book_frame w)) s xs ≡ o → (ls : List Line) → line_kept language K o ≡ some ls
+      → (o : Option (List Line)) → lines_kept (edition_of (book_frame w)) s xs ≡ o → (ls : List Line) → line_kept language K o ≡ Some ls
       → all_room b w.lines w.edits ls ≡ true
       → edit_refusal (edited (on_change (append a w 0 global language t) (λ v. add_events a s v xs accepted))) ≡ 0
   unfolding append append_kept all_room
-  line-done w language t xs more (kept k bs) q (some ls) z all e m =
+  line-done w language t xs more (kept k bs) q (Some ls) z all e m =
       let x : Line = new_line 0 global language (class_number k) bs in
       let f : all ≡ x ∷ ls = cc in
       let i = both (line_room b w.lines bs) _ (rw f at m) in
       let j = both (edit_room b w.edits) _ i.1 in
       rw (q, line_room_same a b r w.lines bs, i.0, edit_room_same a b r w.edits, j.0) (more (with_line w x) ls z j.1)
-  line-done w language t xs more (kept k bs) q none z all e m = absurd (true≢false (cc))
+  line-done w language t xs more (kept k bs) q None z all e m = absurd (true≢false (cc))
   line-done w language t xs more (refused n) q o z all e m = absurd (true≢false (cc))
 
   pub events-done : (xs : List Event) → RestDone xs

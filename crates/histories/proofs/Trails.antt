@@ -4,7 +4,7 @@ use Prim.Native.Nat.{ℕ, ◌+◌, ◌-◌, ◌<◌}
 use mathlib.Core.Path.{◌≡◌, refl, sym, ap, ◌∙◌}
 use mathlib.Core.List.{List, [], ◌∷◌, ◌++◌}
 use mathlib.Core.Bool.{true, true≢false}
-use mathlib.Core.Option.{Option, some, none}
+use Rattle.std.specs.Prelude.{Option, Some, None}
 use native.Mathlib.Omega.{arith}
 use borrow.Author.Tests.{eq-eqb, eqb-true, lt-ltb}
 use lib.ListN.{length, set, take, length-append, length-set}
@@ -19,7 +19,7 @@ use Rattle.histories.proofs.Asked.{book_with}
 
 -- ---- an edit taken back gives the lines before it
 module _ (ls : List Line) where
-  pub added_back : (x : Line) → x.struck ≡ 0 → take_back (record { what = add; line = length ls }) (ls ++ x ∷ []) ≡ some ls
+  pub added_back : (x : Line) → x.struck ≡ 0 → take_back (record { what = add; line = length ls }) (ls ++ x ∷ []) ≡ Some ls
   unfolding take_back add_back
   added_back x z =
       let n : length (ls ++ x ∷ []) ≡ length ls + 1 = length-append ls (x ∷ []) in
@@ -37,7 +37,7 @@ module _ (ls : List Line) where
   }
 
   pub struck_back : (i : ℕ) → i < length ls → stands (line_at ls i) ≡ true
-      → take_back (record { what = strike; line = i }) (set ls i (marked 1 (line_at ls i))) ≡ some ls
+      → take_back (record { what = strike; line = i }) (set ls i (marked 1 (line_at ls i))) ≡ Some ls
   unfolding take_back strike_back
   struck_back i h s =
       let x : Line = line_at ls i in
@@ -46,32 +46,32 @@ module _ (ls : List Line) where
       rw (e, n, lt-ltb i (length ls) h, set-set, unmarked x (eqb-true _ _ s), set-get_or)
 
 -- ---- a journal with one edit more
-pub back_last : (es : List Edit) (e : Edit) (ls before : List Line) → take_back e ls ≡ some before → all_back (es ++ e ∷ []) ls ≡ all_back es before
+pub back_last : (es : List Edit) (e : Edit) (ls before : List Line) → take_back e ls ≡ Some before → all_back (es ++ e ∷ []) ls ≡ all_back es before
 unfolding all_back
 back_last [] e ls before h = h
 back_last (f ∷ es) e ls before h = ap (then_back f) (back_last es e ls before h)
 
-pub journal_last : (es : List Edit) (e : Edit) (ls before : List Line) → take_back e ls ≡ some before → journal_fits es before ≡ true
+pub journal_last : (es : List Edit) (e : Edit) (ls before : List Line) → take_back e ls ≡ Some before → journal_fits es before ≡ true
     → journal_fits (es ++ e ∷ []) ls ≡ true
 unfolding journal_fits
 journal_last es e ls before h k = rw (back_last es e ls before h) k
 
-pub back_none : (es : List Edit) (e : Edit) (ls : List Line) → take_back e ls ≡ none → all_back (es ++ e ∷ []) ls ≡ none
+pub back_none : (es : List Edit) (e : Edit) (ls : List Line) → take_back e ls ≡ None → all_back (es ++ e ∷ []) ls ≡ None
 unfolding all_back
 back_none [] e ls h = h
 back_none (f ∷ es) e ls h = ap (then_back f) (back_none es e ls h)
 
 -- and the other way: where it fits, its latest edit can be taken back, and the rest fits the lines before it
 pub last_back : (es : List Edit) (e : Edit) (ls : List Line) → journal_fits (es ++ e ∷ []) ls ≡ true
-    → (before : List Line) × (take_back e ls ≡ some before) × (journal_fits es before ≡ true)
+    → (before : List Line) × (take_back e ls ≡ Some before) × (journal_fits es before ≡ true)
 unfolding journal_fits
 last_back es e ls k = go (take_back e ls) refl
   where
-    go : (o : Option (List Line)) → take_back e ls ≡ o → (before : List Line) × (take_back e ls ≡ some before) × (all_stand (all_back es before) ≡ true)
-    go (some before) h = (before, h, ap all_stand (sym (back_last es e ls before h)) ∙ k)
-    go none h = absurd (true≢false (sym k ∙ ap all_stand (back_none es e ls h)))
+    go : (o : Option (List Line)) → take_back e ls ≡ o → (before : List Line) × (take_back e ls ≡ Some before) × (all_stand (all_back es before) ≡ true)
+    go (Some before) h = (before, h, ap all_stand (sym (back_last es e ls before h)) ∙ k)
+    go None h = absurd (true≢false (sym k ∙ ap all_stand (back_none es e ls h)))
 
-pub earlier_last : (es : List Edit) (e : Edit) (ls before : List Line) → take_back e ls ≡ some before
+pub earlier_last : (es : List Edit) (e : Edit) (ls before : List Line) → take_back e ls ≡ Some before
     → earlier_lines (es ++ e ∷ []) ls ≡ before ∷ earlier_lines es before
 unfolding earlier_lines all_back
 earlier_last [] e ls before h = rw h
@@ -96,7 +96,7 @@ module _ (es : List Edit) (e : Edit) where
 pub data Trail (b : Buffers) (w : Book) (moment : List Line) : List (List Line) → List Edit → List Line → Type 0 where
   begins : {es : List Edit} {ls : List Line} → es ≡ [] → ls ≡ moment → Trail b w moment [] es ls
   goes : {earlier : List (List Line)} {es : List Edit} {ls : List Line} (fs : List Edit) (e : Edit) (before : List Line) → es ≡ fs ++ e ∷ []
-      → take_back e ls ≡ some before → Viewable b (book_with w before fs) → Trail b w moment earlier fs before → Trail b w moment (before ∷ earlier) es ls
+      → take_back e ls ≡ Some before → Viewable b (book_with w before fs) → Trail b w moment earlier fs before → Trail b w moment (before ∷ earlier) es ls
 
 pub trail-length : {b : Buffers} {w : Book} {moment : List Line} {earlier : List (List Line)} {es : List Edit} {ls : List Line}
     → Trail b w moment earlier es ls → length es ≡ length earlier

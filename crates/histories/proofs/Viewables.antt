@@ -4,7 +4,7 @@ use Prim.Native.Nat.{ℕ, ◌+◌, ◌*◌, ◌≤◌, ◌<◌}
 use mathlib.Core.Path.{◌≡◌, refl, sym, ap, subst, ◌∙◌}
 use mathlib.Core.List.{List, [], ◌∷◌, ◌++◌}
 use mathlib.Core.Bool.{Bool, true, false, cond, not, ◌&&◌, true≢false}
-use mathlib.Core.Option.{some, none, some-injective}
+use Rattle.std.specs.Prelude.{Some, None}
 use native.Mathlib.Omega.{arith}
 use borrow.Author.Tests.{leb-true, ltb-true}
 use lib.Dec.{eqb, ltb}
@@ -35,12 +35,12 @@ record Before (ok : Line → Bool) (ls before : List Line) : Type 0 where
   all : every ok before ≡ true
 
 -- what is given where a test holds
-given : (t : Bool) (a b : List Line) → cond t (some a) none ≡ some b → (t ≡ true) × (a ≡ b)
-given true a b e = (refl, some-injective a b e)
+given : (t : Bool) (a b : List Line) → cond t (Some a) None ≡ Some b → (t ≡ true) × (a ≡ b)
+given true a b e = (refl, cc)
 given false a b e = absurd (true≢false (cc))
 
 module _ (f : Frame) (ls before : List Line) (o : every (line_ok f) ls ≡ true) where
-  before_add : (i : ℕ) → add_back i ls ≡ some before → Before (line_ok f) ls before
+  before_add : (i : ℕ) → add_back i ls ≡ Some before → Before (line_ok f) ls before
   unfolding add_back
   before_add i h =
       let g = given (eqb (length ls) (i + 1) && stands (line_at ls i)) (take i ls) before h in
@@ -56,7 +56,7 @@ module _ (f : Frame) (ls before : List Line) (o : every (line_ok f) ls ≡ true)
         all = every_front (line_ok f) (take i ls) (drop i ls) (ap (every (line_ok f)) a ∙ o);
       })
 
-  before_strike : (i : ℕ) → strike_back i ls ≡ some before → Before (line_ok f) ls before
+  before_strike : (i : ℕ) → strike_back i ls ≡ Some before → Before (line_ok f) ls before
   unfolding strike_back line_form
   before_strike i h =
       let y : Line = marked 0 (line_at ls i) in
@@ -70,11 +70,11 @@ module _ (f : Frame) (ls before : List Line) (o : every (line_ok f) ls ≡ true)
         all = every_set (line_ok f) ls i y o (marked_ok f 0 (line_at ls i) (omega arith) (every_at (line_ok f) ls i no_line o l));
       })
 
-  before_edit : (e : Edit) → take_back e ls ≡ some before → Before (line_ok f) ls before
+  before_edit : (e : Edit) → take_back e ls ≡ Some before → Before (line_ok f) ls before
   unfolding take_back
   before_edit e h = go (eqb e.what add) h
     where
-      go : (t : Bool) → cond t (add_back e.line ls) (strike_back e.line ls) ≡ some before → Before (line_ok f) ls before
+      go : (t : Bool) → cond t (add_back e.line ls) (strike_back e.line ls) ≡ Some before → Before (line_ok f) ls before
       go true q = before_add e.line q
       go false q = before_strike e.line q
 
@@ -109,7 +109,7 @@ module _ (b : Buffers) (w : Book) (ls : List Line) (es : List Edit) (v : Viewabl
     edits_more e o = every_append edit_ok es (e ∷ []) v.fits.edits_ok (rw o)
 
     pub viewable-line : (x : Line) → line_ok (book_frame w) x ≡ true → line_room b ls x.bytes ≡ true → edit_room b es ≡ true
-        → take_back (record { what = add; line = length ls }) (ls ++ x ∷ []) ≡ some ls → Viewable b (with_line (book_with w ls es) x)
+        → take_back (record { what = add; line = length ls }) (ls ++ x ∷ []) ≡ Some ls → Viewable b (with_line (book_with w ls es) x)
     viewable-line x o r q z =
         let e : Edit = record { what = add; line = length ls } in
         record {
@@ -118,7 +118,7 @@ module _ (b : Buffers) (w : Book) (ls : List Line) (es : List Edit) (v : Viewabl
         }
 
     pub viewable-strike : (i : ℕ) (e : Edit) → i < length ls → edit_ok e ≡ true → edit_room b es ≡ true
-        → take_back e (set ls i (marked 1 (line_at ls i))) ≡ some ls → Viewable b (book_with w (set ls i (marked 1 (line_at ls i))) (es ++ e ∷ []))
+        → take_back e (set ls i (marked 1 (line_at ls i))) ≡ Some ls → Viewable b (book_with w (set ls i (marked 1 (line_at ls i))) (es ++ e ∷ []))
     unfolding line_form
     viewable-strike i e h p q z =
         let y : Line = marked 1 (line_at ls i) in
@@ -167,7 +167,7 @@ module _ (b : Buffers) (w : Book) (ls : List Line) (es : List Edit) (v : Viewabl
 -- ---- with the latest edit taken back
 module _ (b : Buffers) (w : Book) (k : eqb w.kind rust ≡ false) (ls before : List Line) (es : List Edit) (e : Edit)
     (v : Viewable b (book_with w ls (es ++ e ∷ []))) where
-  pub viewable_back : take_back e ls ≡ some before → journal_fits es before ≡ true → Viewable b (book_with w before es)
+  pub viewable_back : take_back e ls ≡ Some before → journal_fits es before ≡ true → Viewable b (book_with w before es)
   viewable_back h j =
       let n : length (es ++ e ∷ []) ≡ length es + 1 = length-append es (e ∷ []) in
       let c = before_edit (book_frame w) ls before v.fits.lines_ok e h in

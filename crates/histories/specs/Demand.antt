@@ -1,7 +1,6 @@
 -- Demand 3, as a theorem about the definitions that the public functions promise. "Open a book on an accepted Regular script or export list, then add, strike,
 -- undo and settle in any sequence, refused calls included." Assumes nothing.
-use Rattle.std.specs.Prelude.{ℕ, ◌<◌, ◌≡◌, List, [], ◌∷◌, ◌++◌, Bool, true, false, ◌&&◌, eqb, length}
-use Rattle.std.proofs.Math.Option.{Option, some, none}
+use Rattle.std.specs.Prelude.{ℕ, ◌<◌, ◌≡◌, List, [], ◌∷◌, ◌++◌, Bool, true, false, ◌&&◌, eqb, length, Option, Some, None}
 use Rattle.linker_script.specs.Parts.{part}
 use Rattle.numbers.specs.Editions.{reld}
 use Rattle.numbers.specs.Limits.{over, token_limit}
@@ -41,16 +40,16 @@ lent_opening b o = record { counts = (told o).counts; buffers = left b o }
 -- ---- the lines that a text of `add_symbol` adds to an export list, and room for them
 -- a line before others, where its token is kept
 abbrev pub line_kept : ℕ → Keep → Option (List Line) → Option (List Line)
-line_kept language (kept k bs) (some ls) = some (new_line 0 global language (class_number k) bs ∷ ls)
-line_kept language (kept k bs) none = none
-line_kept language (refused n) o = none
+line_kept language (kept k bs) (Some ls) = Some (new_line 0 global language (class_number k) bs ∷ ls)
+line_kept language (kept k bs) None = None
+line_kept language (refused n) o = None
 
 abbrev pub event_kept : Edition → List ℕ → Event → Option (List Line) → Option (List Line)
 event_kept e s x o = on_line (λ language p n. line_kept language (keep e (part s p n)) o) o x
 
 -- the lines of a text's events, where all its tokens are kept
 unfoldable pub lines_kept : Edition → List ℕ → List Event → Option (List Line)
-lines_kept e s [] = some []
+lines_kept e s [] = Some []
 lines_kept e s (x ∷ xs) = event_kept e s x (lines_kept e s xs)
 
 -- room for lines behind the lines ls and the edits es, one behind the other: each has a row, its bytes and an edit
@@ -63,14 +62,14 @@ all_room b ls es (x ∷ xs) =
 pub record Holds (b : Buffers) (w : Book) (y : Lent) (d : Desk) : Type 0 where
   -- they hold that book's kind and nodes with the desk's lines, one edit for each undo that there can be, and the desk is the one that this book has
   pub edits : List Edit
-  pub held : view y.counts y.buffers ≡ some (record { kind = w.kind; nodes = w.nodes; lines = d.lines; edits = edits })
+  pub held : view y.counts y.buffers ≡ Some (record { kind = w.kind; nodes = w.nodes; lines = d.lines; edits = edits })
   pub undoable : length edits ≡ length d.earlier
   pub same_desk : desk_of_book (record { kind = w.kind; nodes = w.nodes; lines = d.lines; edits = edits }) ≡ d
   -- "each lookup answers by demand 2's ranking over exactly the lines that the history leaves standing"
   pub version : (n : Name) (v : Option (List ℕ))
-      → version_asked (view y.counts y.buffers) n v ≡ version_asked (some (with_lines w (standing d.lines))) n v
-  pub locality : (n : Name) → locality_asked (view y.counts y.buffers) n ≡ locality_asked (some (with_lines w (standing d.lines))) n
-  pub member : (n : Name) → contains_asked (view y.counts y.buffers) n ≡ contains_asked (some (with_lines w (standing d.lines))) n
+      → version_asked (view y.counts y.buffers) n v ≡ version_asked (Some (with_lines w (standing d.lines))) n v
+  pub locality : (n : Name) → locality_asked (view y.counts y.buffers) n ≡ locality_asked (Some (with_lines w (standing d.lines))) n
+  pub member : (n : Name) → contains_asked (view y.counts y.buffers) n ≡ contains_asked (Some (with_lines w (standing d.lines))) n
   -- "and undoing every edit since the opening, or since the last settle that dropped a line, brings back each lent byte of that moment", and each count:
   -- `UndoneAll` and `BroughtBack` say it of the lent counts and buffers at both times
   pub undone : run y (undos (length d.earlier)) ≡ lent_book b (with_lines w d.moment)
@@ -84,7 +83,7 @@ pub record Holds (b : Buffers) (w : Book) (y : Lent) (d : Desk) : Type 0 where
   -- and `add_symbol` on an export list, of a text that is read to its end and whose lines are all kept, wherever there is room for all of them
   pub symbols : (t : List ℕ) (bare : Bool) (ls : List Line)
       → eqb w.kind export ≡ true → over token_limit t ≡ false → (reading reld (symbol_place bare) t).outcome ≡ accepted
-      → lines_kept (edition_of (book_frame w)) t (reading reld (symbol_place bare) t).events ≡ some ls → all_room b d.lines edits ls ≡ true
+      → lines_kept (edition_of (book_frame w)) t (reading reld (symbol_place bare) t).events ≡ Some ls → all_room b d.lines edits ls ≡ true
       → answer y (adds_symbol t bare) ≡ 0
 
 -- ---- the theorem: for every opening of a Regular script or an export list, and every sequence of calls

@@ -1,7 +1,6 @@
 -- Histories of a trial book: calls with their answers, what they do to lent counts and buffers, and, told without any buffer, which lines they leave and where
 -- undoing leads back to. Assumes nothing.
-use Rattle.std.specs.Prelude.{ℕ, zero, suc, ◌+◌, ◌-◌, List, [], ◌∷◌, ◌++◌, Bool, true, false, cond, not, ◌&&◌, eqb}
-use Rattle.std.proofs.Math.Option.{Option, some, none}
+use Rattle.std.specs.Prelude.{ℕ, zero, suc, ◌+◌, ◌-◌, List, [], ◌∷◌, ◌++◌, Bool, true, false, cond, not, ◌&&◌, eqb, Option, Some, None}
 use Rattle.linker_script.specs.Parts.{part}
 use Rattle.numbers.specs.Editions.{reld}
 use Rattle.numbers.specs.Marks.{global}
@@ -76,8 +75,8 @@ desk_at ls = record { moment = ls; earlier = []; lines = ls }
 
 -- the lines that edits taken back lead to. A book's journal leads to some: one that does not is refused with 14 (`journal_fits`)
 abbrev pub led_back : Option (List Line) → List Line
-led_back (some ls) = ls
-led_back none = []
+led_back (Some ls) = ls
+led_back None = []
 
 -- the lines before each of these edits, the latest first
 unfoldable pub earlier_lines : List Edit → List Line → List (List Line)

@@ -1,7 +1,6 @@
 -- Offsets in whole books and histories, request 02: that no lookup of a book sees them, and what they tell behind any history. proofs/Offsets.antt proves both.
 -- Assumes nothing.
-use Rattle.std.specs.Prelude.{ℕ, ◌<◌, ◌≡◌, List, Bool, true, false, ◌&&◌, eqb, length}
-use Rattle.std.proofs.Math.Option.{Option, some}
+use Rattle.std.specs.Prelude.{ℕ, ◌<◌, ◌≡◌, List, Bool, true, false, ◌&&◌, eqb, length, Option, Some}
 use Rattle.lists.specs.Each.{any}
 use Rattle.book.specs.Books.{Book, Line, rust}
 use Rattle.book.specs.Edits.{line_at, marked}
@@ -23,9 +22,9 @@ abbrev pub book_without_offsets : Book → Book
 book_without_offsets w = record { kind = w.kind; nodes = w.nodes; lines = without_offsets w.lines; edits = w.edits }
 
 pub record LookupsIgnore : Type 0 where
-  pub version : (w : Book) (n : Name) (v : Option (List ℕ)) → version_asked (some (book_without_offsets w)) n v ≡ version_asked (some w) n v
-  pub locality : (w : Book) (n : Name) → locality_asked (some (book_without_offsets w)) n ≡ locality_asked (some w) n
-  pub member : (w : Book) (n : Name) → contains_asked (some (book_without_offsets w)) n ≡ contains_asked (some w) n
+  pub version : (w : Book) (n : Name) (v : Option (List ℕ)) → version_asked (Some (book_without_offsets w)) n v ≡ version_asked (Some w) n v
+  pub locality : (w : Book) (n : Name) → locality_asked (Some (book_without_offsets w)) n ≡ locality_asked (Some w) n
+  pub member : (w : Book) (n : Name) → contains_asked (Some (book_without_offsets w)) n ≡ contains_asked (Some w) n
 
 -- ---- "It survives strike, undo and settle"
 -- a call that adds lines where it is done
@@ -57,5 +56,5 @@ abbrev pub OffsetsSurvive : Type 0
 OffsetsSurvive =
     (how : How) (b : Buffers) (s : List ℕ) (w : Book) (ks : List Call)
     → opens_at how ≡ true → opening how b s ≡ opens w → eqb w.kind rust ≡ false
-    → (v : Book) → view (lent_behind how b s ks).counts (lent_behind how b s ks).buffers ≡ some v
+    → (v : Book) → view (lent_behind how b s ks).counts (lent_behind how b s ks).buffers ≡ Some v
     → (i : ℕ) → i < length v.lines → Came w.lines (history_behind how b s ks) (line_at v.lines i)

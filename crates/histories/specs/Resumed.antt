@@ -1,6 +1,5 @@
 -- Demand 3 of any book that is lent, whatever was done to it before and in whatever rooms; and of a book that is moved to other rooms. Assumes nothing.
-use Rattle.std.specs.Prelude.{ℕ, ◌*◌, ◌≤◌, ◌≡◌, List, true, false, eqb, length, drop, take}
-use Rattle.std.proofs.Math.Option.{some}
+use Rattle.std.specs.Prelude.{ℕ, ◌*◌, ◌≤◌, ◌≡◌, List, true, false, eqb, length, drop, take, Some}
 use Rattle.packing.specs.Padding.{all_zero}
 use Rattle.book.specs.declared.Counts.{Counts}
 use Rattle.book.specs.Books.{Book, book_frame, edition_of, rust}
@@ -16,7 +15,7 @@ desk_from w d x ks = leads (edition_of (book_frame w)) d (history x ks)
 -- ---- counts and buffers that hold a book, not of the Rust kind: any sequence of calls goes on from the desk of this book, as from an opening
 abbrev pub Resumed : Type 0
 Resumed =
-    (x : Lent) (w : Book) (ks : List Call) → view x.counts x.buffers ≡ some w → eqb w.kind rust ≡ false
+    (x : Lent) (w : Book) (ks : List Call) → view x.counts x.buffers ≡ Some w → eqb w.kind rust ≡ false
     → Holds x.buffers w (run x ks) (desk_from w (desk_of_book w) x ks)
 
 -- ---- other rooms
@@ -37,7 +36,7 @@ pub record MovedTo (c : Counts) (b b' : Buffers) : Type 0 where
 
 -- with the same counts they hold the same book, of any kind
 abbrev pub Moved : Type 0
-Moved = (c : Counts) (b b' : Buffers) (w : Book) → view c b ≡ some w → MovedTo c b b' → view c b' ≡ some w
+Moved = (c : Counts) (b b' : Buffers) (w : Book) → view c b ≡ Some w → MovedTo c b b' → view c b' ≡ Some w
 
 -- lent counts with other buffers
 abbrev pub in_rooms : Lent → Buffers → Lent
@@ -46,6 +45,6 @@ in_rooms x b' = record { counts = x.counts; buffers = b' }
 -- so demand 3 goes on behind a move: from the desk that the calls ks led to, by the calls ls on what was moved, with the new rooms
 abbrev pub MovedOn : Type 0
 MovedOn =
-    (x : Lent) (w : Book) (ks : List Call) (b' : Buffers) (ls : List Call) → view x.counts x.buffers ≡ some w → eqb w.kind rust ≡ false
+    (x : Lent) (w : Book) (ks : List Call) (b' : Buffers) (ls : List Call) → view x.counts x.buffers ≡ Some w → eqb w.kind rust ≡ false
     → MovedTo (run x ks).counts (run x ks).buffers b'
     → Holds b' w (run (in_rooms (run x ks) b') ls) (desk_from w (desk_from w (desk_of_book w) x ks) (in_rooms (run x ks) b') ls)

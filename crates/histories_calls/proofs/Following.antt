@@ -11,7 +11,7 @@ use Rattle.lists.specs.Each.{every}
 use Rattle.book.specs.Books.{Book, book_frame, edition_of, rust}
 use Rattle.book.specs.Edits.{stands}
 use Rattle.book.specs.Layout.{Buffers}
-use Rattle.book_opening.specs.Opening.{opens, opening}
+use Rattle.book_opening.specs.Opening.{opening}
 use Rattle.trial.specs.Trial.{standing}
 use Rattle.histories.specs.Histories.{Call, settles, Desk, Lent, Told, desk_at, desk_of_book, edits_left, follow, history, leads, lent_after, nothing_dropped, run, undos}
 use Rattle.histories.specs.Demand.{Holds, desk_behind, lent_behind, lent_opening}

@@ -12,7 +12,7 @@ use Rattle.book_opening.specs.Opening.{Opening, opens, as_list, as_script, left,
 use Rattle.book_opening.specs.State.{Filled}
 use Rattle.lookups.specs.Lookups.{locality_asked, version_asked}
 use Rattle.export_list.specs.Membership.{contains_asked}
-use Rattle.trial.specs.declared.Edited.{Edited}
+use Rattle.std.specs.Prelude.{Result}
 use Rattle.trial.specs.Changes.{Change, to, no, Leaves, after, counts_after, edit_refusal, edited}
 use Rattle.histories.specs.Histories.{Call, settles, undoes, Lent, answer, change, lent_after}
 use Rattle.histories.specs.Demand.{lent_book}
@@ -60,7 +60,7 @@ unfolding edited counts_after
 counts-said c (to w) = refl
 counts-said c (no n) = refl
 
-made_said : {c : Counts} {b : Buffers} (k : Call) {r : Edited} {b' : Buffers} → Leaves b (change (record { counts = c; buffers = b }) k) r b'
+made_said : {c : Counts} {b : Buffers} (k : Call) {r : Result Counts ℕ} {b' : Buffers} → Leaves b (change (record { counts = c; buffers = b }) k) r b'
     → (x : Lent) → ◌≡◌ {A = Lent} (record { counts = c; buffers = b }) x → Follows x (edit_seen c b k r b')
 made_said {c} {b} k {r} {b'} p x e = lent-said (edit_seen c b k r b') (ap edit_refusal p.0) (ap (counts_behind c) p.0 ∙ counts-said c _) p.1 x e
 

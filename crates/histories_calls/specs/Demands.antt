@@ -1,6 +1,5 @@
 -- Demand 3 of the functions of an interface. Assumes nothing.
-use Rattle.std.specs.Prelude.{◌≡◌, List, [], ◌∷◌, ◌++◌, true, false, eqb, length}
-use Rattle.std.proofs.Math.Option.{some}
+use Rattle.std.specs.Prelude.{◌≡◌, List, [], ◌∷◌, ◌++◌, true, false, eqb, length, Some}
 use Rattle.lists.specs.Each.{every}
 use Rattle.book.specs.Books.{Book, book_frame, edition_of, rust, with_lines}
 use Rattle.book.specs.Edits.{stands}
@@ -58,11 +57,11 @@ pub record Demanded (I : Interface) (b : Buffers) (w : Book) (d : Desk) (y : I.H
   -- what an edit answers then: `holds` says where that is 0
   pub answers : (f : I.EditRun) → (I.edits f).lent ≡ y → (I.edits f).number ≡ answer lent (I.edits f).call
   pub version : (q : I.VersionRun) → (I.version q).lent ≡ y
-      → (I.version q).answers (version_asked (some (with_lines w (standing d.lines))) (I.version q).asked.0 (I.version q).asked.1)
+      → (I.version q).answers (version_asked (Some (with_lines w (standing d.lines))) (I.version q).asked.0 (I.version q).asked.1)
   pub locality : (q : I.LocalityRun) → (I.locality q).lent ≡ y
-      → (I.locality q).answers (locality_asked (some (with_lines w (standing d.lines))) (I.locality q).asked)
+      → (I.locality q).answers (locality_asked (Some (with_lines w (standing d.lines))) (I.locality q).asked)
   pub member : (q : I.MemberRun) → (I.member q).lent ≡ y
-      → (I.member q).answers (contains_asked (some (with_lines w (standing d.lines))) (I.member q).asked)
+      → (I.member q).answers (contains_asked (Some (with_lines w (standing d.lines))) (I.member q).asked)
   -- undos of every edit that there is to undo leave the counts and the layout of the desk's moment
   pub undone : (us : List I.EditRun) (v : I.Holding) → InTurn I y us v → calls I us ≡ undos (length d.earlier)
       → v ≡ I.holding (lent_book b (with_lines w d.moment))
@@ -76,7 +75,7 @@ Demand3Of I =
 -- the same of any book that is lent, from its own desk on, whatever was done to it before and in whatever rooms
 abbrev pub ResumedOf : Interface → Type 0
 ResumedOf I =
-    (x : Lent) (w : Book) → view x.counts x.buffers ≡ some w → eqb w.kind rust ≡ false
+    (x : Lent) (w : Book) → view x.counts x.buffers ≡ Some w → eqb w.kind rust ≡ false
     → (fs : List I.EditRun) (y : I.Holding) → InTurn I (I.holding x) fs y
     → Demanded I x.buffers w (desk_after I w (desk_of_book w) fs) y
 
@@ -85,7 +84,7 @@ ResumedOf I =
 -- further moves may follow
 abbrev pub MovedOnOf : Interface → Type 0
 MovedOnOf I =
-    (x : Lent) (w : Book) → view x.counts x.buffers ≡ some w → eqb w.kind rust ≡ false
+    (x : Lent) (w : Book) → view x.counts x.buffers ≡ Some w → eqb w.kind rust ≡ false
     → (fs : List I.EditRun) (y : I.Holding) → InTurn I (I.holding x) fs y
     → (b' : Buffers) → MovedTo (run x (calls I fs)).counts (run x (calls I fs)).buffers b'
     → (gs : List I.EditRun) (z : I.Holding) → InTurn I (I.holding (in_rooms (run x (calls I fs)) b')) gs z

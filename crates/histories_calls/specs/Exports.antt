@@ -5,8 +5,9 @@ use Rattle.book.specs.Layout.{Buffers, five}
 use Rattle.book_opening.specs.declared.How.{How}
 use Rattle.book_opening.specs.Opening.{as_list, as_script}
 use Rattle.ranking.specs.Matching.{name_of}
-use Rattle.lookups.specs.Lookups.{locality_refusal, locality_value, version_refusal, version_value, wanted_of}
-use Rattle.export_list.specs.Membership.{membership_refusal, membership_value}
+use Rattle.lookups.specs.Lookups.{locality_value, version_value, wanted_of}
+use Rattle.numbers.specs.Saying.{refusal_of}
+use Rattle.export_list.specs.Membership.{membership_value}
 use Rattle.c_lending.specs.Calls.{Replies, counts_row, flag}
 use Rattle.histories.specs.Histories.{Call, adds, adds_symbol, settles, strikes, undoes, Lent}
 use Rattle.histories_calls.specs.Interfaces.{Interface, RunOf, SeenEdit, SeenOpening, SeenQuestion, exit}
@@ -119,17 +120,17 @@ exports = record {
       let (c, (n, (m, (l, (p, (j, (raw, (demangled, (has, (wanted, (out, _))))))))))) = f.given in
       let (_, (_, (_, (_, (_, (_, (_, (_, (_, (_, (out', _))))))))))) = exit f in
       question_seen c.now (five n.now m.now l.now p.now j.now) (name_of raw.now demangled.now, wanted_of (flag has) wanted.now)
-      (λ a. Replies version_refusal version_value a out.now f.answered out'.now);
+      (λ a. Replies refusal_of version_value a out.now f.answered out'.now);
   LocalityRun = LocalityRun;
   locality = λ f.
       let (c, (n, (m, (l, (p, (j, (raw, (demangled, (out, _))))))))) = f.given in
       let (_, (_, (_, (_, (_, (_, (_, (_, (out', _))))))))) = exit f in
       question_seen c.now (five n.now m.now l.now p.now j.now) (name_of raw.now demangled.now)
-      (λ a. Replies locality_refusal locality_value a out.now f.answered out'.now);
+      (λ a. Replies refusal_of locality_value a out.now f.answered out'.now);
   MemberRun = MemberRun;
   member = λ f.
       let (c, (n, (m, (l, (p, (j, (raw, (demangled, (out, _))))))))) = f.given in
       let (_, (_, (_, (_, (_, (_, (_, (_, (out', _))))))))) = exit f in
       question_seen c.now (five n.now m.now l.now p.now j.now) (name_of raw.now demangled.now)
-      (λ a. Replies membership_refusal membership_value a out.now f.answered out'.now);
+      (λ a. Replies refusal_of membership_value a out.now f.answered out'.now);
 }

@@ -1,15 +1,14 @@
 -- The library's functions: the counts are a value, and the five buffers are slices. `add`, `strike`, `settle` and `add_symbol` are given the counts and answer
 -- those of the book behind the edit, or the number that says no; of undo there is one like them, and one that the counts are lent to. Assumes nothing.
-use Rattle.std.specs.Prelude.{ℕ, ◌≡◌, List}
+use Rattle.std.specs.Prelude.{ℕ, ◌≡◌, List, Result, Ok, Err}
 use Rattle.book.specs.declared.Counts.{Counts}
 use Rattle.book.specs.Layout.{Buffers, five}
+use Rattle.book.specs.Lending.{buffers_of}
 use Rattle.book_opening.specs.declared.How.{How}
 use Rattle.book_opening.specs.declared.Opened.{Opened}
 use Rattle.book_opening.specs.Opening.{as_list, as_script}
 use Rattle.ranking.specs.Matching.{name_of}
-use Rattle.lookups.specs.Lookups.{wanted_of}
-use Rattle.trial.specs.declared.Edited.{Edited}
-use Rattle.trial.specs.declared.Edited.TheVariants.{Done, Refused}
+use Rattle.lookups.specs.Lookups.{bytes_of}
 use Rattle.trial.specs.Changes.{edit_refusal}
 use Rattle.uniqueness.specs.Promises.{Undo}
 use Rattle.histories.specs.Histories.{Call, adds, adds_symbol, settles, strikes, undoes, Lent}
@@ -65,11 +64,11 @@ pub data EditRun : Type 0 where
   add_symbol_run : RunOf add_symbol.ended add_symbol_reads.Post → EditRun
 
 -- the counts behind an edit to which c were given: those that it answers, or where it is refused c again
-abbrev pub counts_behind : Counts → Edited → Counts
-counts_behind c (Done d) = d
-counts_behind c (Refused n) = c
+abbrev pub counts_behind : Counts → Result Counts ℕ → Counts
+counts_behind c (Ok d) = d
+counts_behind c (Err n) = c
 
-abbrev pub edit_seen : Counts → Buffers → Call → Edited → Buffers → SeenEdit Lent
+abbrev pub edit_seen : Counts → Buffers → Call → Result Counts ℕ → Buffers → SeenEdit Lent
 edit_seen c b k r b' = record {
   lent = record { counts = c; buffers = b };
   call = k;
@@ -132,14 +131,14 @@ library = record {
   edits = edits;
   VersionRun = VersionRun;
   version = λ f.
-      let (c, (n, (m, (l, (p, (j, (raw, (demangled, (has, (wanted, _)))))))))) = f.given in
-      question_seen c (five n.now m.now l.now p.now j.now) (name_of raw.now demangled.now, wanted_of has wanted.now) f.answered;
+      let (b, (raw, (demangled, (wanted, _)))) = f.given in
+      question_seen b.counts (buffers_of b) (name_of raw.now demangled.now, bytes_of wanted) f.answered;
   LocalityRun = LocalityRun;
   locality = λ f.
-      let (c, (n, (m, (l, (p, (j, (raw, (demangled, _)))))))) = f.given in
-      question_seen c (five n.now m.now l.now p.now j.now) (name_of raw.now demangled.now) f.answered;
+      let (b, (raw, (demangled, _))) = f.given in
+      question_seen b.counts (buffers_of b) (name_of raw.now demangled.now) f.answered;
   MemberRun = MemberRun;
   member = λ f.
-      let (c, (n, (m, (l, (p, (j, (raw, (demangled, _)))))))) = f.given in
-      question_seen c (five n.now m.now l.now p.now j.now) (name_of raw.now demangled.now) f.answered;
+      let (b, (raw, (demangled, _))) = f.given in
+      question_seen b.counts (buffers_of b) (name_of raw.now demangled.now) f.answered;
 }

@@ -1,15 +1,13 @@
 -- Functions as a caller meets them: runs that keep their promises, and runs one behind the other, each lent what the last one left. Assumes nothing.
-use Rattle.std.specs.Prelude.{ℕ, ◌≡◌, List, [], ◌∷◌}
-use Rattle.std.proofs.Math.Option.{Option}
+use Rattle.std.specs.Prelude.{ℕ, ◌≡◌, List, [], ◌∷◌, Bool, Option, Result}
 use contract.Lifetimes.{Lfts}
 use denote.Triple.Entry.{Args, Res}
 use denote.Triple.Clauses.{AtExit, Ended, Lasts, at_exit}
 use Rattle.book.specs.Layout.{Buffers}
 use Rattle.book_opening.specs.declared.How.{How}
 use Rattle.ranking.specs.Matching.{Name}
-use Rattle.lookups.specs.declared.answers.Version.{Version}
-use Rattle.lookups.specs.declared.answers.Locality.{Locality}
-use Rattle.export_list.specs.declared.Membership.{Membership}
+use Rattle.numbers.specs.declared.Refusal.{Refusal}
+use Rattle.lookups.specs.Lookups.{LocalityAnswer, VersionAnswer}
 use Rattle.uniqueness.specs.Unique.{Promise}
 use Rattle.histories.specs.Histories.{Call, Lent, Told}
 
@@ -58,11 +56,11 @@ pub record Interface : Type 1 where
   pub EditRun : Type 0
   pub edits : EditRun → SeenEdit Holding
   pub VersionRun : Type 0
-  pub version : VersionRun → SeenQuestion Holding (Name × Option (List ℕ)) Version
+  pub version : VersionRun → SeenQuestion Holding (Name × Option (List ℕ)) VersionAnswer
   pub LocalityRun : Type 0
-  pub locality : LocalityRun → SeenQuestion Holding Name Locality
+  pub locality : LocalityRun → SeenQuestion Holding Name LocalityAnswer
   pub MemberRun : Type 0
-  pub member : MemberRun → SeenQuestion Holding Name Membership
+  pub member : MemberRun → SeenQuestion Holding Name (Result Bool Refusal)
 
 module _ (I : Interface) where
   -- demand 3: "each call … gets the buffers and counts that the last one left": edits that lead from x to y

@@ -8,23 +8,22 @@ use lib.Dec.{eqb}
 use lib.ListN.{length, take, drop, drop_of_length-le}
 use lib.Seq.{drop-drop}
 use Rattle.numbers.specs.Signs.{line_feed}
-use Rattle.linker_script.specs.declared.Found.{Found}
-use Rattle.linker_script.specs.declared.Found.TheVariants.{Here, Nowhere}
+use Rattle.std.specs.Prelude.{Option, Some, None}
 use Rattle.linker_script.specs.Finding.{first_from, first_in, found, is}
 use Rattle.linker_script.proofs.Searches.{drop_next}
 use Rattle.input.specs.Splitting.{last_line, lines_in}
 
 -- the text l, which begins at the place p, behind t: its first line goes to the line feed that is found, or to the end
-data Cut (t l : List ℕ) (p : ℕ) : Found → Type 0 where
-  feed : (q k : ℕ) → q ≡ p + k → lines_in t l ≡ (t ++ take k l) ∷ lines_in [] (drop (suc k) l) → Cut t l p (Here q)
-  end : lines_in t l ≡ last_line (t ++ l) → Cut t l p Nowhere
+data Cut (t l : List ℕ) (p : ℕ) : Option ℕ → Type 0 where
+  feed : (q k : ℕ) → q ≡ p + k → lines_in t l ≡ (t ++ take k l) ∷ lines_in [] (drop (suc k) l) → Cut t l p (Some q)
+  end : lines_in t l ≡ last_line (t ++ l) → Cut t l p None
 
 cut : (l t : List ℕ) (p : ℕ) → Cut t l p (first_in (is line_feed) p l)
 unfolding first_in lines_in
 cut [] t p = end (rw append-nil)
 cut (b ∷ l) t p = go (eqb b line_feed) refl (cut l (t ++ b ∷ []) (p + 1))
   where
-    on : {f : Found} → eqb b line_feed ≡ false → Cut (t ++ b ∷ []) l (p + 1) f → Cut t (b ∷ l) p f
+    on : {f : Option ℕ} → eqb b line_feed ≡ false → Cut (t ++ b ∷ []) l (p + 1) f → Cut t (b ∷ l) p f
     on e (feed q k z h) = feed q (suc k) (omega arith) (rw e (h ∙ rw append_assoc))
     on e (end h) = end (rw e (h ∙ rw append_assoc))
 
@@ -34,11 +33,11 @@ cut (b ∷ l) t p = go (eqb b line_feed) refl (cut l (t ++ b ∷ []) (p + 1))
     go false e c = on e c
 
 -- what the first line is, from the place `at` on, by the line feed that is found there
-abbrev Rest : List ℕ → ℕ → Found → Type 0
-Rest s at (Here p) = lines_in [] (drop at s) ≡ take (p - at) (drop at s) ∷ lines_in [] (drop (p + 1) s)
-Rest s at Nowhere = at < length s → lines_in [] (drop at s) ≡ drop at s ∷ []
+abbrev Rest : List ℕ → ℕ → Option ℕ → Type 0
+Rest s at (Some p) = lines_in [] (drop at s) ≡ take (p - at) (drop at s) ∷ lines_in [] (drop (p + 1) s)
+Rest s at None = at < length s → lines_in [] (drop at s) ≡ drop at s ∷ []
 
-rest : (s : List ℕ) (at : ℕ) {f : Found} → Cut [] (drop at s) at f → Rest s at f
+rest : (s : List ℕ) (at : ℕ) {f : Option ℕ} → Cut [] (drop at s) at f → Rest s at f
 rest s at (feed q k z e) =
     let n : q - at ≡ k = omega arith in
     let m : q + 1 ≡ at + suc k = omega arith in
@@ -50,12 +49,12 @@ unfolding first_from
 lines_rest s at = rest s at (cut (drop at s) [] at)
 
 -- up to the line feed that is found, and the others behind it
-pub lines_to_feed : (s : List ℕ) (at p : ℕ) → first_from (is line_feed) s at ≡ Here p
+pub lines_to_feed : (s : List ℕ) (at p : ℕ) → first_from (is line_feed) s at ≡ Some p
     → lines_in [] (drop at s) ≡ take (p - at) (drop at s) ∷ lines_in [] (drop (p + 1) s)
 lines_to_feed s at p e = rw e at (lines_rest s at)
 
 -- to the end of the text, where there is none
-pub lines_to_end : (s : List ℕ) (at : ℕ) → at < length s → first_from (is line_feed) s at ≡ Nowhere → lines_in [] (drop at s) ≡ drop at s ∷ []
+pub lines_to_end : (s : List ℕ) (at : ℕ) → at < length s → first_from (is line_feed) s at ≡ None → lines_in [] (drop at s) ≡ drop at s ∷ []
 lines_to_end s at h e = (rw e at (lines_rest s at)) h
 
 -- behind the last line there is none

@@ -13,19 +13,14 @@ pub fn position_of(s: &[u8], place: usize) -> Position
 {
     let mut line = 1;
     let mut column = 1;
-    let mut i = 0;
-    while i < s.len() {
-        if i == place {
-            break;
-        }
-        let b = s[i];
-        i += 1;
-        if b == b'\n' {
+    let before = &s[..place.min(s.len())];
+    for b in before {
+        if *b == b'\n' {
             line += 1;
             column = 1;
-            continue;
+        } else {
+            column += 1;
         }
-        column += 1;
     }
     Position { line, column }
 }

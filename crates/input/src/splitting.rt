@@ -1,57 +1,34 @@
-// The parts of a text: the script before a line `%%`, and a symbol's line at its first `@`, or at the first byte of another kind, as a TAB.
-ghost use Rattle.std.specs.Prelude.{◌&&◌, ◌≡◌, ◌+◌, drop};
-ghost use Rattle.input.specs.Splitting.{at_sign, mark, marks, part_before};
+// The parts of a text: the script before a line `%%`, and a symbol's line at its first `@`, or at the first byte of another kind, as a TAB;
+// and where a line ends.
+ghost use Rattle.std.specs.Prelude.{◌≡◌, ◌≤◌, ◌+◌, drop, length};
+ghost use Rattle.input.specs.Splitting.{at_sign, line_end, mark, marks, part_before};
 ghost use Rattle.linker_script.specs.Finding.{first_from, is};
 
 use linker_script::searching::find;
-use linker_script::{Found, byte_at};
 
-// Whether a line `%%` begins at a place.
-fn is_mark(s: &[u8], at: usize) -> bool
-    ensures { result ≡ marks (drop at s.now) }
+// Whether a text begins with a line `%%`.
+fn is_mark(s: &[u8]) -> bool
+    ensures { result ≡ marks s.now }
 {
-    if byte_at(s, at) != b'%' {
-        return false;
-    }
-    let second = at + 1;
-    if byte_at(s, second) != b'%' {
-        return false;
-    }
-    let end = second + 1;
-    if end == s.len() {
-        return true;
-    }
-    byte_at(s, end) == b'\n'
-}
-
-// The same, where a line may begin.
-fn is_fresh_mark(s: &[u8], fresh: bool, at: usize) -> bool
-    ensures { result ≡ («fresh» && marks (drop at s.now)) }
-{
-    if fresh {
-        return is_mark(s, at);
-    }
-    false
+    s == b"%%".as_slice() || s.starts_with(b"%%\n")
 }
 
 // The place of the first line that is `%%`.
-pub fn find_mark(s: &[u8]) -> Found
+pub fn find_mark(s: &[u8]) -> Option<usize>
     ensures { result ≡ mark s.now }
 {
     let mut fresh = true;
-    let mut i = 0;
-    while i < s.len() {
-        if is_fresh_mark(s, fresh, i) {
-            return Found::Here(i);
+    for (i, b) in s.iter().enumerate() {
+        if fresh && is_mark(&s[i..]) {
+            return Some(i);
         }
-        fresh = s[i] == b'\n';
-        i += 1;
+        fresh = *b == b'\n';
     }
-    Found::Nowhere
+    None
 }
 
 // The place of a line's first `@`.
-pub fn find_at(line: &[u8]) -> Found
+pub fn find_at(line: &[u8]) -> Option<usize>
     ensures { result ≡ first_from (is at_sign) line.now 0 }
 {
     find(line, b'@', 0)
@@ -62,8 +39,8 @@ pub fn part_before(t: &[u8], mark: u8) -> &[u8]
     ensures { result.now ≡ part_before t.now (first_from (is mark) t.now 0) }
 {
     match find(t, mark, 0) {
-        Found::Nowhere => t,
-        Found::Here(p) => &t[..p],
+        None => t,
+        Some(p) => &t[..p],
     }
 }
 
@@ -71,10 +48,13 @@ pub fn part_before(t: &[u8], mark: u8) -> &[u8]
 pub fn part_behind(t: &[u8], n: usize) -> &[u8]
     ensures { result.now ≡ drop (n + 1) t.now }
 {
-    let length = t.len();
-    if length <= n {
-        return &t[length..];
-    }
-    let from = n + 1;
-    &t[from..]
+    &t[n.saturating_add(1).min(t.len())..]
+}
+
+// Where the line ends that begins at a place: at its line feed, or where the text ends.
+pub fn line_end(s: &[u8], at: usize) -> usize
+    ensures end { result ≡ line_end s.now at }
+    ensures within { at ≤ length s.now → (at ≤ result) × (result ≤ length s.now) }
+{
+    find(s, b'\n', at).unwrap_or(s.len())
 }

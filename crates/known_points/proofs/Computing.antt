@@ -21,7 +21,7 @@ use Rattle.reading_tokens.specs.Tokens.{begins, named, name_in, to_semicolon, to
 use Rattle.reading_cursors.specs.Moves.{start}
 use Rattle.reading_matchers.specs.Matchers.{line_to, extern_open, extern_at, extern_inside, in_extern, in_bare, matcher, bare_line, bare_matcher}
 use Rattle.reading_bodies.specs.Bodies.{name_to, node_at, script_at, parent_to, parent_at, node_end, sole_end, inside_body, body_at, sole_at, list_at}
-use Rattle.reading.specs.Scripts.{opening_at, start_script, go_node, go_body, go_sole, go_list, next_script, next_list, next_symbol, next}
+use Rattle.reading.specs.Scripts.{opening_at, start_script, go_node, go_body, go_sole, go_list, step_at, next}
 use Rattle.reading.specs.Events.{reading_within, reading_from, reading}
 use Rattle.book.specs.Books.{first_named}
 use Rattle.book.specs.Edits.{add_back, all_back, journal_fits, strike_back, take_back}
@@ -61,7 +61,7 @@ unfolding first_in first_from
     begins named name_in to_semicolon to_brace to_either bare_extern_end bare_end bare_skip
     line_to extern_open extern_at extern_inside in_extern in_bare matcher bare_line bare_matcher
     name_to node_at script_at parent_to parent_at node_end sole_end inside_body body_at sole_at list_at opening_at
-    start_script go_node go_body go_sole go_list next_script next_list next_symbol next
+    start_script go_node go_body go_sole go_list step_at next
     reading_within reading_from reading
 reading_texts = 0
 

@@ -12,20 +12,18 @@ use Rattle.numbers.specs.Refusals.{too_long}
 use Rattle.numbers.specs.Signs.{closing_brace, semicolon, space}
 use Rattle.numbers.specs.declared.Edition.{Edition}
 use Rattle.lists.specs.Texts.{codes}
-use Rattle.linker_script.specs.declared.Found.TheVariants.{Here}
-use Rattle.linker_script.specs.declared.Skipped.TheVariants.{At}
+use Rattle.std.specs.Prelude.{Some, Ok}
 use Rattle.linker_script.specs.Finding.{first_from, first_in, is}
 use Rattle.linker_script.specs.Skip.{blank, move, skip, skip_past, skips}
 use Rattle.linker_script.specs.Trim.{trim_end, white}
 use Rattle.reading_tokens.specs.Tokens.{begins, to_semicolon}
 use Rattle.reading_cursors.specs.declared.Cursor.{Cursor}
 use Rattle.reading_cursors.specs.declared.Event.TheVariants.{Body, Line}
-use Rattle.reading_cursors.specs.declared.Step.TheVariants.{Go, End}
-use Rattle.reading_cursors.specs.Moves.{edition_at, moved, start}
+use Rattle.reading_cursors.specs.Moves.{stepped, finished, edition_at, moved, start}
 use Rattle.reading_cursors.specs.Places.{at_script, in_sole}
 use Rattle.reading_matchers.specs.Matchers.{line_to, matcher}
 use Rattle.reading_bodies.specs.Bodies.{inside_body, script_at, sole_at, sole_end}
-use Rattle.reading.specs.Scripts.{go_sole, next, next_script, start_script}
+use Rattle.reading.specs.Scripts.{go_sole, next, step_at, start_script}
 use Rattle.reading.specs.Events.{accepted, and_then, reading}
 use Rattle.reading.proofs.Onward.{next_stands, reading_step, start_stands}
 use Rattle.reading.proofs.WholeNodes.{drop_behind, event_reads, first_byte, skip_here, skip-stays}
@@ -86,22 +84,22 @@ module _ (n : ℕ) (few : n + 5 ≤ script_limit) where
   unfolding c₀ c₁
   c₂ = moved c₁ in_sole (p + 2)
 
-  opens-body : next s c₀ ≡ Go Body c₁
-  unfolding c₀ c₁ next next_script start_script script_at start blank
+  opens-body : next s c₀ ≡ stepped Body c₁
+  unfolding c₀ c₁ next step_at start_script script_at start blank
   opens-body =
       let k : skips (drop 0 s) 0 ≡ false = refl in
       rw (le-ltb script_limit (length s) (omega (arith, long)), skip_here s (edition_at c₀) 0 k)
 
-  skips_blanks : skip (edition_at c₁) s 1 ≡ At p
+  skips_blanks : skip (edition_at c₁) s 1 ≡ Ok p
   unfolding codes skip blank
   skips_blanks = skip_blanks (edition_at c₁) n 1 tail ∙ skip-stays (edition_at c₁) p tail refl
 
-  token-ends : first_from (is semicolon) s p ≡ Here (p + 1)
+  token-ends : first_from (is semicolon) s p ≡ Some (p + 1)
   unfolding first_from first_in
   token-ends = rw from-p
 
-  reads-line : next s c₁ ≡ Go (Line 0 0 p 1) c₂
-  unfolding c₀ c₁ c₂ next next_script go_sole sole_at inside_body matcher line_to to_semicolon trim_end white start begins blank
+  reads-line : next s c₁ ≡ stepped (Line 0 0 p 1) c₂
+  unfolding c₀ c₁ c₂ next step_at go_sole sole_at inside_body matcher line_to to_semicolon trim_end white start begins blank
   reads-line =
       let k : skips (drop (p + 1) s) 0 ≡ false = rw from_1 in
       let z : p + 1 - p ≡ 1 = omega arith in
@@ -119,8 +117,8 @@ module _ (n : ℕ) (few : n + 5 ≤ script_limit) where
         y,
       )
 
-  ends-body : next s c₂ ≡ End
-  unfolding c₀ c₁ c₂ next next_script go_sole sole_at sole_end start blank
+  ends-body : next s c₂ ≡ finished
+  unfolding c₀ c₁ c₂ next step_at go_sole sole_at sole_end start blank
   ends-body =
       let j : skips (drop (p + 2) s) 0 ≡ false = rw from_2 in
       let k : skips (drop (p + 3) s) 0 ≡ false = rw from_3 in

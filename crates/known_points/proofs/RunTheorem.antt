@@ -11,6 +11,7 @@ use lib.ListN.{length, replicate, length-replicate}
 use Rattle.numbers.specs.Limits.{token_limit}
 use Rattle.numbers.specs.Signs.{asterisk}
 use Rattle.numbers.specs.declared.Edition.TheVariants.{Reld}
+use Rattle.std.specs.Prelude.{Ok}
 use Rattle.pattern.specs.Patterns.{refusal}
 use Rattle.pattern.specs.Runs.{squeezed, squeezed_past}
 use Rattle.pattern.specs.Storing.{stored_byte, negated_from, negated, stored}
@@ -67,7 +68,7 @@ module _ (n : ℕ) where
   kept-stars h =
       keep-unquoted Reld stars h false (sym (and-false (leb 2 (length stars)))) refl
       ∙ keep-star Reld stars false refl refl Star refl refl
-      ∙ glob-kept Reld Star stars 0 (sym (ap (refusal Reld) stored-stars)) refl
+      ∙ glob-kept Reld Star stars (Ok tt) (sym (ap (refusal Reld) stored-stars)) tt refl
       ∙ ap (kept Star) stored-stars
 
 stars_only : StarsOnly

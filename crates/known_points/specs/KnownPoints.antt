@@ -1,27 +1,23 @@
 -- 01's 'Known points', P1 to P12. One row for each, in 01's words, of the definitions that the code is proved to meet. proofs/Theorem.antt proves the table.
 -- Assumes nothing.
-use Rattle.std.specs.Prelude.{ℕ, ◌≡◌, List, [], ◌∷◌, Bool, true, false}
+use Rattle.std.specs.Prelude.{ℕ, ◌≡◌, List, [], ◌∷◌, Bool, true, false, Option, Some, None, Result, Ok}
 use Prim.Native.String.{String}
-use Rattle.std.proofs.Math.Option.{Option, some, none}
 use Rattle.lists.specs.Texts.{codes}
 use Rattle.utf8.specs.Utf8.{chars}
 use Rattle.numbers.specs.declared.Edition.TheVariants.{Reld}
 use Rattle.pattern.specs.Patterns.{elements, matches}
 use Rattle.classes.specs.declared.Class.TheVariants.{Exact, Escaped, NonStar, Star, All}
+use Rattle.numbers.specs.declared.Refusal.TheVariants as why
 use Rattle.storing.specs.Keeping.{Keep, kept, refused, keep}
 use Rattle.book.specs.Books.{Book}
 use Rattle.book.specs.Layout.{Buffers}
 use Rattle.book.specs.View.{view}
 use Rattle.book_opening.specs.Opening.{Opening, left, told}
-use Rattle.lookups.specs.declared.answers.Version.{Version}
-use Rattle.lookups.specs.declared.answers.Locality.{Locality}
+use Rattle.numbers.specs.declared.Refusal.{Refusal}
 use Rattle.lookups.specs.declared.answers.Locality.TheVariants.{Global, Local}
-use Rattle.counting.specs.declared.Count.{Count}
-use Rattle.counting.specs.declared.Count.TheVariants.{Counted}
-use Rattle.counting.specs.declared.NodeAnswer.{NodeAnswer}
-use Rattle.counting.specs.declared.NodeAnswer.TheVariants.{Node}
-use Rattle.counting.specs.Questions.{counted, node_of, version_count}
-use Rattle.lookups.specs.Lookups.{index, locality_asked, version_asked}
+use Rattle.counting.specs.declared.Node.{Node}
+use Rattle.counting.specs.Questions.{counted, node_of, told_of, version_count}
+use Rattle.lookups.specs.Lookups.{LocalityAnswer, VersionAnswer, index, locality_asked, version_asked}
 use Rattle.known_points.specs.Tables.{opened_script, rooms, symbol}
 
 -- ---- what a token is, and which names it matches
@@ -67,7 +63,7 @@ pub record P5 : Type 0 where
 -- "P6 `[]]` matches `]`; `[]` refused 6."
 pub record P6 : Type 0 where
   pub yes : fits "[]]" (codes "]") ≡ true
-  pub unclosed : keeps "[]" ≡ refused 6
+  pub unclosed : keeps "[]" ≡ refused why.BadPattern
 
 -- "P7 `[^a]b` matches `xb`, not `ab`."
 pub record P7 : Type 0 where
@@ -89,42 +85,42 @@ abbrev pub held : String → Option Book
 held t = view (told (opened t)).counts (left enough (opened t))
 
 -- what it is asked: the version of a name that no demangler changes, with no version wanted, or with one; its locality; the count of versions; and a node
-abbrev pub version : String → String → Version
-version s t = version_asked (held s) (symbol t) none
+abbrev pub version : String → String → VersionAnswer
+version s t = version_asked (held s) (symbol t) None
 
-abbrev pub version_wanted : String → String → String → Version
-version_wanted s t v = version_asked (held s) (symbol t) (some (codes v))
+abbrev pub version_wanted : String → String → String → VersionAnswer
+version_wanted s t v = version_asked (held s) (symbol t) (Some (codes v))
 
-abbrev pub locality : String → String → Locality
+abbrev pub locality : String → String → LocalityAnswer
 locality s t = locality_asked (held s) (symbol t)
 
-abbrev pub versions : String → Count
+abbrev pub versions : String → Result ℕ Refusal
 versions s = counted version_count (held s)
 
-abbrev pub node : String → ℕ → NodeAnswer
+abbrev pub node : String → ℕ → Result Node Refusal
 node s i = node_of i (held s)
 
 -- "P9 `/*/{};` accepted, version count 0."
 pub record P9 : Type 0 where
   pub accepted : (told (opened "/*/{};")).refusal ≡ 0
-  pub count : versions "/*/{};" ≡ Counted 0
+  pub count : versions "/*/{};" ≡ Ok 0
 
 -- "P10 `A {}; B {}; A {}; C {} A;` parent of C is 1; wanted A gives 4." C is node 4, and its name the byte at 3 of the names
 pub record P10 : Type 0 where
-  pub parent : node "A {}; B {}; A {}; C {} A;" 4 ≡ Node 3 1 1
+  pub parent : node "A {}; B {}; A {}; C {} A;" 4 ≡ Ok (told_of 3 1 1)
   pub wanted : version_wanted "A {}; B {}; A {}; C {} A;" "f" "A" ≡ index 4
 
 -- "P11 `V { extern "C++" { f; }; local: f; };` for f, f: index 2, local."
 pub record P11 : Type 0 where
   pub version_of_f : version "V { extern \"C++\" { f; }; local: f; };" "f" ≡ index 2
-  pub locality_of_f : locality "V { extern \"C++\" { f; }; local: f; };" "f" ≡ Local
+  pub locality_of_f : locality "V { extern \"C++\" { f; }; local: f; };" "f" ≡ Ok (Some Local)
 
 -- "P12 `A { f*; }; B { local: f?; }; C { f*; };` fx: 3 local; fxy: 4 global."
 pub record P12 : Type 0 where
   pub fx : version "A { f*; }; B { local: f?; }; C { f*; };" "fx" ≡ index 3
-  pub fx_local : locality "A { f*; }; B { local: f?; }; C { f*; };" "fx" ≡ Local
+  pub fx_local : locality "A { f*; }; B { local: f?; }; C { f*; };" "fx" ≡ Ok (Some Local)
   pub fxy : version "A { f*; }; B { local: f?; }; C { f*; };" "fxy" ≡ index 4
-  pub fxy_global : locality "A { f*; }; B { local: f?; }; C { f*; };" "fxy" ≡ Global
+  pub fxy_global : locality "A { f*; }; B { local: f?; }; C { f*; };" "fxy" ≡ Ok (Some Global)
 
 -- the table
 pub record Points : Type 0 where

@@ -1,8 +1,7 @@
 -- Known points of document 02, request 02: where a line came from, of the definitions that the code is proved to meet. proofs/OffsetTheorem.antt proves the
 -- table. Assumes nothing.
-use Rattle.std.specs.Prelude.{ℕ, ◌+◌, ◌<◌, ◌≤◌, ◌≡◌, List, [], ◌∷◌, ◌++◌, Bool, true, false, length, replicate}
+use Rattle.std.specs.Prelude.{ℕ, ◌+◌, ◌<◌, ◌≤◌, ◌≡◌, List, [], ◌∷◌, ◌++◌, Bool, true, false, length, replicate, Option, Some, None}
 use Prim.Native.String.{String}
-use Rattle.std.proofs.Math.Option.{Option, some, none}
 use Rattle.numbers.specs.Limits.{script_limit}
 use Rattle.numbers.specs.Marks.{general, global}
 use Rattle.numbers.specs.Refusals.{too_long}
@@ -62,7 +61,7 @@ abbrev list_book : Option Book
 list_book = view (told (opened_list small "{ a; };")).counts (left small (opened_list small "{ a; };"))
 
 abbrev then : Change → (Option Book → Change) → Change
-then (to w) next = next (some w)
+then (to w) next = next (Some w)
 then (no n) next = no n
 
 abbrev edited_offsets : Change → List ℕ
@@ -89,8 +88,8 @@ pub record EditedPoints : Type 0 where
 
 -- ---- "14 also covers an offset over 1,048,576"
 abbrev held_any : Option Book → Bool
-held_any (some w) = true
-held_any none = false
+held_any (Some w) = true
+held_any None = false
 
 -- what lent buffers hold: node 0 with the Exact line `a`, of that offset, and that journal of so many edits
 abbrev lent : ℕ → ℕ → List ℕ → Option Book
@@ -101,10 +100,10 @@ lent offset edits journal =
 pub record LentPoints : Type 0 where
   pub zero : held_any (lent 0 0 []) ≡ true
   pub last : held_any (lent 1048576 0 []) ≡ true
-  pub over : lent 1048577 0 [] ≡ none
+  pub over : lent 1048577 0 [] ≡ None
   -- an added line with an offset other than 0 is no 14
   pub added : held_any (lent 7 1 (add ∷ 0 ∷ [])) ≡ true
-  pub added_over : lent 1048577 1 (add ∷ 0 ∷ []) ≡ none
+  pub added_over : lent 1048577 1 (add ∷ 0 ∷ []) ≡ None
   -- nor are two lines of one offset, or offsets that fall
   pub any_order :
       held_any
@@ -114,7 +113,7 @@ pub record LentPoints : Type 0 where
   -- in a buffer of four numbers there is no row
   pub four :
       view (record { kind = regular; nodes = 1; names = 0; lines = 1; pool = 1; edits = 0 }) (five (zeros 3) [] (0 ∷ 0 ∷ 0 ∷ 1 ∷ []) (codes "a") [])
-      ≡ none
+      ≡ None
 
 -- ---- a script of every length with its one token near the end, `{`, n blanks and `a;};`: of one of 1,048,576 bytes, the longest, the offset is 1,048,573
 abbrev pub late_token : ℕ → List ℕ

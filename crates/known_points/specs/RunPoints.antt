@@ -1,12 +1,12 @@
 -- Known points of document 02, request 01: runs of stars, of the definitions that the code is proved to meet. proofs/RunTheorem.antt proves the table. What
 -- the request says of the Rust is in docs/DIFFERENCES.md, and demand 3 in histories/specs/. Assumes nothing.
-use Rattle.std.specs.Prelude.{ℕ, ◌+◌, ◌<◌, ◌≤◌, ◌≡◌, List, [], ◌∷◌, Bool, true, false, length, replicate}
+use Rattle.std.specs.Prelude.{ℕ, ◌+◌, ◌<◌, ◌≤◌, ◌≡◌, List, [], ◌∷◌, Bool, true, false, length, replicate, Option, Some, None, Ok}
 use Prim.Native.String.{String}
-use Rattle.std.proofs.Math.Option.{Option, some, none}
 use Rattle.numbers.specs.Classes.{star_class}
 use Rattle.numbers.specs.Limits.{token_limit}
 use Rattle.numbers.specs.Marks.{cxx, general, global}
-use Rattle.numbers.specs.Refusals.{bad_pattern, glob_not_utf8, no_room, too_long}
+use Rattle.numbers.specs.declared.Refusal.TheVariants as why
+use Rattle.numbers.specs.Refusals.{bad_pattern, no_room}
 use Rattle.numbers.specs.Signs.{asterisk, opening_bracket}
 use Rattle.lists.specs.Texts.{codes}
 use Rattle.numbers.specs.declared.Edition.TheVariants.{Reld}
@@ -49,7 +49,7 @@ pub record KeptWhole : Type 0 where
 pub record StarsOnly : Type 0 where
   pub one : keeps "*" ≡ kept All []
   pub several : (n : ℕ) → n + 2 ≤ token_limit → keep Reld (replicate (n + 2) asterisk) ≡ kept Star (asterisk ∷ [])
-  pub too_many : (n : ℕ) → token_limit < n → keep Reld (replicate n asterisk) ≡ refused too_long
+  pub too_many : (n : ℕ) → token_limit < n → keep Reld (replicate n asterisk) ≡ refused why.TooLong
 
 -- "fnmatch reads a run of stars as one"
 pub record MatchedRuns : Type 0 where
@@ -64,11 +64,11 @@ pub record MatchedRuns : Type 0 where
 
 -- "6 now means an unclosed bracket only"
 pub record Unclosed : Type 0 where
-  pub bracket : keeps "[**" ≡ refused bad_pattern
-  pub behind : keeps "**[" ≡ refused bad_pattern
-  pub caret : keeps "[^]" ≡ refused bad_pattern
+  pub bracket : keeps "[**" ≡ refused why.BadPattern
+  pub behind : keeps "**[" ≡ refused why.BadPattern
+  pub caret : keeps "[^]" ≡ refused why.BadPattern
   pub run : keeps "a**b" ≡ kept Star (codes "a*b")
-  pub bytes_first : keep Reld (0xFF ∷ codes "**[") ≡ refused glob_not_utf8
+  pub bytes_first : keep Reld (0xFF ∷ codes "**[") ≡ refused why.GlobNotUtf8
 
 -- room is asked of what is kept: `a**` takes two bytes
 pub record Room : Type 0 where
@@ -108,12 +108,12 @@ pub record Classed : Type 0 where
   pub taken : (told (opened "{ global: f; local: **; };")).refusal ≡ 0
   pub no_star : (told (opened "{ global: f; local: **; };")).counts.kind ≡ regular
   pub star : (told (opened "{ global: f; local: *; };")).counts.kind ≡ rust
-  pub before_all : locality "A { global: *; local: **; };" "f" ≡ Local
-  pub before_all_later : locality "A { local: **; }; B { global: *; };" "f" ≡ Local
+  pub before_all : locality "A { global: *; local: **; };" "f" ≡ Ok (Some Local)
+  pub before_all_later : locality "A { local: **; }; B { global: *; };" "f" ≡ Ok (Some Local)
 
 abbrev held_any : Option Book → Bool
-held_any (some b) = true
-held_any none = false
+held_any (Some b) = true
+held_any None = false
 
 -- what lent buffers hold: one line, with that code and those bytes, of node 0 in a Regular book
 abbrev lent : ℕ → String → Option Book
@@ -123,8 +123,8 @@ lent code t =
 
 -- 14, "a stored glob that … storing would change": no book, of a Star (12) and of a NonStar (8); an Exact (0) and an Escaped (4) are no globs
 pub record Lent : Type 0 where
-  pub star_line : lent 12 "a**" ≡ none
-  pub nonstar_line : lent 8 "a**" ≡ none
+  pub star_line : lent 12 "a**" ≡ None
+  pub nonstar_line : lent 8 "a**" ≡ None
   pub star_kept : held_any (lent 12 "a*") ≡ true
   pub nonstar_kept : held_any (lent 8 "a*") ≡ true
   pub bracket_kept : held_any (lent 12 "[**]") ≡ true

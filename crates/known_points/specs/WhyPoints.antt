@@ -1,18 +1,16 @@
 -- Known points of document 02, request 03: the line that is named, of the definitions that the code is proved to meet. proofs/WhyTheorem.antt proves the table.
 -- Assumes nothing.
-use Rattle.std.specs.Prelude.{ℕ, ◌≡◌}
+use Rattle.std.specs.Prelude.{ℕ, ◌≡◌, Option, Some, None, Ok, Err}
 use Prim.Native.String.{String}
-use Rattle.std.proofs.Math.Option.{Option, some, none}
 use Rattle.numbers.specs.Classes.{all_class, exact_class, nonstar_class, star_class}
 use Rattle.numbers.specs.Marks.{cxx, general, global, local}
-use Rattle.numbers.specs.Refusals.{no_book, unknown_version, wrong_kind}
+use Rattle.numbers.specs.declared.Refusal.TheVariants as refusal
 use Rattle.lists.specs.Texts.{codes}
 use Rattle.book.specs.Books.{Book}
 use Rattle.book.specs.Layout.{Buffers}
 use Rattle.book_opening.specs.Opening.{Opening, opens, declined}
-use Rattle.reasons.specs.declared.Why.{Why}
 use Rattle.reasons.specs.declared.Why.TheVariants as why
-use Rattle.reasons.specs.Why.{why_asked}
+use Rattle.reasons.specs.Why.{WhyAnswer, why_asked}
 use Rattle.trial.specs.Changes.{Change, to, no}
 use Rattle.trial.specs.Trial.{add_asked, strike_asked}
 use Rattle.known_points.specs.Tables.{demangles, opened_list, opened_script, rooms, symbol}
@@ -22,8 +20,8 @@ abbrev small : Buffers
 small = rooms 4 3 4 16 2
 
 abbrev book_in : Opening → Option Book
-book_in (opens w) = some w
-book_in (declined n p) = none
+book_in (opens w) = Some w
+book_in (declined n p) = None
 
 abbrev script : String → Option Book
 script t = book_in (opened_script small t)
@@ -32,20 +30,20 @@ abbrev list : String → Option Book
 list t = book_in (opened_list small t)
 
 abbrev edited : Change → Option Book
-edited (to w) = some w
-edited (no n) = none
+edited (to w) = Some w
+edited (no n) = None
 
 -- without a wanted version, and with one
-abbrev why_of : Option Book → String → Why
-why_of w t = why_asked w (symbol t) none
+abbrev why_of : Option Book → String → WhyAnswer
+why_of w t = why_asked w (symbol t) None
 
-abbrev why_with : Option Book → String → String → Why
-why_with w t v = why_asked w (symbol t) (some (codes v))
+abbrev why_with : Option Book → String → String → WhyAnswer
+why_with w t v = why_asked w (symbol t) (Some (codes v))
 
 -- the line with that number, class, node, section, language and offset
-abbrev line : ℕ → ℕ → ℕ → ℕ → ℕ → ℕ → Why
+abbrev line : ℕ → ℕ → ℕ → ℕ → ℕ → ℕ → WhyAnswer
 line i class node section language offset =
-    why.Line (record { line = i; class = class; node = node; section = section; language = language; offset = offset })
+    Ok (why.Line (record { line = i; class = class; node = node; section = section; language = language; offset = offset }))
 
 -- ---- "at equal rank the lowest number is named"
 pub record EqualRank : Type 0 where
@@ -62,17 +60,17 @@ pub record Ranks : Type 0 where
   pub p12_fx : why_of (script "A { f*; }; B { local: f?; }; C { f*; };") "fx" ≡ line 1 nonstar_class 2 local general 23
   pub p12_fxy : why_of (script "A { f*; }; B { local: f?; }; C { f*; };") "fxy" ≡ line 2 star_class 3 global general 34
   -- "C++ lines see the demangled name"
-  pub demangled : why_asked (script "V { extern \"C++\" { g; }; local: *; };") (demangles "f" "g") none ≡ line 0 exact_class 1 global cxx 20
-  pub no_line : why_of (script "V { f; };") "g" ≡ why.NoLine
+  pub demangled : why_asked (script "V { extern \"C++\" { g; }; local: *; };") (demangles "f" "g") None ≡ line 0 exact_class 1 global cxx 20
+  pub no_line : why_of (script "V { f; };") "g" ≡ Ok why.NoLine
 
 -- ---- "It says "wanted version" when the `@` part decided"
 pub record Wanted : Type 0 where
   pub plain : why_of (script "V { f; };") "f" ≡ line 0 exact_class 1 global general 5
-  pub empty : why_with (script "V { f; };") "f" "" ≡ why.Wanted
-  pub known : why_with (script "V { f; };") "f" "V" ≡ why.Wanted
-  pub unknown : why_with (script "V { f; };") "f" "NONE" ≡ why.Refused unknown_version
+  pub empty : why_with (script "V { f; };") "f" "" ≡ Ok why.Wanted
+  pub known : why_with (script "V { f; };") "f" "V" ≡ Ok why.Wanted
+  pub unknown : why_with (script "V { f; };") "f" "NONE" ≡ Err refusal.UnknownVersion
   -- where no line matches too
-  pub unmatched : why_with (script "V { f; };") "g" "V" ≡ why.Wanted
+  pub unmatched : why_with (script "V { f; };") "g" "V" ≡ Ok why.Wanted
 
 -- ---- "For the Rust kind it names the first listed line equal to the name, else the first general local All line."
 abbrev rust_script : Option Book
@@ -91,8 +89,8 @@ pub record RustKind : Type 0 where
 pub record ExportList : Type 0 where
   pub member : why_of (list "{ f*; f; };") "f" ≡ line 1 exact_class 0 global general 7
   pub glob : why_of (list "{ f*; f; };") "fx" ≡ line 0 star_class 0 global general 3
-  pub other : why_of (list "{ f*; f; };") "g" ≡ why.NoLine
-  pub wanted : why_with (list "{ f*; f; };") "f" "" ≡ why.Refused wrong_kind
+  pub other : why_of (list "{ f*; f; };") "g" ≡ Ok why.NoLine
+  pub wanted : why_with (list "{ f*; f; };") "f" "" ≡ Err refusal.WrongKind
 
 pub record WhyPoints : Type 0 where
   pub equal : EqualRank
@@ -100,4 +98,4 @@ pub record WhyPoints : Type 0 where
   pub wanted : Wanted
   pub rust : RustKind
   pub list : ExportList
-  pub none : why_of none "f" ≡ why.Refused no_book
+  pub none : why_of None "f" ≡ Err refusal.NoBook

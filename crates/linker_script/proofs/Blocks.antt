@@ -13,7 +13,7 @@ use lib.Count.{count_trailing_zeros, trailing_le, under}
 use lib.Dec.{eqb, leb}
 use lib.ListN.{length, get_or}
 use lib.Pow.{pow_mono}
-use Rattle.linker_script.specs.declared.Found.TheVariants.{Here}
+use Rattle.std.specs.Prelude.{Some}
 use Rattle.linker_script.specs.Blocks.{bits}
 use Rattle.linker_script.specs.Finding.{first_from, is}
 use Rattle.linker_script.proofs.Searches.{first_here, first_on}
@@ -76,7 +76,7 @@ module _ (x : ℕ) (s : List ℕ) where
 
 -- ---- k is how far the first x of the n bytes from p on is; from n on there is none
 pub record Place (x : ℕ) (s : List ℕ) (p n k : ℕ) : Type 0 where
-  pub here : k < n → first_from (is x) s p ≡ Here (p + k)
+  pub here : k < n → first_from (is x) s p ≡ Some (p + k)
   pub none : n ≤ k → first_from (is x) s p ≡ first_from (is x) s (p + n)
 
 module _ {x : ℕ} {s : List ℕ} where
@@ -135,7 +135,7 @@ module _ {x : ℕ} {s : List ℕ} {at : ℕ} where
 
 -- ---- the loop of `find` over blocks: what is found from i on decides
 module _ (s : List ℕ) (x at i : ℕ) (inv : first_from (is x) s at ≡ first_from (is x) s i) (k : ℕ) where
-  pub block_here : (k < 16 → first_from (is x) s i ≡ Here (i + k)) → k < 16 → Here (i + k) ≡ first_from (is x) s at
+  pub block_here : (k < 16 → first_from (is x) s i ≡ Some (i + k)) → k < 16 → Some (i + k) ≡ first_from (is x) s at
   block_here e h = sym (inv ∙ e h)
 
   pub block_on : (16 ≤ k → first_from (is x) s i ≡ first_from (is x) s (i + 16)) → 16 ≤ k → first_from (is x) s at ≡ first_from (is x) s (i + 16)

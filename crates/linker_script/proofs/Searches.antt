@@ -12,8 +12,7 @@ use lib.Dec.{eqb}
 use lib.ListN.{length, get_or, drop, drop_of_length-le}
 use lib.Seq.{drop-cons, get_or-drop}
 use Rattle.numbers.specs.Signs.{closing_brace, semicolon}
-use Rattle.linker_script.specs.declared.Found.{Found}
-use Rattle.linker_script.specs.declared.Found.TheVariants.{Here, Nowhere}
+use Rattle.std.specs.Prelude.{Option, Some, None}
 use Rattle.linker_script.specs.Finding.{Test, found, first_in, first_from, is, are, closes, later, last_in, last_close}
 
 -- ---- from a place on
@@ -46,13 +45,13 @@ module _ (t : Test) (s : List ℕ) where
   unfolding first_from first_in
   first_step i h = rw (drop_next s i h, next_byte)
 
-  pub first_here : (i : ℕ) → i < length s → passes t s i ≡ true → first_from t s i ≡ Here i
+  pub first_here : (i : ℕ) → i < length s → passes t s i ≡ true → first_from t s i ≡ Some i
   first_here i h e = first_step i h ∙ rw e
 
   pub first_on : (i : ℕ) → i < length s → passes t s i ≡ false → first_from t s i ≡ first_from t s (i + 1)
   first_on i h e = first_step i h ∙ rw e
 
-  pub first_none : (i : ℕ) → length s ≤ i → first_from t s i ≡ Nowhere
+  pub first_none : (i : ℕ) → length s ≤ i → first_from t s i ≡ None
   unfolding first_from first_in
   first_none i h = rw (drop_of_length-le s h)
 
@@ -64,17 +63,17 @@ pub record First (t : Test) (s : List ℕ) (p q : ℕ) : Type 0 where
   pub before : (k : ℕ) → p ≤ k → k < q → passes t s k ≡ false
 
 module _ (t : Test) (s : List ℕ) (q : ℕ) where
-  found_within : (p : ℕ) → first_from t s p ≡ Here q → p < length s
+  found_within : (p : ℕ) → first_from t s p ≡ Some q → p < length s
   found_within p e = go (dec_lt p (length s))
     where
       go : Dec (p < length s) → p < length s
       go (yes h) = h
       go (no h) =
-          let n : first_from t s p ≡ Nowhere = first_none t s p (omega arith) in
+          let n : first_from t s p ≡ None = first_none t s p (omega arith) in
           let z : ◌≡◌ {A = ℕ} 0 1 = cc in
           absurd (omega arith)
 
-  first_turn : (p : ℕ) → first_from t s p ≡ Here q → (first_from t s (p + 1) ≡ Here q → First t s (p + 1) q)
+  first_turn : (p : ℕ) → first_from t s p ≡ Some q → (first_from t s (p + 1) ≡ Some q → First t s (p + 1) q)
       → (v : Bool) → passes t s p ≡ v → First t s p q
   first_turn p e on true k =
       let h = found_within p e in
@@ -91,30 +90,30 @@ module _ (t : Test) (s : List ℕ) (q : ℕ) where
           let z : p ≡ j = omega arith in
           rw (← z) k
 
-  first_search : (n p : ℕ) → length s - p ≤ n → first_from t s p ≡ Here q → First t s p q
+  first_search : (n p : ℕ) → length s - p ≤ n → first_from t s p ≡ Some q → First t s p q
   first_search zero p h e = absurd (omega (arith, found_within p e))
   first_search (suc n) p h e = first_turn p e (first_search n (p + 1) (omega arith)) (passes t s p) refl
 
-pub first_within : {t : Test} {s : List ℕ} {p q : ℕ} → first_from t s p ≡ Here q → First t s p q
+pub first_within : {t : Test} {s : List ℕ} {p q : ℕ} → first_from t s p ≡ Some q → First t s p q
 first_within {t} {s} {p} {q} e = first_search t s q (length s - p) p (omega arith) e
 
 -- ---- the loops of `find` and `find_pair`: what is found from i on decides
 module _ (s : List ℕ) (x at i : ℕ) (inv : first_from (is x) s at ≡ first_from (is x) s i) where
-  pub find_here : i < length s → get_or s i 0 ≡ x → Here i ≡ first_from (is x) s at
+  pub find_here : i < length s → get_or s i 0 ≡ x → Some i ≡ first_from (is x) s at
   find_here h k = sym (inv ∙ first_here (is x) s i h (eq-eqb (get_or s i 0) x k))
 
   pub find_on : i < length s → (get_or s i 0 ≡ x → ⊥) → first_from (is x) s at ≡ first_from (is x) s (i + 1)
   find_on h k = inv ∙ first_on (is x) s i h (ne_eqb (get_or s i 0) x k)
 
-  pub find_none : length s ≤ i → Nowhere ≡ first_from (is x) s at
+  pub find_none : length s ≤ i → None ≡ first_from (is x) s at
   find_none h = sym (inv ∙ first_none (is x) s i h)
 
 module _ (s : List ℕ) (x y at i : ℕ) (inv : first_from (are x y) s at ≡ first_from (are x y) s i) where
-  pub pair_none : length s ≤ i → Nowhere ≡ first_from (are x y) s at
+  pub pair_none : length s ≤ i → None ≡ first_from (are x y) s at
   pair_none h = sym (inv ∙ first_none (are x y) s i h)
 
   module _ (h : i < length s) (v : Bool) (e : v ≡ passes (are x y) s i) where
-    pub pair_here : v ≡ true → Here i ≡ first_from (are x y) s at
+    pub pair_here : v ≡ true → Some i ≡ first_from (are x y) s at
     pair_here k = sym (inv ∙ first_here (are x y) s i h (sym e ∙ k))
 
     pub pair_on : v ≡ false → first_from (are x y) s at ≡ first_from (are x y) s (i + 1)
@@ -123,8 +122,8 @@ module _ (s : List ℕ) (x y at i : ℕ) (inv : first_from (are x y) s at ≡ fi
 -- ---- what is left
 -- of the text l, which begins at p: no `};` is left and the last one stays, or one is left and the last one ends behind p
 data Left (p r : ℕ) (l : List ℕ) : Type 0 where
-  none : first_in closes p l ≡ Nowhere → last_in p r l ≡ r → Left p r l
-  some : (c : ℕ) → first_in closes p l ≡ Here c → p < last_in p r l → Left p r l
+  none : first_in closes p l ≡ None → last_in p r l ≡ r → Left p r l
+  some : (c : ℕ) → first_in closes p l ≡ Some c → p < last_in p r l → Left p r l
 
 left_behind : (p : ℕ) (l : List ℕ) → Left (p + 1) (p + 1) l → p < last_in (p + 1) (p + 1) l
 left_behind p l (none f e) = omega arith
@@ -144,9 +143,9 @@ left p r (b ∷ l) h = turn (closes b (get_or l 0 0)) refl (λ k g. left (p + 1)
     turn false e ih = on e (ih r (omega arith))
 
 -- from the place p of a text on, whose last `};` ends at n, the first is f
-data Ahead (p n : ℕ) (f : Found) : Type 0 where
-  none_left : f ≡ Nowhere → n ≤ p → Ahead p n f
-  one_left : (c : ℕ) → f ≡ Here c → p < n → Ahead p n f
+data Ahead (p n : ℕ) (f : Option ℕ) : Type 0 where
+  none_left : f ≡ None → n ≤ p → Ahead p n f
+  one_left : (c : ℕ) → f ≡ Some c → p < n → Ahead p n f
 
 ahead_now : {p r : ℕ} {l : List ℕ} → r ≤ p → Left p r l → Ahead p (last_in p r l) (first_in closes p l)
 ahead_now h (none f e) = none_left f (omega arith)
@@ -168,22 +167,22 @@ ahead_close : (s : List ℕ) (p : ℕ) → Ahead p (last_close s) (first_from cl
 unfolding first_from last_close
 ahead_close s p = rw zero-add at (ahead p 0 0 s (le_refl 0))
 
-pub last_close_none : (s : List ℕ) (p : ℕ) → last_close s ≤ p → first_from closes s p ≡ Nowhere
+pub last_close_none : (s : List ℕ) (p : ℕ) → last_close s ≤ p → first_from closes s p ≡ None
 last_close_none s p h = go (ahead_close s p)
   where
-    go : Ahead p (last_close s) (first_from closes s p) → first_from closes s p ≡ Nowhere
+    go : Ahead p (last_close s) (first_from closes s p) → first_from closes s p ≡ None
     go (none_left f e) = f
     go (one_left c f e) = absurd (omega arith)
 
-pub last_close_some : (s : List ℕ) (p : ℕ) → p < last_close s → (c : ℕ) × (first_from closes s p ≡ Here c)
+pub last_close_some : (s : List ℕ) (p : ℕ) → p < last_close s → (c : ℕ) × (first_from closes s p ≡ Some c)
 last_close_some s p h = go (ahead_close s p)
   where
-    go : Ahead p (last_close s) (first_from closes s p) → (c : ℕ) × (first_from closes s p ≡ Here c)
+    go : Ahead p (last_close s) (first_from closes s p) → (c : ℕ) × (first_from closes s p ≡ Some c)
     go (none_left f e) = absurd (omega arith)
     go (one_left c f e) = (c, f)
 
 -- where none is left from p on, the last one ends there or before
-none_from : (s : List ℕ) (p : ℕ) → first_from closes s p ≡ Nowhere → last_close s ≤ p
+none_from : (s : List ℕ) (p : ℕ) → first_from closes s p ≡ None → last_close s ≤ p
 none_from s p e = go (ahead_close s p)
   where
     go : Ahead p (last_close s) (first_from closes s p) → last_close s ≤ p
@@ -193,7 +192,7 @@ none_from s p e = go (ahead_close s p)
         absurd (omega arith)
 
 -- where one is left, the last one ends behind p
-one_from : (s : List ℕ) (p c : ℕ) → first_from closes s p ≡ Here c → p < last_close s
+one_from : (s : List ℕ) (p c : ℕ) → first_from closes s p ≡ Some c → p < last_close s
 one_from s p c e = go (ahead_close s p)
   where
     go : Ahead p (last_close s) (first_from closes s p) → p < last_close s
@@ -261,5 +260,5 @@ module _ (s : List ℕ) where
       pub behind_ends : get_or s (i - 1) 0 ≡ semicolon → get_or s (i - 1 - 1) 0 ≡ closing_brace → i - 1 ≡ last_close s
       behind_ends e b =
           let v : passes closes s (i - 1 - 1) ≡ true = rw (place, e, b) in
-          let f : first_from closes s (i - 1 - 1) ≡ Here (i - 1 - 1) = first_here closes s (i - 1 - 1) (omega (arith, inv.within)) v in
+          let f : first_from closes s (i - 1 - 1) ≡ Some (i - 1 - 1) = first_here closes s (i - 1 - 1) (omega (arith, inv.within)) v in
           omega (arith, inv.last, one_from s (i - 1 - 1) (i - 1 - 1) f)

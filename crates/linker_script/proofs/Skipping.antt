@@ -2,11 +2,11 @@
 use Prim.Native.Nat.{ℕ, zero, suc, ◌+◌, ◌-◌, ◌<◌, ◌≤◌}
 use mathlib.Core.Path.{◌≡◌, refl, sym, ◌∙◌}
 use mathlib.Core.List.{List, [], ◌∷◌}
-use mathlib.Core.Bool.{Bool, true, false, not, and-eq-true_iff}
+use mathlib.Core.Bool.{Bool, true, false, and-eq-true_iff}
 use native.Mathlib.Decide.{dec_lt}
 use native.Mathlib.Nat.{add-zero}
 use native.Mathlib.Omega.{arith}
-use borrow.Author.Tests.{eq-eqb, ne_eqb, eqb-true, eqb-false, not-true, not-false}
+use borrow.Author.Tests.{eq-eqb, ne_eqb, eqb-true, eqb-false}
 use mir.Syntax.{w64}
 use mir.Val.{Fits}
 use lib.Dec.{eqb}
@@ -14,9 +14,7 @@ use lib.ListN.{length, get_or, drop, length-drop, drop_of_length-le, get_or-eq_d
 use lib.Seq.{drop-drop}
 use Rattle.numbers.specs.declared.Edition.{Edition}
 use Rattle.numbers.specs.Signs.{asterisk, hash, line_feed, slash}
-use Rattle.linker_script.specs.declared.Found.{Found}
-use Rattle.linker_script.specs.declared.Found.TheVariants.{Here, Nowhere}
-use Rattle.linker_script.specs.declared.Skipped.TheVariants.{At, Open}
+use Rattle.std.specs.Prelude.{Option, Some, None, Ok, Err}
 use Rattle.linker_script.specs.Finding.{Test, first_from, is, are}
 use Rattle.linker_script.specs.Skip.{blank, closes_after, comment_end, Move, stop, pass, past, move, go, skip, skip_past}
 use Rattle.linker_script.proofs.Searches.{drop_next, next_byte, byte_within, passes, First, first_within}
@@ -64,7 +62,7 @@ module _ (x : Edition) (s : List ℕ) (i : ℕ) (n : blank (get_or s i 0) ≡ fa
     stop-move c = rw (n, ne_eqb (get_or s i 0) hash k, next_byte, c)
 
 -- ---- where a comment ends
-pair-within : (s : List ℕ) (p x y : ℕ) {q : ℕ} → 0 < y → first_from (are x y) s p ≡ Here q → (p ≤ q) × (q + 1 < length s)
+pair-within : (s : List ℕ) (p x y : ℕ) {q : ℕ} → 0 < y → first_from (are x y) s p ≡ Some q → (p ≤ q) × (q + 1 < length s)
 pair-within s p x y {q} h e =
     let f = first_within e in
     let z = eqb-true (get_or s (q + 1) 0) y ((and-eq-true_iff (eqb (get_or s q 0) x) (eqb (get_or s (q + 1) 0) y)).0 f.holds).1 in
@@ -74,12 +72,12 @@ pub comment-from : (x : Edition) (s : List ℕ) (p : ℕ) → comment_end x s p 
 unfolding first_from
 comment-from x s p = rw drop-drop
 
-comment-within : (x : Edition) (s : List ℕ) (p : ℕ) {q : ℕ} → comment_end x s p ≡ Here q → (p + closes_after x ≤ q) × (q + 1 < length s)
+comment-within : (x : Edition) (s : List ℕ) (p : ℕ) {q : ℕ} → comment_end x s p ≡ Some q → (p + closes_after x ≤ q) × (q + 1 < length s)
 comment-within x s p e = pair-within s (p + closes_after x) asterisk slash (omega arith) (sym (comment-from x s p) ∙ e)
 
 -- ---- the loop of `skip_comments_and_whitespace`: the skip from i on decides
 module _ (x : Edition) (s : List ℕ) (at i : ℕ) (inv : skip x s at ≡ skip x s i) where
-  pub skip-ends : length s ≤ i → At i ≡ skip x s at
+  pub skip-ends : length s ≤ i → Ok i ≡ skip x s at
   unfolding skip skip_past
   skip-ends h = sym (inv ∙ rw (drop_of_length-le s h))
 
@@ -89,33 +87,33 @@ module _ (x : Edition) (s : List ℕ) (at i : ℕ) (inv : skip x s at ≡ skip x
 
     module _ (n : v ≡ false) where
       -- at `#`
-      module _ (k : get_or s i 0 ≡ hash) {f : Found} (g : f ≡ first_from (is line_feed) s (i + 1)) where
-        pub past_line : {q : ℕ} → f ≡ Here q → skip x s at ≡ skip x s (q + 1)
+      module _ (k : get_or s i 0 ≡ hash) {f : Option ℕ} (g : f ≡ first_from (is line_feed) s (i + 1)) where
+        pub past_line : {q : ℕ} → f ≡ Some q → skip x s at ≡ skip x s (q + 1)
         past_line {q} m =
             let r = first_within (sym g ∙ m) in
             let a = line-move x s i (sym e ∙ n) k in
             inv ∙ skip_to x s i h (q + 0 - i) (q + 1) (a ∙ rw (← g, m)) (omega (arith, r.onward)) (omega (arith, r.within))
 
-        pub line-opens : f ≡ Nowhere → Open i ≡ skip x s at
+        pub line-opens : f ≡ None → Err i ≡ skip x s at
         line-opens m = sym (inv ∙ skip_step x s i h ∙ rw (line-move x s i (sym e ∙ n) k, ← g, m))
 
       module _ (k : get_or s i 0 ≡ hash → ⊥) {w : Bool} (c : w ≡ passes (are slash asterisk) s i) where
-        pub stops : not w ≡ true → At i ≡ skip x s at
-        stops o = sym (inv ∙ skip_step x s i h ∙ rw (stop-move x s i (sym e ∙ n) k (sym c ∙ not-true w o)))
+        pub stops : w ≡ false → Ok i ≡ skip x s at
+        stops o = sym (inv ∙ skip_step x s i h ∙ rw (stop-move x s i (sym e ∙ n) k (sym c ∙ o)))
 
         -- at `/*`
-        module _ (o : not w ≡ false) {f : Found} (g : f ≡ comment_end x s i) where
-          pub past_comment : {q : ℕ} → f ≡ Here q → skip x s at ≡ skip x s (q + 2)
+        module _ (o : w ≡ true) {f : Option ℕ} (g : f ≡ comment_end x s i) where
+          pub past_comment : {q : ℕ} → f ≡ Some q → skip x s at ≡ skip x s (q + 2)
           past_comment {q} m =
               let r = comment-within x s i (sym g ∙ m) in
-              let a = comment-move x s i (sym e ∙ n) k h (sym c ∙ not-false w o) in
+              let a = comment-move x s i (sym e ∙ n) k h (sym c ∙ o) in
               inv ∙ skip_to x s i h (q + 1 - i) (q + 2) (a ∙ rw (← g, m)) (omega (arith, r.0)) (omega (arith, r.1))
 
-          pub comment-opens : f ≡ Nowhere → Open i ≡ skip x s at
-          comment-opens m = sym (inv ∙ skip_step x s i h ∙ rw (comment-move x s i (sym e ∙ n) k h (sym c ∙ not-false w o), ← g, m))
+          pub comment-opens : f ≡ None → Err i ≡ skip x s at
+          comment-opens m = sym (inv ∙ skip_step x s i h ∙ rw (comment-move x s i (sym e ∙ n) k h (sym c ∙ o), ← g, m))
 
 -- the place behind what was found fits, and lies behind i
-module _ (s : List ℕ) (i q : ℕ) (f : Found) (m : f ≡ Here q) where
+module _ (s : List ℕ) (i q : ℕ) (f : Option ℕ) (m : f ≡ Some q) where
   module _ (t : Test) (d : ℕ) (g : f ≡ first_from t s (i + d)) where
     line_found : First t s (i + d) q
     line_found = first_within (sym g ∙ m)
@@ -144,9 +142,9 @@ pub record Stopped (s : List ℕ) (q : ℕ) : Type 0 where
   pub no_comment : passes (are slash asterisk) s q ≡ false
 
 data Step (x : Edition) (s : List ℕ) (p : ℕ) : Type 0 where
-  stays : skip x s p ≡ At p → Stopped s p → Step x s p
+  stays : skip x s p ≡ Ok p → Stopped s p → Step x s p
   goes : (r : ℕ) → p < r → r ≤ length s → skip x s p ≡ skip x s r → Step x s p
-  opens : skip x s p ≡ Open p → Step x s p
+  opens : skip x s p ≡ Err p → Step x s p
 
 step-outside : (x : Edition) (s : List ℕ) (p : ℕ) → length s ≤ p → Step x s p
 unfolding blank
@@ -156,21 +154,21 @@ step-outside x s p h =
 
 module _ (x : Edition) (s : List ℕ) (p : ℕ) (h : p < length s) where
   module _ (n : false ≡ blank (get_or s p 0)) where
-    step_line : get_or s p 0 ≡ hash → (f : Found) → f ≡ first_from (is line_feed) s (p + 1) → Step x s p
-    step_line k (Here q) g =
+    step_line : get_or s p 0 ≡ hash → (f : Option ℕ) → f ≡ first_from (is line_feed) s (p + 1) → Step x s p
+    step_line k (Some q) g =
         let r = first_within (sym g) in
         goes (q + 1) (omega (arith, r.onward)) (omega (arith, r.within)) (past_line x s p p refl h n refl k g refl)
-    step_line k Nowhere g = opens (sym (line-opens x s p p refl h n refl k g refl))
+    step_line k None g = opens (sym (line-opens x s p p refl h n refl k g refl))
 
     module _ (k : eqb (get_or s p 0) hash ≡ false) where
       other : get_or s p 0 ≡ hash → ⊥
       other = eqb-false (get_or s p 0) hash k
 
-      step-comment : true ≡ passes (are slash asterisk) s p → (f : Found) → f ≡ comment_end x s p → Step x s p
-      step-comment c (Here q) g =
+      step-comment : true ≡ passes (are slash asterisk) s p → (f : Option ℕ) → f ≡ comment_end x s p → Step x s p
+      step-comment c (Some q) g =
           let r = comment-within x s p (sym g) in
           goes (q + 2) (omega (arith, r.0)) (omega (arith, r.1)) (past_comment x s p p refl h n refl other c refl g refl)
-      step-comment c Nowhere g = opens (sym (comment-opens x s p p refl h n refl other c refl g refl))
+      step-comment c None g = opens (sym (comment-opens x s p p refl h n refl other c refl g refl))
 
       step-pair : (w : Bool) → w ≡ passes (are slash asterisk) s p → Step x s p
       step-pair true c = step-comment c (comment_end x s p) refl
@@ -193,11 +191,11 @@ step x s p (no h) = step-outside x s p (omega arith)
 pub record Ended (x : Edition) (s : List ℕ) (p q : ℕ) : Type 0 where
   pub onward : p ≤ q
   pub within : p ≤ length s → q ≤ length s
-  pub again : skip x s q ≡ At q
+  pub again : skip x s q ≡ Ok q
   pub stopped : Stopped s q
 
 module _ (x : Edition) (s : List ℕ) (q : ℕ) where
-  turn : {p : ℕ} → skip x s p ≡ At q → ((r : ℕ) → p < r → r ≤ length s → skip x s r ≡ At q → Ended x s r q) → Step x s p → Ended x s p q
+  turn : {p : ℕ} → skip x s p ≡ Ok q → ((r : ℕ) → p < r → r ≤ length s → skip x s r ≡ Ok q → Ended x s r q) → Step x s p → Ended x s p q
   turn {p} e on (stays f g) =
       let z : p ≡ q = cc in
       record { onward = omega arith; within = λ l. omega arith; again = rw z at e; stopped = rw z at g }
@@ -208,9 +206,9 @@ module _ (x : Edition) (s : List ℕ) (q : ℕ) where
       let z : ◌≡◌ {A = ℕ} 0 1 = cc in
       absurd (omega arith)
 
-  ended_in : (n p : ℕ) → length s - p ≤ n → skip x s p ≡ At q → Ended x s p q
+  ended_in : (n p : ℕ) → length s - p ≤ n → skip x s p ≡ Ok q → Ended x s p q
   ended_in zero p h e = turn e (λ r a b f. absurd (omega arith)) (step x s p (dec_lt p (length s)))
   ended_in (suc n) p h e = turn e (λ r a b f. ended_in n r (omega arith) f) (step x s p (dec_lt p (length s)))
 
-pub skip-ended : {x : Edition} {s : List ℕ} {p q : ℕ} → skip x s p ≡ At q → Ended x s p q
+pub skip-ended : {x : Edition} {s : List ℕ} {p q : ℕ} → skip x s p ≡ Ok q → Ended x s p q
 skip-ended {x} {s} {p} {q} e = ended_in x s q (length s - p) p (omega arith) e

@@ -1,11 +1,11 @@
 -- What trimming does to a byte at the end of a text. Assumes nothing.
-use Prim.Native.Nat.{ℕ, suc, ◌-◌, ◌<◌, ◌≤◌}
+use Prim.Native.Nat.{ℕ, ◌+◌, suc, ◌-◌, ◌<◌, ◌≤◌}
 use mathlib.Core.Path.{◌≡◌, sym, ap, refl, ◌∙◌}
 use mathlib.Core.List.{List, [], ◌∷◌, ◌++◌}
 use mathlib.Core.Bool.{Bool, true, false, cond, not}
 use native.Mathlib.Nat.{le_refl}
 use native.Mathlib.Omega.{arith}
-use borrow.Author.Tests.{not-true, not-false}
+use borrow.Author.Tests.{not-false}
 use lib.ListN.{length, get_or, take}
 use lib.Seq.{take-suc, take-length}
 use Rattle.linker_script.specs.Trim.{white, keeping, trim_end}
@@ -46,7 +46,7 @@ pub kept_all : (s : List ℕ) → Kept s (length s)
 kept_all s = record { within = le_refl (length s); same = rw take-length }
 
 module _ {s : List ℕ} {e : ℕ} (inv : Kept s e) where
-  pub kept_none : e ≤ 0 → take e s ≡ trim_end s
+  pub kept_none : e ≤ 0 → [] ≡ trim_end s
   unfolding trim_end
   kept_none h =
       let z : e ≡ 0 = omega arith in
@@ -65,7 +65,8 @@ module _ {s : List ℕ} {e : ℕ} (inv : Kept s e) where
           same = inv.same ∙ rw last_byte (trim_white (take (e - 1) s) (get_or s (e - 1) 0) (sym w ∙ not-false v k));
         }
 
-    pub kept-ends : not v ≡ true → take e s ≡ trim_end s
+    pub kept-ends : v ≡ false → (e - 1 + 1 ≤ length s) × (take (e - 1 + 1) s ≡ trim_end s)
     kept-ends k =
-        let n = trim_kept (take (e - 1) s) (get_or s (e - 1) 0) (sym w ∙ not-true v k) in
-        sym (inv.same ∙ rw last_byte n)
+        let n = trim_kept (take (e - 1) s) (get_or s (e - 1) 0) (sym w ∙ k) in
+        let z : e - 1 + 1 ≡ e = omega arith in
+        rw z (inv.within, sym (inv.same ∙ rw last_byte n))

@@ -1,30 +1,28 @@
 -- The first place of something in a text, from a place on. Assumes nothing.
-use Rattle.std.specs.Prelude.{ℕ, ◌+◌, List, [], ◌∷◌, Bool, true, false, ◌&&◌, eqb, get_or, drop}
+use Rattle.std.specs.Prelude.{ℕ, ◌+◌, List, [], ◌∷◌, Bool, true, false, ◌&&◌, eqb, get_or, drop, Option, Some, None}
 use Rattle.numbers.specs.Signs.{closing_brace, semicolon}
-use Rattle.linker_script.specs.declared.Found.{Found}
-use Rattle.linker_script.specs.declared.Found.TheVariants.{Here, Nowhere}
 
 -- what is asked of a byte and the byte behind it, 0 at the end
 abbrev pub Test : Type 0
 Test = ℕ → ℕ → Bool
 
-abbrev pub found : Bool → ℕ → Found → Found
-found true p r = Here p
+abbrev pub found : Bool → ℕ → Option ℕ → Option ℕ
+found true p r = Some p
 found false p r = r
 
 -- the first place that passes the test, of the text l, which begins at the place p
-unfoldable pub first_in : Test → ℕ → List ℕ → Found
-first_in t p [] = Nowhere
+unfoldable pub first_in : Test → ℕ → List ℕ → Option ℕ
+first_in t p [] = None
 first_in t p (b ∷ l) = found (t b (get_or l 0 0)) p (first_in t (p + 1) l)
 
 -- of the text s, from the place p on
-unfoldable pub first_from : Test → List ℕ → ℕ → Found
+unfoldable pub first_from : Test → List ℕ → ℕ → Option ℕ
 first_from t s p = first_in t p (drop p s)
 
 -- whether there is one
-abbrev pub found_any : Found → Bool
-found_any (Here q) = true
-found_any Nowhere = false
+abbrev pub found_any : Option ℕ → Bool
+found_any (Some q) = true
+found_any None = false
 
 -- a byte, and two bytes side by side
 abbrev pub is : ℕ → Test

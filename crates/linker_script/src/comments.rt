@@ -4,32 +4,27 @@ ghost use Rattle.std.specs.Prelude.{◌≡◌, ◌+◌, ◌<◌, length, get_or}
 ghost use Rattle.linker_script.specs.Finding.{first_from, are};
 ghost use Rattle.linker_script.specs.Skip.{blank, comment_end, skip};
 
+use crate::byte_at;
 use crate::searching::find;
-use crate::{Found, Skipped, byte_at};
 use numbers::Edition;
 
 fn is_pair(s: &[u8], i: usize, x: u8, y: u8) -> bool
     requires { i < length s.now }
     ensures { result ≡ are x y (get_or s.now i 0) (get_or s.now (i + 1) 0) }
 {
-    if s[i] == x {
-        return byte_at(s, i + 1) == y;
-    }
-    false
+    s[i] == x && byte_at(s, i + 1) == y
 }
 
 // The first place of x with y behind it, from a place on. A 0 stands behind the last byte.
-pub fn find_pair(s: &[u8], x: u8, y: u8, at: usize) -> Found
+pub fn find_pair(s: &[u8], x: u8, y: u8, at: usize) -> Option<usize>
     ensures { result ≡ first_from (are x y) s.now at }
 {
-    let mut i = at;
-    while i < s.len() {
+    for i in at..s.len() {
         if is_pair(s, i, x, y) {
-            return Found::Here(i);
+            return Some(i);
         }
-        i += 1;
     }
-    Found::Nowhere
+    None
 }
 
 fn is_blank(b: u8) -> bool
@@ -39,15 +34,15 @@ fn is_blank(b: u8) -> bool
 }
 
 // The `*/` that closes the comment at a place.
-fn comment_end(edition: Edition, s: &[u8], at: usize) -> Found
+fn comment_end(edition: Edition, s: &[u8], at: usize) -> Option<usize>
     requires { at < length s.now }
     ensures { result ≡ comment_end edition s.now at }
 {
     find_pair(s, b'*', b'/', at + 1)
 }
 
-// Past blanks and comments. The edition says where a comment closes.
-pub fn skip_comments_and_whitespace(edition: Edition, s: &[u8], at: usize) -> Skipped
+// Past blanks and comments, or the place of the comment that nothing closes. The edition says where a comment closes.
+pub fn skip_comments_and_whitespace(edition: Edition, s: &[u8], at: usize) -> Result<usize, usize>
     ensures { result ≡ skip edition s.now at }
 {
     let mut i = at;
@@ -55,30 +50,19 @@ pub fn skip_comments_and_whitespace(edition: Edition, s: &[u8], at: usize) -> Sk
         let b = s[i];
         if is_blank(b) {
             i += 1;
-            continue;
-        }
-        if b == b'#' {
-            match find(s, b'\n', i + 1) {
-                Found::Here(q) => {
-                    i = q + 1;
-                    continue;
-                }
-                Found::Nowhere => {
-                    return Skipped::Open(i);
-                }
-            }
-        }
-        if !is_pair(s, i, b'/', b'*') {
-            return Skipped::At(i);
-        }
-        match comment_end(edition, s, i) {
-            Found::Here(q) => {
-                i = q + 2;
-            }
-            Found::Nowhere => {
-                return Skipped::Open(i);
-            }
+        } else if b == b'#' {
+            let Some(q) = find(s, b'\n', i + 1) else {
+                return Err(i);
+            };
+            i = q + 1;
+        } else if is_pair(s, i, b'/', b'*') {
+            let Some(q) = comment_end(edition, s, i) else {
+                return Err(i);
+            };
+            i = q + 2;
+        } else {
+            return Ok(i);
         }
     }
-    Skipped::At(i)
+    Ok(i)
 }

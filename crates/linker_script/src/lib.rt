@@ -1,6 +1,6 @@
-// What the readers above ask of the bytes of a text: the byte at a place, the last `};`, the end of a token without its blanks; and what is found and
-// where a skip ends, as answers. The searches for a byte stand in `searching`, the skip function of linker_script.rs in `comments`; specs/ has the
-// definitions of all of them. A text is a slice, a place a number; every place is answered, also past the end.
+// What the readers above ask of the bytes of a text: the byte at a place, the last `};`, the end of a token without its blanks. The searches for a byte
+// stand in `searching`, the skip function of linker_script.rs in `comments`; specs/ has the definitions of all of them. A text is a slice, a place a
+// number; every place is answered, also past the end.
 #![tactic(auto)]
 
 ghost use Rattle.std.specs.Prelude.{◌≡◌, ◌≤◌, length, get_or, take};
@@ -10,41 +10,20 @@ ghost use Rattle.linker_script.specs.Trim.{white, trim_end};
 pub mod comments;
 pub mod searching;
 
-// The first place of what was looked for.
-#[derive(Clone, Copy)]
-pub enum Found {
-    Here(usize),
-    Nowhere,
-}
-
-// Where a skip ends, or the place of the comment that nothing closes.
-#[derive(Clone, Copy)]
-pub enum Skipped {
-    At(usize),
-    Open(usize),
-}
-
 // The byte at a place, 0 past the end.
 pub fn byte_at(s: &[u8], at: usize) -> u8
     ensures { result ≡ get_or s.now at 0 }
 {
-    if at < s.len() {
-        return s[at];
-    }
-    0
+    s.get(at).copied().unwrap_or(0)
 }
 
 // One more than the last place of `};`, or 0: from there on none is left. The search begins at the end.
 pub fn last_close(s: &[u8]) -> usize
     ensures { result ≡ last_close s.now }
 {
-    let mut i = s.len();
-    while 1 < i {
-        i -= 1;
-        if s[i] == b';' {
-            if s[i - 1] == b'}' {
-                return i;
-            }
+    for i in (1..s.len()).rev() {
+        if s[i] == b';' && s[i - 1] == b'}' {
+            return i;
         }
     }
     0
@@ -60,15 +39,12 @@ fn is_white(b: u8) -> bool
 pub fn trimmed_length(s: &[u8]) -> usize
     ensures { (result ≤ length s.now) × (take result s.now ≡ trim_end s.now) }
 {
-    let mut e = s.len();
-    while 0 < e {
-        let k = e - 1;
+    for k in (0..s.len()).rev() {
         if !is_white(s[k]) {
-            return e;
+            return k + 1;
         }
-        e = k;
     }
-    e
+    0
 }
 
 // The text without the blanks at its end, as a part of it: it begins where the text begins.

@@ -4,16 +4,11 @@ ghost use Rattle.std.specs.Prelude.{◌≡◌, cond, ◌+◌, ◌<◌, ◌≤◌
 ghost use Rattle.linker_script.specs.Finding.{first_from, is};
 ghost use Rattle.linker_script.specs.Blocks.{bits};
 
-use crate::Found;
-
 // Whether 16 bytes stand from a place on.
 fn has_block(s: &[u8], at: usize) -> bool
     ensures { result ≡ leb (at + 16) (length s.now) }
 {
-    if at < s.len() {
-        return 16 <= s.len() - at;
-    }
-    false
+    at < s.len() && 16 <= s.len() - at
 }
 
 // 1 for x, else 0.
@@ -29,9 +24,7 @@ fn eight_bits(s: &[u8], x: u8, at: usize) -> u32
     ensures { (result < 256) × (result ≡ bits x s.now 0 8 at) }
 {
     let mut low = 0;
-    let mut i = 8;
-    while 0 < i {
-        i -= 1;
+    for i in (0..8).rev() {
         low = 2 * low + mark(s[at + i], x);
     }
     low
@@ -40,7 +33,7 @@ fn eight_bits(s: &[u8], x: u8, at: usize) -> u32
 // How far the first x of the 16 bytes from a place on is, or 16: their lowest bit. Nothing branches on a byte, so that the compiler can test all at a time.
 fn block_place(s: &[u8], x: u8, at: usize) -> usize
     requires { at + 16 ≤ length s.now }
-    ensures { (result < 16 → first_from (is x) s.now at ≡ Found.Here (at + result))
+    ensures { (result < 16 → first_from (is x) s.now at ≡ Some (at + result))
         × (16 ≤ result → first_from (is x) s.now at ≡ first_from (is x) s.now (at + 16)) }
 {
     let low = eight_bits(s, x, at);
@@ -49,22 +42,21 @@ fn block_place(s: &[u8], x: u8, at: usize) -> usize
 }
 
 // The first place of the byte x, from a place on: by blocks of 16 bytes, and by bytes in what is left.
-pub fn find(s: &[u8], x: u8, at: usize) -> Found
+pub fn find(s: &[u8], x: u8, at: usize) -> Option<usize>
     ensures { result ≡ first_from (is x) s.now at }
 {
     let mut i = at;
     while has_block(s, i) {
         let k = block_place(s, x, i);
         if k < 16 {
-            return Found::Here(i + k);
+            return Some(i + k);
         }
         i += 16;
     }
-    while i < s.len() {
-        if s[i] == x {
-            return Found::Here(i);
+    for j in i..s.len() {
+        if s[j] == x {
+            return Some(j);
         }
-        i += 1;
     }
-    Found::Nowhere
+    None
 }

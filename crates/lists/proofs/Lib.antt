@@ -2,3 +2,4 @@ pub mod PiecesLaws
 pub mod FrontLaws
 pub mod Tests
 pub mod SameLaws
+pub mod Tested

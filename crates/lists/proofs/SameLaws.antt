@@ -2,9 +2,10 @@
 use Prim.Native.Nat.{ℕ}
 use mathlib.Core.Path.{◌≡◌, refl, sym, ap, ap₂}
 use mathlib.Core.List.{List, [], ◌∷◌}
-use mathlib.Core.Bool.{true, false, false≢true}
+use mathlib.Core.Bool.{Bool, true, false, false≢true, ◌&&◌}
 use lib.Dec.{eqb}
 use lib.ListN.{length}
+use lib.Pointwise.{pointwise}
 use borrow.Author.Tests.{eqb-true, eq-eqb}
 use Rattle.lists.specs.Same.{same}
 use Rattle.lists.proofs.Tests.{both, fails}
@@ -28,3 +29,11 @@ same_refl (x ∷ l) = rw (eq-eqb x x refl) (same_refl l)
 -- lists of other lengths are not
 pub same_lengths : (l m : List ℕ) → (length l ≡ length m → ⊥) → false ≡ same l m
 same_lengths l m f = sym (fails (λ t. f (ap length (same_equal l m t))))
+
+-- it is what `==` tells of two slices
+pub same_pointwise : (l m : List ℕ) → pointwise eqb l m ≡ same l m
+unfolding same
+same_pointwise [] [] = refl
+same_pointwise [] (y ∷ m) = refl
+same_pointwise (x ∷ l) [] = refl
+same_pointwise (x ∷ l) (y ∷ m) = ap (λ (b : Bool). eqb x y && b) (same_pointwise l m)

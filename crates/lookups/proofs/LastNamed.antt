@@ -3,28 +3,27 @@ use Prim.Native.Nat.{ℕ, suc, ◌+◌, ◌-◌, ◌≤◌, ◌<◌}
 use mathlib.Core.Path.{◌≡◌, refl, sym, ap, ◌∙◌}
 use mathlib.Core.List.{List, [], ◌∷◌, ◌++◌}
 use mathlib.Core.Bool.{Bool, true, false}
-use mathlib.Core.Option.{some, none}
+use Rattle.std.specs.Prelude.{Some, None, Result, Ok, Err}
 use native.Mathlib.Omega.{arith}
 use lib.ListN.{length, get_or, take}
 use lib.Seq.{length-take-le, take_all, take-suc}
-use Rattle.numbers.specs.Refusals.{unknown_version}
+use Rattle.numbers.specs.declared.Refusal.{Refusal}
+use Rattle.numbers.specs.declared.Refusal.TheVariants as no
 use Rattle.lists.specs.Same.{same}
 use Rattle.packing.specs.Tables.{packs, things}
 use Rattle.book.specs.Books.{Node, no_node}
 use Rattle.book.specs.Layout.{NodeLies, name_of_node, node_form}
 use Rattle.book.specs.View.{any_node}
 use Rattle.book.proofs.NodeRows.{Row, Walk, nodes-count, walk-count, walk-row, walk-stands}
-use Rattle.lookups.specs.declared.answers.Version.{Version}
-use Rattle.lookups.specs.declared.answers.Version.TheVariants as version
 use Rattle.lookups.specs.declared.index.NodeNumber.{NodeNumber}
 use Rattle.lookups.specs.declared.index.VersionIndex.{VersionIndex}
 use Rattle.lookups.specs.Lookups.{global_index, index_of, known, last_named, node_number, wanted_version}
 
 -- ---- the last node has the name, or those before it decide
-last_here : (ys : List Node) (x : Node) (k : ℕ) (t : List ℕ) → same x.name t ≡ true → last_named (ys ++ x ∷ []) k t ≡ some (k + length ys)
+last_here : (ys : List Node) (x : Node) (k : ℕ) (t : List ℕ) → same x.name t ≡ true → last_named (ys ++ x ∷ []) k t ≡ Some (k + length ys)
 unfolding last_named
-last_here [] x k t e = rw e (ap some (omega arith))
-last_here (y ∷ ys) x k t e = rw (last_here ys x (k + 1) t e) (ap some (omega arith))
+last_here [] x k t e = rw e (ap Some (omega arith))
+last_here (y ∷ ys) x k t e = rw (last_here ys x (k + 1) t e) (ap Some (omega arith))
 
 last_before : (ys : List Node) (x : Node) (k : ℕ) (t : List ℕ) → same x.name t ≡ false → last_named (ys ++ x ∷ []) k t ≡ last_named ys k t
 unfolding last_named
@@ -71,12 +70,12 @@ module _ {n : ℕ} {l m t : List ℕ} where
 
         -- the node has the name
         pub back_found : r ≡ true → {k : NodeNumber} → k ≡ node_number (i - 1) → {v : VersionIndex} → v ≡ index_of k
-            → version.Index v ≡ known (last_named (things node_form n l m) 0 t)
+            → Ok v ≡ known (last_named (things node_form n l m) 0 t)
         back_found y w q =
             let xs : List Node = things node_form n l m in
             let k : 0 + length (take (i - 1) xs) ≡ i - 1 = omega (arith, length-take-le (i - 1) xs (omega (arith, counted))) in
-            let f : last_named xs 0 t ≡ some (i - 1)
-            = z.goes ∙ ap (λ (u : List Node). last_named u 0 t) cut ∙ last_here (take (i - 1) xs) (get_or xs (i - 1) no_node) 0 t (sym asked ∙ y) ∙ ap some k in
+            let f : last_named xs 0 t ≡ Some (i - 1)
+            = z.goes ∙ ap (λ (u : List Node). last_named u 0 t) cut ∙ last_here (take (i - 1) xs) (get_or xs (i - 1) no_node) 0 t (sym asked ∙ y) ∙ ap Some k in
             rw (f, q, w)
 
         -- it has another, and the search goes on
@@ -88,20 +87,20 @@ module _ {n : ℕ} {l m t : List ℕ} where
         }
 
     -- none has it
-    pub back_ends : i ≤ 0 → version.Refused unknown_version ≡ known (last_named (things node_form n l m) 0 t)
+    pub back_ends : i ≤ 0 → Err no.UnknownVersion ≡ known (last_named (things node_form n l m) 0 t)
     unfolding last_named
     back_ends h =
         let e : i ≡ 0 = omega arith in
-        let f : last_named (things node_form n l m) 0 t ≡ none = z.goes ∙ ap (λ (k : ℕ). last_named (take k (things node_form n l m)) 0 t) e in
+        let f : last_named (things node_form n l m) 0 t ≡ None = z.goes ∙ ap (λ (k : ℕ). last_named (take k (things node_form n l m)) 0 t) e in
         rw f
 
 -- ---- an empty version, or one to be known
-pub wanted-empty : (xs : List Node) (t : List ℕ) → length t ≡ 0 → version.Index global_index ≡ wanted_version xs t
+pub wanted-empty : (xs : List Node) (t : List ℕ) → length t ≡ 0 → Ok global_index ≡ wanted_version xs t
 unfolding wanted_version
 wanted-empty xs [] h = refl
 wanted-empty xs (c ∷ t) h = absurd (omega arith)
 
-pub wanted-known : (xs : List Node) (t : List ℕ) → (length t ≡ 0 → ⊥) → (v : Version) → v ≡ known (last_named xs 0 t) → v ≡ wanted_version xs t
+pub wanted-known : (xs : List Node) (t : List ℕ) → (length t ≡ 0 → ⊥) → (v : Result VersionIndex Refusal) → v ≡ known (last_named xs 0 t) → v ≡ wanted_version xs t
 unfolding wanted_version
 wanted-known xs [] h v e = absurd (h refl)
 wanted-known xs (c ∷ t) h v e = e

@@ -2,5 +2,5 @@ pub mod Asked
 mod LastNamed
 pub mod Decided
 mod AskedLocality
-mod Listing
+pub mod Firsts
 pub mod AskedVersion

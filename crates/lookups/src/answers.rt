@@ -1,18 +1,12 @@
 // The answers to a lookup.
 use crate::index::VersionIndex;
+use numbers::Refusal;
 
-// A version's index, none, or the number that says no.
-#[derive(Clone, Copy)]
-pub enum Version {
-    Index(VersionIndex),
-    Unversioned,
-    Refused(u32),
-}
+// A version's index or none, or why there is no answer.
+pub type Version = Result<Option<VersionIndex>, Refusal>;
 
-#[derive(Clone, Copy)]
+#[derive(Clone, Copy, Debug, PartialEq, Eq)]
 pub enum Locality {
-    Nothing,
     Global,
     Local,
-    Refused(u32),
 }

@@ -4,6 +4,7 @@
 
 pub mod answers;
 pub mod index;
+pub mod listing;
 pub mod locality_lookup;
 pub mod version_lookup;
 pub mod wanted;

@@ -3,41 +3,48 @@
 ghost use Rattle.std.specs.Prelude.{◌≡◌, true, ◌≤◌, ◌<◌, length};
 ghost use Rattle.numbers.specs.Limits.{name_limit, node_limit};
 ghost use Rattle.packing.specs.Tables.{packs, things};
+ghost use Rattle.book.specs.Lending.{view_of};
 ghost use Rattle.book.specs.Layout.{five, frame_of, line_form};
 ghost use Rattle.book.specs.Sanity.{line_ok};
 ghost use Rattle.book.specs.View.{holds, view};
 ghost use Rattle.ranking.specs.Matching.{name_of};
-ghost use Rattle.lookups.specs.Lookups.{long_wanted, node_version, version_among, version_asked, wanted_of};
+ghost use Rattle.lookups.specs.Lookups.{long_wanted, node_version, version_among, version_asked, bytes_of};
 
 use crate::answers::Version;
 use crate::index::{NodeNumber, VersionIndex};
 use crate::wanted::wanted_version;
+use book::lent::Lent;
 use book::{Counts, EXPORT, LINE_WIDTH, RUST, frame_of};
-use book_check::is_book;
-use numbers::{NO_BOOK, VERSION_LIMIT, WRONG_KIND};
-use ranking::Deciding;
+use book_check::Held;
+use numbers::{Refusal, VERSION_LIMIT};
 use ranking::finding::find_match;
 use ranking::names::name_refusal;
 
 // The version of a node: node 0 has none.
-fn node_version(node: u32) -> Version
+fn node_version(node: u32) -> Option<VersionIndex>
     requires { node < node_limit }
     ensures { result ≡ node_version node }
 {
-    if node != 0 {
-        return Version::Index(VersionIndex::from_node(NodeNumber::of_row(node as u16)));
+    if node == 0 {
+        return None;
     }
-    Version::Unversioned
+    Some(VersionIndex::from_node(NodeNumber::of_row(node as u16)))
 }
 
 // The version of the deciding line's node.
-fn decided_version(c: Counts, lines: &[u32], pool: &[u8], raw: &[u8], demangled: &[u8]) -> Version
+fn decided_version(
+    c: Counts,
+    lines: &[u32],
+    pool: &[u8],
+    raw: &[u8],
+    demangled: &[u8],
+) -> Option<VersionIndex>
     requires { (packs line_form (line_ok (frame_of c)) c.lines c.pool lines.now pool.now ≡ true) × (c.nodes ≤ node_limit)
         × (length raw.now ≤ name_limit) × (length demangled.now ≤ name_limit) }
     ensures { result ≡ version_among (frame_of c) (name_of raw.now demangled.now)
         (things line_form c.lines lines.now pool.now) }
 {
-    match find_match(
+    let i = find_match(
         frame_of(c),
         lines,
         pool,
@@ -45,77 +52,50 @@ fn decided_version(c: Counts, lines: &[u32], pool: &[u8], raw: &[u8], demangled:
         c.pool as usize,
         raw,
         demangled,
-    ) {
-        Deciding::Nothing => Version::Unversioned,
-        Deciding::Line(i) => node_version(lines[LINE_WIDTH * i]),
-    }
+    )?;
+    node_version(lines[LINE_WIDTH * i])
 }
 
 // Whether a version is wanted that is over its limit.
-pub fn is_long(has_wanted: bool, wanted: &[u8]) -> bool
-    ensures { result ≡ long_wanted (wanted_of has_wanted wanted.now) }
+pub fn is_long(wanted: Option<&[u8]>) -> bool
+    ensures { result ≡ long_wanted (bytes_of wanted.entry) }
 {
-    if !has_wanted {
-        return false;
+    match wanted {
+        Some(wanted) => VERSION_LIMIT < wanted.len(),
+        None => false,
     }
-    VERSION_LIMIT < wanted.len()
 }
 
-// The version of a name in buffers that hold a book; `has_wanted` says that the version `wanted` is wanted.
-pub fn version_in_book(
-    c: Counts,
-    nodes: &[u32],
-    names: &[u8],
-    lines: &[u32],
-    pool: &[u8],
-    journal: &[u32],
-    raw: &[u8],
-    demangled: &[u8],
-    has_wanted: bool,
-    wanted: &[u8],
-) -> Version
-    requires { holds c (five nodes.now names.now lines.now pool.now journal.now) ≡ true }
+// The version of a name in buffers that hold a book, or of the version that is wanted.
+pub fn version_in_book(book: Held, raw: &[u8], demangled: &[u8], wanted: Option<&[u8]>) -> Version
     ensures { result ≡ version_asked
-        (view c (five nodes.now names.now lines.now pool.now journal.now))
-        (name_of raw.now demangled.now) (wanted_of has_wanted wanted.now) }
+        (view_of book.entry.lent)
+        (name_of raw.now demangled.now) (bytes_of wanted.entry) }
 {
+    let c = book.lent.counts;
     if c.kind == EXPORT {
-        return Version::Refused(WRONG_KIND);
+        return Err(Refusal::WrongKind);
     }
-    let no = name_refusal(raw, demangled, is_long(has_wanted, wanted));
-    if no != 0 {
-        return Version::Refused(no);
-    }
+    name_refusal(raw, demangled, is_long(wanted))?;
     if c.kind == RUST {
-        return Version::Unversioned;
+        return Ok(None);
     }
-    if has_wanted {
-        return wanted_version(c, nodes, names, wanted);
+    match wanted {
+        Some(wanted) => Ok(Some(wanted_version(c, book.lent.nodes, book.lent.names, wanted)?)),
+        None => Ok(decided_version(c, book.lent.lines, book.lent.pool, raw, demangled)),
     }
-    decided_version(c, lines, pool, raw, demangled)
 }
 
-// The version of a name; `has_wanted` says that the version `wanted` is wanted.
+// The version of a name, or of the version that is wanted.
 pub fn version_for_symbol(
-    c: Counts,
-    nodes: &[u32],
-    names: &[u8],
-    lines: &[u32],
-    pool: &[u8],
-    journal: &[u32],
+    book: Lent,
     raw: &[u8],
     demangled: &[u8],
-    has_wanted: bool,
-    wanted: &[u8],
+    wanted: Option<&[u8]>,
 ) -> Version
     ensures { result ≡ version_asked
-        (view c (five nodes.now names.now lines.now pool.now journal.now))
-        (name_of raw.now demangled.now) (wanted_of has_wanted wanted.now) }
+        (view_of book.entry)
+        (name_of raw.now demangled.now) (bytes_of wanted.entry) }
 {
-    if !is_book(c, nodes, names, lines, pool, journal) {
-        return Version::Refused(NO_BOOK);
-    }
-    version_in_book(
-        c, nodes, names, lines, pool, journal, raw, demangled, has_wanted, wanted,
-    )
+    version_in_book(Held::of(book)?, raw, demangled, wanted)
 }

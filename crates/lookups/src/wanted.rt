@@ -6,35 +6,42 @@ ghost use Rattle.book.specs.Layout.{node_form};
 ghost use Rattle.book.specs.View.{any_node};
 ghost use Rattle.lookups.specs.Lookups.{known, last_named, wanted_version};
 
-use crate::answers::Version;
 use crate::index::{NodeNumber, VersionIndex};
 use book::Counts;
 use book::rows::node_name;
-use numbers::UNKNOWN_VERSION;
+use numbers::Refusal;
 use packing::same_bytes;
 
 // The version of the last node that has the name, which is not empty.
-fn known_version(c: Counts, nodes: &[u32], names: &[u8], wanted: &[u8]) -> Version
+fn known_version(
+    c: Counts,
+    nodes: &[u32],
+    names: &[u8],
+    wanted: &[u8],
+) -> Result<VersionIndex, Refusal>
     requires { (packs node_form any_node c.nodes c.names nodes.now names.now ≡ true) × (c.nodes ≤ node_limit) }
     ensures { result ≡ known (last_named (things node_form c.nodes nodes.now names.now) 0 wanted.now) }
 {
-    let mut i = c.nodes as usize;
-    while 0 < i {
-        i -= 1;
+    for i in (0..c.nodes as usize).rev() {
         if same_bytes(node_name(nodes, names, i), wanted) {
-            return Version::Index(VersionIndex::from_node(NodeNumber::of_row(i as u16)));
+            return Ok(VersionIndex::from_node(NodeNumber::of_row(i as u16)));
         }
     }
-    Version::Refused(UNKNOWN_VERSION)
+    Err(Refusal::UnknownVersion)
 }
 
 // The version that is wanted by name.
-pub fn wanted_version(c: Counts, nodes: &[u32], names: &[u8], wanted: &[u8]) -> Version
+pub fn wanted_version(
+    c: Counts,
+    nodes: &[u32],
+    names: &[u8],
+    wanted: &[u8],
+) -> Result<VersionIndex, Refusal>
     requires { (packs node_form any_node c.nodes c.names nodes.now names.now ≡ true) × (c.nodes ≤ node_limit) }
     ensures { result ≡ wanted_version (things node_form c.nodes nodes.now names.now) wanted.now }
 {
-    if wanted.len() == 0 {
-        return Version::Index(VersionIndex::GLOBAL);
+    if wanted.is_empty() {
+        return Ok(VersionIndex::GLOBAL);
     }
     known_version(c, nodes, names, wanted)
 }

@@ -151,24 +151,23 @@ trial-few p s =
     few p s failed (length p * (length s + 1)) (omega (arith, mul-one (length p))) (le_refl (length p * (length s + 1)))
 
 -- ---- the turns of the matcher
--- what is left to the latest star, if there is one, when the elements q behind it have failed at t
-unfoldable pub left_to : Bool → List Element → List ℕ → Trial
-left_to false q t = failed
-left_to true q [] = failed
-left_to true q (c ∷ t) = each (attempt q) t
+-- what is left to the latest star when the elements q behind it have failed at t
+unfoldable pub left_to : List Element → List ℕ → Trial
+left_to q [] = failed
+left_to q (c ∷ t) = each (attempt q) t
 
-each_left : (q : List Element) (t : List ℕ) → each (attempt q) t ≡ attempt q t (left_to true q t)
+each_left : (q : List Element) (t : List ℕ) → each (attempt q) t ≡ attempt q t (left_to q t)
 unfolding each left_to
 each_left q [] = refl
 each_left q (c ∷ t) = refl
 
 -- it takes one character more
-pub turn_back : (q : List Element) (c : ℕ) (t : List ℕ) → left_to true q (c ∷ t) ≡ attempt q t (left_to true q t)
+pub turn_back : (q : List Element) (c : ℕ) (t : List ℕ) → left_to q (c ∷ t) ≡ attempt q t (left_to q t)
 unfolding left_to
 turn_back q c t = each_left q t
 
 module _ (back : Trial) where
-  pub turn_star : (p : List Element) (s : List ℕ) → attempt (star ∷ p) s back ≡ attempt p s (left_to true p s)
+  pub turn_star : (p : List Element) (s : List ℕ) → attempt (star ∷ p) s back ≡ attempt p s (left_to p s)
   unfolding attempt
   turn_star p s = each_left p s
 

@@ -22,9 +22,10 @@ fn bracket_at(edition: Edition, p: &[u8], at: usize, x: u32) -> ElementAt
 {
     let b = bracket_takes(edition, &p[at..], x);
     if b.takes {
-        return ElementAt::Takes(at + b.past);
+        ElementAt::Takes(at + b.past)
+    } else {
+        ElementAt::Fails(1)
     }
-    ElementAt::Fails(1)
 }
 
 pub fn element_at(edition: Edition, p: &[u8], at: usize, x: u32) -> ElementAt
@@ -34,19 +35,11 @@ pub fn element_at(edition: Edition, p: &[u8], at: usize, x: u32) -> ElementAt
         return ElementAt::Fails(0);
     }
     let f = utf8::character_at(p, at);
-    let c = f.number;
-    let next = f.next;
-    if c == 42 {
-        return ElementAt::Star(next);
+    match f.number {
+        42 => ElementAt::Star(f.next),
+        63 => ElementAt::Takes(f.next),
+        91 => bracket_at(edition, p, f.next, x),
+        c if c == x => ElementAt::Takes(f.next),
+        _ => ElementAt::Fails(1),
     }
-    if c == 63 {
-        return ElementAt::Takes(next);
-    }
-    if c == 91 {
-        return bracket_at(edition, p, next, x);
-    }
-    if c == x {
-        return ElementAt::Takes(next);
-    }
-    ElementAt::Fails(1)
 }

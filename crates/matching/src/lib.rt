@@ -17,15 +17,7 @@ mod elements;
 fn only_stars(edition: Edition, p: &[u8], from: usize) -> bool
     ensures { result ≡ matches (elements edition (drop from p.now)) [] }
 {
-    let mut at = from;
-    while at < p.len() {
-        let f = utf8::character_at(p, at);
-        if f.number != 42 {
-            return false;
-        }
-        at = f.next;
-    }
-    true
+    p.iter().skip(from).all(|c| *c == b'*')
 }
 
 // Whether a pattern matches a name, and how many tests were made.
@@ -35,6 +27,13 @@ pub struct Tried {
     pub tests: u64,
 }
 
+// The latest star: the place behind it, and the place of the name up to which it has taken.
+#[derive(Clone, Copy)]
+pub struct LatestStar {
+    pub behind: usize,
+    pub from: usize,
+}
+
 // The pattern's stored bytes are p, the name's bytes n. The lengths are 01's limits, so that the number of tests fits.
 pub fn match_name(edition: Edition, p: &[u8], n: &[u8]) -> Tried
     requires { (length p.now ≤ token_limit) × (length n.now ≤ name_limit) }
@@ -42,9 +41,7 @@ pub fn match_name(edition: Edition, p: &[u8], n: &[u8]) -> Tried
 {
     let mut at = 0;
     let mut i = 0;
-    let mut starred = false;
-    let mut behind = 0;
-    let mut from = 0;
+    let mut star: Option<LatestStar> = None;
     let mut tests: u64 = 0;
     while i < n.len() {
         let f = utf8::character_at(n, i);
@@ -61,23 +58,27 @@ pub fn match_name(edition: Edition, p: &[u8], n: &[u8]) -> Tried
                         tests,
                     };
                 }
-                starred = true;
-                behind = next;
-                from = i;
+                star = Some(LatestStar {
+                    behind: next,
+                    from: i,
+                });
                 at = next;
             }
             ElementAt::Fails(made) => {
                 tests += made;
-                if !starred {
+                let Some(latest) = star else {
                     return Tried {
                         matched: false,
                         tests,
                     };
-                }
-                let g = utf8::character_at(n, from);
-                from = g.next;
+                };
+                let g = utf8::character_at(n, latest.from);
+                star = Some(LatestStar {
+                    from: g.next,
+                    ..latest
+                });
                 i = g.next;
-                at = behind;
+                at = latest.behind;
             }
         }
     }

@@ -4,11 +4,11 @@
 #![tactic(auto)]
 
 use classes::Class;
-use meanings::{front, line_end, read_input, say, say_meaning};
+use input::splitting::{line_end, part_behind};
+use meanings::{front, read_input, say, say_meaning};
 use numbers::Edition;
 use std::io;
 use std::io::Print;
-use storing::Stored;
 
 fn print(to: &impl Print, bytes: &[u8]) -> io::Result<()> {
     to.write_all(bytes)
@@ -30,32 +30,8 @@ fn print_class(to: &impl Print, class: Class) -> io::Result<()> {
     }
 }
 
-fn is_glob(class: Class) -> bool {
-    match class {
-        Class::Exact => false,
-        Class::Escaped => false,
-        Class::NonStar => true,
-        Class::Star => true,
-        Class::All => false,
-    }
-}
-
-fn is_all(class: Class) -> bool {
-    match class {
-        Class::Exact => false,
-        Class::Escaped => false,
-        Class::NonStar => false,
-        Class::Star => false,
-        Class::All => true,
-    }
-}
-
 fn print_answer(to: &impl Print, matched: bool) -> io::Result<()> {
-    if matched {
-        print(to, b" yes\n")
-    } else {
-        print(to, b" no\n")
-    }
+    print(to, if matched { b" yes\n" } else { b" no\n" })
 }
 
 fn print_name(to: &impl Print, class: Class, stored: &[u8], name: &[u8]) -> io::Result<()> {
@@ -63,45 +39,33 @@ fn print_name(to: &impl Print, class: Class, stored: &[u8], name: &[u8]) -> io::
     if !utf8::is_utf8(name) {
         return print(to, b" ! 9\n");
     }
-    if is_all(class) {
-        return print_answer(to, true);
-    }
-    if is_glob(class) {
-        return print_answer(
-            to,
-            glob_match::exports::glob_match_matches(stored, name) == 256,
-        );
-    }
-    print_answer(to, stored == name)
+    let matched = match class {
+        Class::Exact | Class::Escaped => stored == name,
+        Class::NonStar | Class::Star => {
+            glob_match::exports::glob_match_matches(stored, name) == 256
+        }
+        Class::All => true,
+    };
+    print_answer(to, matched)
 }
 
 fn print_names(to: &impl Print, class: Class, stored: &[u8], text: &[u8]) -> io::Result<()> {
-    let mut at = 0;
-    while at < text.len() {
-        let end = line_end(text, at);
-        print_name(to, class, stored, &text[at..end])?;
-        at = end + 1;
+    for line in text.split_inclusive(|b| *b == b'\n') {
+        print_name(to, class, stored, line.strip_suffix(b"\n").unwrap_or(line))?;
     }
     Ok(())
-}
-
-// What stands from a place of s on, or nothing.
-fn behind(s: &[u8], at: usize) -> &[u8] {
-    if at < s.len() {
-        return &s[at..];
-    }
-    &s[..0]
 }
 
 fn print_all(to: &impl Print, err: &impl Print, text: &[u8], room: &mut [u8]) -> io::Result<()> {
     let end = line_end(text, 0);
     match storing::store_token(Edition::Reld, front(text, end), room) {
-        Stored::Refused(no) => refuse(to, err, no),
-        Stored::As(class, n) => {
-            print_class(to, class)?;
-            print(to, front(room, n))?;
+        Err(no) => refuse(to, err, no.number()),
+        Ok(stored) => {
+            let bytes = front(room, stored.size);
+            print_class(to, stored.class)?;
+            print(to, bytes)?;
             print(to, b"\n")?;
-            print_names(to, class, front(room, n), behind(text, end + 1))
+            print_names(to, stored.class, bytes, part_behind(text, end))
         }
     }
 }

@@ -4,3 +4,4 @@ pub mod Limits
 pub mod Marks
 pub mod Refusals
 pub mod Signs
+pub mod Saying

@@ -1,15 +1,15 @@
 -- What the functions on brackets answer, exit by exit, of plain lists and numbers. Assumes nothing.
-use Prim.Native.Nat.{ℕ, suc, ◌+◌, ◌-◌, ◌<◌, ◌≤◌}
+use Prim.Native.Nat.{ℕ, ◌+◌, ◌-◌, ◌<◌, ◌≤◌}
 use mathlib.Core.Path.{◌≡◌, refl, sym, ap, ◌∙◌}
 use mathlib.Core.List.{List, [], ◌∷◌}
-use mathlib.Core.Bool.{Bool, true, false, not, cond, ◌&&◌, ◌||◌, and-false}
+use mathlib.Core.Bool.{Bool, true, false, not, beq, cond, ◌&&◌, ◌||◌, and-false}
 use native.Mathlib.Nat.{add_assoc}
 use native.Mathlib.Decide.{dec_lt, ℕ_discrete}
 use native.Mathlib.Numerals.{add-one}
 use native.Mathlib.Omega.{arith}
-use borrow.Author.Tests.{eq-eqb, ne_eqb, le-leb, lt-leb}
+use borrow.Author.Tests.{ne_eqb, le-leb, lt-leb}
 use lib.ListN.{length, get_or, take, drop, drop_of_length-le, length-take, length-drop}
-use lib.Seq.{drop-cons, drop-drop}
+use lib.Seq.{drop-cons, drop-drop, take_all}
 use lib.Dec.{eqb, leb}
 use Rattle.lists.specs.Each.{any}
 use Rattle.lists.specs.Pieces.{piece, pieces}
@@ -22,7 +22,9 @@ use Rattle.numbers.specs.declared.Edition.{Edition}
 use Rattle.pattern.specs.declared.bracket.MemberAt.{MemberAt}
 use Rattle.pattern.specs.Patterns.{single, range, holds, some_holds, member, inside, between, takes, bracketed, opened}
 use Rattle.pattern.specs.Post.{MemberOk, bracket_told, mark_as, taken}
-use Rattle.pattern.proofs.Bytes.{inside-nil, inside_close, inside-cons, between-chars, behind_chars}
+use Rattle.std.specs.List.{position_or_len}
+use Rattle.std.proofs.lemmas.List.Recursion.{is_position_or_len}
+use Rattle.pattern.proofs.Bytes.{inside-nil, between-chars, behind_chars}
 use Rattle.pattern.proofs.Places.{walk-pieces, number-within, ascii_byte}
 
 -- ---- the mark
@@ -53,39 +55,34 @@ module _ (token : Bool) (s : List ℕ) (at : ℕ) where
       mark_other m = rw (drop-cons s at 0 h, ne_eqb (get_or s at 0) 33 n, ne_eqb (get_or s at 0) 94 m, and-false token)
 
 -- ---- what stands between
--- how many bytes are left before the first `]` from i on
-abbrev left : List ℕ → ℕ → ℕ
-left s i = length (inside (drop i s))
-
--- the scan, which starts behind the first byte, has come to i
-pub record Scanned (s : List ℕ) (from i : ℕ) : Type 0 where
-  pub onward : from < i
-  pub same : from + 1 + left s (from + 1) ≡ i + left s i
-
-pub scan-starts : {s : List ℕ} {from : ℕ} → Scanned s from (from + 1)
-scan-starts = record { onward = omega arith; same = refl }
-
-pub scan-again : {s : List ℕ} {from i : ℕ} → Scanned s from i → i < length s → (get_or s i 0 ≡ 93 → ⊥) → Scanned s from (i + 1)
-scan-again {s} {i = i} inv h n = record { onward = omega arith; same = omega (arith, more) }
+-- before the first `]` stands what is inside
+inside_length : (s : List ℕ) → length (inside s) ≡ position_or_len (λ c. eqb c 93) s
+unfolding inside
+inside_length = is_position_or_len (λ s. length (inside s)) (λ c. eqb c 93) nil cons
   where
-    more : left s i ≡ suc (left s (i + 1))
-    more = rw (add-one i, drop-cons s i 0 h, inside-cons (get_or s i 0) (drop (suc i) s) n)
+    nil : length (inside []) ≡ 0
+    nil = ap length inside-nil
+
+    cons : (c : ℕ) (s : List ℕ) → length (inside (c ∷ s)) ≡ cond (eqb c 93) 0 (1 + length (inside s))
+    cons c s = go (eqb c 93)
+      where
+        go : (t : Bool) → length (cond t [] (c ∷ inside s)) ≡ cond t 0 (1 + length (inside s))
+        go true = refl
+        go false = omega arith
 
 module _ (e : Edition) (s : List ℕ) (from : ℕ) where
   pub between_end : length s ≤ from → 0 ≡ length (between e (drop from s))
   unfolding between
   between_end h = rw (drop_of_length-le s h)
 
-  module _ {i : ℕ} (h : from < length s) (inv : Scanned s from i) where
-    none_left : left s i ≡ 0 → i - from ≡ length (between e (drop from s))
-    unfolding between
-    none_left k = rw (drop-cons s from 0 h, ← add-one from) (omega arith)
-
-    pub scan-closes : i < length s → get_or s i 0 ≡ 93 → i - from ≡ length (between e (drop from s))
-    scan-closes k q = none_left (rw (drop-cons s i 0 k, inside_close (get_or s i 0) (drop (suc i) s) q))
-
-    pub scan-ends : length s ≤ i → i - from ≡ length (between e (drop from s))
-    scan-ends k = none_left (rw (drop_of_length-le s k, inside-nil))
+  -- the first byte, and what stands behind it before a `]`
+  pub between_first : (k : ℕ) → k ≡ position_or_len (λ c. eqb c 93) (take (length s - (from + 1)) (drop (from + 1) s)) → from < length s
+      → 1 + k ≡ length (between e (drop from s))
+  unfolding between
+  between_first k q h =
+      let t : List ℕ = drop (from + 1) s in
+      let w : take (length s - (from + 1)) t ≡ t = take_all (length s - (from + 1)) t (simp length-drop (omega arith)) in
+      rw (drop-cons s from 0 h, ← add-one from) (omega (arith, rw w at q, inside_length t))
 
 -- ---- members
 module _ (e : Edition) (a : ℕ) where
@@ -199,6 +196,13 @@ inside-part (c ∷ s) = go (eqb c 93) (inside-part s)
     go true h = refl
     go false h = rw h
 
+-- what holds is turned round by a mark
+turned : (t b : Bool) → not (beq b t) ≡ cond t (not b) b
+turned true true = refl
+turned true false = refl
+turned false true = refl
+turned false false = refl
+
 -- what stands between is the first part of s
 pub between-part : (e : Edition) (s : List ℕ) → take (length (between e s)) s ≡ between e s
 unfolding between
@@ -234,11 +238,8 @@ module _ (e : Edition) (rest : List ℕ) {from k : ℕ} (p : from ≡ mark_as fa
     unfolding bracket_told
     bracket_is t i = rw (i, bracket-says, q, p)
 
-    pub bracket-negated : from ≡ 1 → record { takes = not b; past = from + k + 1 } ≡ bracket_told e rest x
-    bracket-negated o = bracket_is (not b) (rw (eq-eqb from 1 o))
-
-    pub bracket-plain : (from ≡ 1 → ⊥) → record { takes = b; past = from + k + 1 } ≡ bracket_told e rest x
-    bracket-plain n = bracket_is b (rw (ne_eqb from 1 n))
+    pub bracket_tells : record { takes = not (beq b (eqb from 1)); past = from + k + 1 } ≡ bracket_told e rest x
+    bracket_tells = bracket_is _ (turned (eqb from 1) b)
 
 -- what is told of a bracket, for those who read on behind it
 module _ (e : Edition) (rest : List ℕ) (x : ℕ) where

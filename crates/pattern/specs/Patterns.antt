@@ -3,13 +3,14 @@
 -- what is stored of one (Storing.antt, Runs.antt): `element`, `negated` and `squeezed` take the edition (02, request 06), of which there is one. What matches
 -- what knows elements only.
 -- Assumes nothing.
-use Rattle.std.specs.Prelude.{ℕ, ◌+◌, List, [], ◌∷◌, Bool, true, false, not, cond, ◌&&◌, ◌||◌, length, eqb, leb, ltb}
+use Rattle.std.specs.Prelude.{Result, Ok, Err, ℕ, ◌+◌, List, [], ◌∷◌, Bool, true, false, not, cond, ◌&&◌, ◌||◌, length, eqb, leb, ltb}
 use Rattle.lists.specs.Each.{any}
 use Rattle.lists.specs.Pieces.{Piece, piece, Reader, pieces, sound}
-use Rattle.numbers.specs.Refusals.{bad_pattern, glob_not_utf8}
 use Rattle.numbers.specs.Signs.{asterisk, bang, closing_bracket, dash, opening_bracket, question}
 use Rattle.utf8.specs.Utf8.{chars, utf8}
 use Rattle.numbers.specs.declared.Edition.{Edition}
+use Rattle.numbers.specs.declared.Refusal.{Refusal}
+use Rattle.numbers.specs.declared.Refusal.TheVariants as no
 
 -- ---- brackets
 -- "a range by code point (a falling one is empty), otherwise one is a single member"
@@ -101,10 +102,10 @@ matches (star ∷ p) s = somewhere (matches p) s
 matches (one m ∷ p) s = first (takes m) (matches p) s
 
 -- ---- what is refused
--- 02, request 01: "6 now means an unclosed bracket only", of the characters s; 0 where each is closed
-abbrev pub shape_refusal : Edition → List ℕ → ℕ
-shape_refusal e s = cond (sound (element e) s) 0 bad_pattern
+-- 02, request 01: "6 now means an unclosed bracket only", of the characters s
+abbrev pub shape_refusal : Edition → List ℕ → Result (Unit {0}) Refusal
+shape_refusal e s = cond (sound (element e) s) (Ok tt) (Err no.BadPattern)
 
 -- "glob not UTF-8", then that
-unfoldable pub refusal : Edition → List ℕ → ℕ
-refusal e p = cond (utf8 p) (shape_refusal e (chars p)) glob_not_utf8
+unfoldable pub refusal : Edition → List ℕ → Result (Unit {0}) Refusal
+refusal e p = cond (utf8 p) (shape_refusal e (chars p)) (Err no.GlobNotUtf8)

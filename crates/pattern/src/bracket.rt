@@ -1,5 +1,7 @@
 // Brackets: where one closes, and whether it takes a character.
-ghost use Rattle.std.specs.Prelude.{◌≡◌, ◌+◌, ◌<◌, length, drop};
+ghost use Rattle.std.specs.Prelude.{◌≡◌, ◌+◌, ◌<◌, ◌≤◌, length, drop, nat_eq};
+ghost use Rattle.std.specs.List.{position_or_len};
+ghost use Rattle.numbers.specs.Signs.{closing_bracket};
 ghost use Rattle.lists.specs.Pieces.{pieces};
 ghost use Rattle.utf8.specs.Utf8.{chars};
 ghost use Rattle.pattern.specs.Patterns.{between, member, some_holds};
@@ -11,18 +13,19 @@ use numbers::Edition;
 pub fn mark_at(p: &[u8], at: usize, token: bool) -> usize
     ensures { result ≡ mark_as token (drop at p.now) }
 {
-    if p.len() <= at {
-        return 0;
+    match p.get(at) {
+        Some(b'!') => 1,
+        Some(b'^') if token => 1,
+        _ => 0,
     }
-    if p[at] == b'!' {
-        return 1;
-    }
-    if token {
-        if p[at] == b'^' {
-            return 1;
-        }
-    }
-    0
+}
+
+// How many bytes stand before the first `]`.
+fn before_close(rest: &[u8]) -> usize
+    ensures is { result ≡ position_or_len (λ c. nat_eq c closing_bracket) rest.now }
+    ensures within { result ≤ length rest.now }
+{
+    rest.iter().take_while(|c| **c != b']').count()
 }
 
 // How many bytes stand between, from the place behind `[` or `[!` on: the first never closes, the next `]` does. A `]` is a byte of no longer
@@ -33,17 +36,10 @@ pub fn between_length(edition: Edition, rest: &[u8], from: usize) -> usize
     if rest.len() <= from {
         return 0;
     }
-    let mut i = from + 1;
-    while i < rest.len() {
-        if rest[i] == b']' {
-            return i - from;
-        }
-        i += 1;
-    }
-    i - from
+    1 + before_close(&rest[from + 1..])
 }
 
-// Whether the member at a place takes x, and the place behind it.
+// Whether the member at a place takes x, and the place behind it. No Option: MemberOk tells the place of a member that takes x too.
 #[derive(Clone, Copy)]
 pub struct MemberAt {
     pub holds: bool,
@@ -55,30 +51,21 @@ fn member_at(edition: Edition, body: &[u8], at: usize, x: u32) -> MemberAt
     ensures { MemberOk edition body.now at x result }
 {
     let first = utf8::character_at(body, at);
-    let low = first.number;
-    let dash = first.next;
-    let second = utf8::character_at(body, dash);
-    let end = second.next;
-    if second.number != 45 {
+    let second = utf8::character_at(body, first.next);
+    if second.number != 45 || body.len() <= second.next {
         return MemberAt {
-            holds: low == x,
-            next: dash,
+            holds: first.number == x,
+            next: first.next,
         };
     }
-    if body.len() <= end {
-        return MemberAt {
-            holds: low == x,
-            next: dash,
-        };
-    }
-    let third = utf8::character_at(body, end);
+    let third = utf8::character_at(body, second.next);
     MemberAt {
-        holds: low <= x && x <= third.number,
+        holds: first.number <= x && x <= third.number,
         next: third.next,
     }
 }
 
-// Whether one of the members of what stands between takes x.
+// Whether one of the members of what stands between takes x. A step is a member, of one character or three: no iterator of std has it.
 fn has_member(edition: Edition, body: &[u8], x: u32) -> bool
     ensures { result ≡ some_holds (pieces (member edition) (chars body.now)) x }
 {
@@ -93,7 +80,7 @@ fn has_member(edition: Edition, body: &[u8], x: u32) -> bool
     false
 }
 
-// Whether a bracket takes a character, and the place behind its `]`.
+// Whether a bracket takes a character, and the place behind its `]`. No Option: bracket_told tells the place of one that does not take it too.
 #[derive(Clone, Copy)]
 pub struct Bracket {
     pub takes: bool,
@@ -106,15 +93,8 @@ pub fn bracket_takes(edition: Edition, rest: &[u8], x: u32) -> Bracket
 {
     let from = mark_at(rest, 0, false);
     let end = from + between_length(edition, rest, from);
-    let held = has_member(edition, &rest[from..end], x);
-    if from == 1 {
-        return Bracket {
-            takes: !held,
-            past: end + 1,
-        };
-    }
     Bracket {
-        takes: held,
+        takes: has_member(edition, &rest[from..end], x) != (from == 1),
         past: end + 1,
     }
 }

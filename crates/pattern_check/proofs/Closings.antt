@@ -17,7 +17,7 @@ use Rattle.utf8.specs.Utf8.{read, chars}
 use Rattle.utf8.proofs.Walk.{chars-nil, chars-cons, chars_cons_ascii}
 use Rattle.utf8.proofs.Ascii.{read-high}
 use Rattle.numbers.specs.declared.Edition.{Edition}
-use Rattle.pattern_check.specs.declared.Closing.TheVariants.{Behind, Open}
+use Rattle.std.specs.Prelude.{Some, None}
 use Rattle.pattern.specs.Patterns.{between, opened}
 use Rattle.pattern.specs.Post.{mark_as}
 use Rattle.pattern_check.specs.Post.{chars_as, ClosingOk}
@@ -70,10 +70,10 @@ module _ (p : List ℕ) (at m : ℕ) (token : Bool) (k : m ≡ mark_as token (dr
         ≡ chars_as token false (chars (drop (at + m + x + 1) p))
     behind_at = bytes_behind e token (drop at p) ∙ rw (← k, drop-drop m at p, ← l, drop-drop, add_assoc (at + m) x 1)
 
-    pub stays_open : length p ≤ at + m + x → ClosingOk e p at token Open
+    pub stays_open : length p ≤ at + m + x → ClosingOk e p at token None
     stays_open h = good_at ∙ le-ltb x (length (drop (at + m) p)) (rw length-drop (omega arith))
 
-    pub closes : at + m + x < length p → ClosingOk e p at token (Behind (at + m + x + 1))
+    pub closes : at + m + x < length p → ClosingOk e p at token (Some (at + m + x + 1))
     closes h =
         record {
           onward = omega arith;

@@ -16,8 +16,9 @@ use Rattle.utf8.specs.At.{character_at}
 use Rattle.utf8.specs.declared.Character.{Character}
 use Rattle.utf8.proofs.Walk.{walked, chars_end}
 use Rattle.numbers.specs.declared.Edition.{Edition}
-use Rattle.pattern_check.specs.declared.Closing.{Closing}
-use Rattle.pattern_check.specs.declared.Closing.TheVariants.{Behind, Open}
+use Rattle.std.specs.Prelude.{Option, Some, None, Result, Ok, Err}
+use Rattle.numbers.specs.declared.Refusal.{Refusal}
+use Rattle.numbers.specs.declared.Refusal.TheVariants as no
 use Rattle.pattern.specs.Patterns.{opened, element, refusal}
 use Rattle.pattern.proofs.Runs.{element-star, element_other}
 use Rattle.pattern.specs.Storing.{stored_byte, negated_from, read_as}
@@ -57,10 +58,10 @@ module _ (e : Edition) (p : List ℕ) (token : Bool) where
   abbrev pub Decides : ℕ → Type 0
   Decides at = closed ≡ sound (element e) (chars_as token false (chars (drop at p)))
 
-  abbrev pub Answers : ℕ → Type 0
-  Answers r = r ≡ cond closed 0 6
+  abbrev pub Answers : Result (Unit {0}) Refusal → Type 0
+  Answers r = r ≡ cond closed (Ok tt) (Err no.BadPattern)
 
-  pub walk_ends : (at : ℕ) → Decides at → length p ≤ at → Answers 0
+  pub walk_ends : (at : ℕ) → Decides at → length p ≤ at → Answers (Ok tt)
   walk_ends at d h = rw (d, chars_end p at h, none_stored, sound-nil (element e))
 
   module _ (at : ℕ) (d : Decides at) (f : Character) (q : f ≡ character_at p at) (h : at < length p) where
@@ -73,11 +74,11 @@ module _ (e : Edition) (p : List ℕ) (token : Bool) where
     pub walk-one : (f.number ≡ 91 → ⊥) → Decides f.next
     walk-one n = walk_first ∙ rw (sound-one, ne_eqb f.number 91 n)
 
-    module _ (n : f.number ≡ 91) (o : Closing) (k : ClosingOk e p f.next token o) where
-      pub walk-open : o ≡ Open → Answers 6
+    module _ (n : f.number ≡ 91) (o : Option ℕ) (k : ClosingOk e p f.next token o) where
+      pub walk-open : o ≡ None → Answers (Err no.BadPattern)
       walk-open g = let z : closed ≡ false = walk_first ∙ rw (n, sound-bracket, rw g at k) in rw z
 
-      module _ (to : ℕ) (g : o ≡ Behind to) where
+      module _ (to : ℕ) (g : o ≡ Some to) where
         closes : ClosedOk e p f.next token to
         closes = rw g at k
 
@@ -88,8 +89,8 @@ module _ (e : Edition) (p : List ℕ) (token : Bool) where
         bracket_less = omega (arith, (walked q h).onward, closes.onward)
 
 -- ---- 5, or what the walk answers
-module _ (e : Edition) (p : List ℕ) (token good : Bool) (r : ℕ) (k : good ≡ utf8 p) where
-  pub refuses-bytes : not good ≡ true → r ≡ 5 → r ≡ refusal e (read_as e token p)
+module _ (e : Edition) (p : List ℕ) (token good : Bool) (r : Result (Unit {0}) Refusal) (k : good ≡ utf8 p) where
+  pub refuses-bytes : not good ≡ true → r ≡ Err no.GlobNotUtf8 → r ≡ refusal e (read_as e token p)
   refuses-bytes h q = rw (refusal-read, ← k, not-true good h) q
 
   pub refuses_shape : not good ≡ false → Answers e p token r → r ≡ refusal e (read_as e token p)

@@ -11,7 +11,9 @@ use borrow.Author.Tests.{ne_eqb}
 use lib.Dec.{eqb}
 use Rattle.utf8.specs.Utf8.{chars, utf8}
 use Rattle.utf8.proofs.Changes.{Change, changed, AsciiOnly, chars-changed, utf8-changed}
+use Rattle.std.specs.Prelude.{Err}
 use Rattle.numbers.specs.declared.Edition.{Edition}
+use Rattle.numbers.specs.declared.Refusal.TheVariants as no
 use Rattle.pattern.specs.Patterns.{refusal, shape_refusal}
 use Rattle.pattern.specs.Storing.{stored_byte, negated_from, negated, stored, read_as}
 use Rattle.pattern.proofs.Runs.{chars-squeezed, sound-squeezed, utf8-squeezed}
@@ -59,7 +61,7 @@ module _ (b : Bool) (s : List ℕ) where
   utf8-stored = rw (negated-changed b s) (utf8-changed negation_ascii b s)
 
 -- ---- what is refused of a token that is still to be stored, and of what is stored: runs of stars do not matter
-pub refusal-read : (e : Edition) (token : Bool) (p : List ℕ) → refusal e (read_as e token p) ≡ cond (utf8 p) (shape_refusal e (chars_as token false (chars p))) 5
+pub refusal-read : (e : Edition) (token : Bool) (p : List ℕ) → refusal e (read_as e token p) ≡ cond (utf8 p) (shape_refusal e (chars_as token false (chars p))) (Err no.GlobNotUtf8)
 unfolding refusal stored negated
 refusal-read e true p = rw (utf8-squeezed, chars-squeezed, sound-squeezed, chars-stored, utf8-stored)
 refusal-read e false p = refl

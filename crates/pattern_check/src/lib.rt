@@ -8,58 +8,44 @@ ghost use Rattle.pattern.specs.Patterns.{refusal, shape_refusal};
 ghost use Rattle.pattern.specs.Storing.{read_as};
 ghost use Rattle.pattern_check.specs.Post.{ClosingOk, chars_as};
 
-use numbers::{BAD_PATTERN, Edition, GLOB_NOT_UTF8};
+use numbers::{Edition, Refusal};
 use pattern::bracket::{between_length, mark_at};
 
-// Where the bracket closes whose `[` stands just before a place: the place behind its `]`, or nowhere.
-#[derive(Clone, Copy)]
-pub enum Closing {
-    Behind(usize),
-    Open,
-}
-
-fn closing_of(edition: Edition, p: &[u8], at: usize, token: bool) -> Closing
+// Where the bracket closes whose `[` stands just before a place: the place behind its `]`, if it does.
+fn closing_of(edition: Edition, p: &[u8], at: usize, token: bool) -> Option<usize>
     requires { at ≤ length p.now }
     ensures { ClosingOk edition p.now at token result }
 {
     let from = at + mark_at(p, at, token);
     let end = from + between_length(edition, p, from);
-    if p.len() <= end {
-        return Closing::Open;
-    }
-    Closing::Behind(end + 1)
+    if p.len() <= end { None } else { Some(end + 1) }
 }
 
-// 6, or 0 where the brackets are closed.
-fn shape_refusal(edition: Edition, p: &[u8], token: bool) -> u32
+// Whether the brackets are closed.
+fn shape_refusal(edition: Edition, p: &[u8], token: bool) -> Result<(), Refusal>
     ensures { result ≡ shape_refusal edition (chars_as token false (chars p.now)) }
 {
     let mut at = 0;
     while at < p.len() {
         let f = utf8::character_at(p, at);
-        let next = f.next;
         if f.number != 91 {
-            at = next;
+            at = f.next;
             continue;
         }
-        match closing_of(edition, p, next, token) {
-            Closing::Behind(n) => {
-                at = n;
-            }
-            Closing::Open => {
-                return BAD_PATTERN;
-            }
-        }
+        let Some(behind) = closing_of(edition, p, f.next, token) else {
+            return Err(Refusal::BadPattern);
+        };
+        at = behind;
     }
-    0
+    Ok(())
 }
 
-// 5, 6, or 0 where the pattern is taken; `token` says that p is a token that is still to be stored.
-pub fn pattern_refusal(edition: Edition, p: &[u8], token: bool) -> u32
+// What refuses the pattern; `token` says that p is a token that is still to be stored.
+pub fn pattern_refusal(edition: Edition, p: &[u8], token: bool) -> Result<(), Refusal>
     ensures { result ≡ refusal edition (read_as edition token p.now) }
 {
     if !utf8::is_utf8(p) {
-        return GLOB_NOT_UTF8;
+        return Err(Refusal::GlobNotUtf8);
     }
     shape_refusal(edition, p, token)
 }

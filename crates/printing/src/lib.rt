@@ -1,4 +1,5 @@
-// Numbers and bytes put into a lent buffer, for what the programs print. Definitions: specs/Printing.antt.
+// Numbers and bytes put into a lent buffer, for what the programs print. Definitions: specs/Printing.antt. A place is handed in and the next one answered, and
+// nothing is put by `write!`: no clause of std says when a `write!` into a lent buffer succeeds, and these always do.
 #![tactic(auto)]
 
 ghost use Rattle.std.specs.Prelude.{◌≡◌, ◌+◌, ◌≤◌, length};
@@ -13,7 +14,7 @@ fn places(n: u32) -> usize
     let mut k = 1;
     let mut rest = n / 10;
     while 0 < rest {
-        rest = rest / 10;
+        rest /= 10;
         k += 1;
     }
     k
@@ -25,12 +26,10 @@ pub fn put_number(out: &mut [u8], at: usize, n: u32) -> usize
     ensures { Puts out.old at (decimal n) out.new result }
 {
     let end = at + places(n);
-    let mut i = end;
     let mut rest = n;
-    while at < i {
-        i -= 1;
+    for i in (at..end).rev() {
         out[i] = b'0' + ((rest % 10) as u8);
-        rest = rest / 10;
+        rest /= 10;
     }
     end
 }

@@ -10,7 +10,8 @@ use mir.Syntax.{w8}
 use mir.Val.{Fits}
 use lib.Dec.{ltb}
 use lib.ListN.{length, take, get_or, length-append}
-use lib.Seq.{take-suc}
+use lib.Seq.{take-suc, take_all}
+use native.Mathlib.Nat.{le_refl}
 use Rattle.printing.specs.Printing.{Puts, decimal, spaced, spelled}
 use Rattle.printing.proofs.Pieces.{few-spaced, line_end, puts-both, puts-long, puts-nothing}
 use Rattle.printing_book.specs.Shown.{buffer_shown, numbers_shown}
@@ -54,6 +55,13 @@ few_bytes (suc k) [] f = omega arith
 few_bytes (suc k) (n ∷ l) f =
     omega (arith, length-append (spaced [] n) (numbers_shown (take k l)), few_byte n (f 0), few_bytes k l (λ i. f (suc i)))
 
+-- the same of all of them
+pub all_numbers : (l : List ℕ) → length (numbers_shown l) ≤ 11 * length l
+all_numbers l = rw (take_all (length l) l (le_refl (length l))) at (few-numbers (length l) l)
+
+pub all_bytes : (l : List ℕ) → Bytes l → length (numbers_shown l) ≤ 4 * length l
+all_bytes l f = rw (take_all (length l) l (le_refl (length l))) at (few_bytes (length l) l f)
+
 numbers-append : (xs ys : List ℕ) → numbers_shown (xs ++ ys) ≡ numbers_shown xs ++ numbers_shown ys
 unfolding numbers_shown
 numbers-append [] ys = refl
@@ -81,6 +89,9 @@ module _ {d : List ℕ} {at : ℕ} {l : List ℕ} {n : ℕ} where
     numbers_end h =
         let e : i ≡ n = omega (arith, inv.within) in
         subst (λ (k : ℕ). Puts d at (numbers_shown (take k l)) out end) e inv.put
+
+    pub numbers_all : n ≡ length l → n ≤ i → Puts d at (numbers_shown l) out end
+    numbers_all e h = rw (e, take_all (length l) l (le_refl (length l))) at (numbers_end h)
 
     module _ (h : i < n) where
       -- the room for one more
@@ -123,3 +134,11 @@ module _ (word : List ℕ) (k : ℕ) (l : List ℕ) where
 
   pub few_byte_buffer : Bytes l → length (buffer_shown word (take k l)) ≤ length word + 4 * k + 1
   few_byte_buffer f = omega (arith, long_buffer, few_bytes k l f)
+
+  pub all_buffer : length (buffer_shown word l) ≤ length word + 11 * length l + 1
+  unfolding buffer_shown
+  all_buffer = simp length-append (omega (arith, all_numbers l))
+
+  pub all_byte_buffer : Bytes l → length (buffer_shown word l) ≤ length word + 4 * length l + 1
+  unfolding buffer_shown
+  all_byte_buffer f = simp length-append (omega (arith, all_bytes l f))

@@ -16,7 +16,7 @@ use Rattle.printing.specs.Printing.{Begins, Puts}
 use Rattle.printing.proofs.Pieces.{begins, puts-both}
 use Rattle.printing_book.specs.Shown.{buffer_shown, dump_shown, shown_room}
 use Rattle.printing_book.proofs.Pieces.{Placed, behind, lines_word, names_word, nodes_word, placed, pool_word}
-use Rattle.printing_book.proofs.Numbers.{Bytes, few_buffer, few_byte_buffer}
+use Rattle.printing_book.proofs.Numbers.{Bytes, all_buffer, all_byte_buffer, few_buffer, few_byte_buffer}
 
 -- the parts that a book uses lie within its buffers
 pub record Used (c : Counts) (b : Buffers) : Type 0 where
@@ -50,17 +50,17 @@ module _ (d : List ℕ) (at : ℕ) (word : List ℕ) (n : ℕ) (l : List ℕ) (s
   abbrev both_lines : List ℕ
   both_lines = pair word n l second m bytes
 
-  pub pair_put : {d₁ d₂ : List ℕ} {e r : ℕ} → at + (length word + 11 * n + 1) + (length second + 4 * m + 9) ≤ length d → Bytes bytes
-      → Puts d at (buffer_shown word (take n l)) d₁ e → Puts d₁ e (buffer_shown second (take m bytes)) d₂ r → Puts d at both_lines d₂ r
-  pair_put room f p q =
-      puts-both d at (buffer_shown word (take n l)) (buffer_shown second (take m bytes))
-      (omega (arith, few_buffer word n l, few_byte_buffer second m bytes f)) p q
-
   pub pair-placed : {d₁ : List ℕ} {r : ℕ} → at + (length word + 11 * n + 1) + (length second + 4 * m + 9) ≤ length d → Bytes bytes → Puts d at both_lines d₁ r
       → Placed d at (length word + 11 * n + 1 + (length second + 4 * m + 1)) both_lines d₁ r
   pair-placed room f p =
       let k = length-append (buffer_shown word (take n l)) (buffer_shown second (take m bytes)) in
       placed d at _ both_lines (omega (arith, few_buffer word n l, few_byte_buffer second m bytes f)) (omega (arith, room)) p
+
+pub pair_put : (d : List ℕ) (at : ℕ) (word l second bytes : List ℕ) {d₁ d₂ : List ℕ} {e r : ℕ}
+    → at + (length word + 11 * length l + 1) + (length second + 4 * length bytes + 9) ≤ length d → Bytes bytes
+    → Puts d at (buffer_shown word l) d₁ e → Puts d₁ e (buffer_shown second bytes) d₂ r → Puts d at (buffer_shown word l ++ buffer_shown second bytes) d₂ r
+pair_put d at word l second bytes room f p q =
+    puts-both d at (buffer_shown word l) (buffer_shown second bytes) (omega (arith, all_buffer word 0 l, all_byte_buffer second 0 bytes f)) p q
 
 -- what is known of the book, and of the room in d
 pub record Ready (c : Counts) (b : Buffers) (d : List ℕ) : Type 0 where

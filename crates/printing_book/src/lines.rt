@@ -2,6 +2,7 @@
 // for a book and for room.
 ghost use Rattle.std.specs.Prelude.{◌≡◌, true, ◌+◌, ◌≤◌, ◌<◌, length};
 ghost use Rattle.book.specs.Books.{with_offset};
+ghost use Rattle.book.specs.Lending.{buffers_of};
 ghost use Rattle.book.specs.Layout.{five, line_of};
 ghost use Rattle.book.specs.View.{book_of, holds};
 ghost use Rattle.printing.specs.Printing.{Begins, Puts};
@@ -9,7 +10,8 @@ ghost use Rattle.printing_book.specs.Shown.{fields_shown, line_shown, lines_show
 
 use book::codes::{class_of, language_of, section_of};
 use book::rows::line_bytes;
-use book::{Counts, LINE_WIDTH, STRUCK};
+use book::{LINE_WIDTH, STRUCK};
+use book_check::Held;
 use printing::{put_number, put_spaced, put_text};
 
 // The numbers of a line, a blank before each: its node, class, section and language, its mark, how many bytes it has, and its offset.
@@ -50,36 +52,27 @@ fn put_line(
 }
 
 // The lines of a book.
-pub fn show_lines(
-    c: Counts,
-    nodes: &[u32],
-    names: &[u8],
-    lines: &[u32],
-    pool: &[u8],
-    journal: &[u32],
-    out: &mut [u8],
-) -> usize
-    requires { (shown_room c ≤ length out.old) × (holds c (five nodes.now names.now lines.now pool.now journal.now) ≡ true) }
+pub fn show_lines(book: Held, out: &mut [u8]) -> usize
+    requires { shown_room book.lent.counts ≤ length out.old }
     ensures { Begins out.old
-        (lines_shown 0 (book_of c (five nodes.now names.now lines.now pool.now journal.now)).lines)
+        (lines_shown 0 (book_of book.entry.lent.counts (buffers_of book.entry.lent)).lines)
         out.new result }
 {
+    let lent = book.lent;
     let mut end = 0;
-    let mut i: u32 = 0;
-    while i < c.lines {
+    for i in 0..lent.counts.lines {
         let number = i as usize;
         let row = LINE_WIDTH * number;
-        let bytes = line_bytes(lines, pool, number);
+        let bytes = line_bytes(lent.lines, lent.pool, number);
         end = put_line(
             out,
             end,
             i,
-            lines[row],
-            lines[row + 1],
-            lines[row + 4],
+            lent.lines[row],
+            lent.lines[row + 1],
+            lent.lines[row + 4],
             bytes,
         );
-        i += 1;
     }
     end
 }

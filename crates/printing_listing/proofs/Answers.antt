@@ -3,14 +3,12 @@
 use Prim.Native.Nat.{ℕ, ◌+◌, ◌*◌, ◌-◌, ◌<◌, ◌≤◌}
 use mathlib.Core.Path.{◌≡◌, refl, sym, ap, ◌∙◌}
 use mathlib.Core.List.{List, [], ◌++◌, append_assoc, append-nil}
-use mathlib.Core.Option.{Option}
 use native.Mathlib.Omega.{arith}
 use lib.ListN.{length, take, drop, length-append, length-drop, length-take, drop_of_length-le}
 use lib.Seq.{take_all}
 use Rattle.numbers.specs.Signs.{line_feed}
 use Rattle.lists.specs.Front.{front}
-use Rattle.linker_script.specs.declared.Found.{Found}
-use Rattle.linker_script.specs.declared.Found.TheVariants.{Here, Nowhere}
+use Rattle.std.specs.Prelude.{Option, Some, None}
 use Rattle.linker_script.specs.Finding.{first_from, is}
 use Rattle.linker_script.proofs.Searches.{First, first_within}
 use Rattle.book.specs.Books.{Book}
@@ -27,20 +25,20 @@ use Rattle.printing_symbols.proofs.Fields.{few-fields}
 -- ---- up to the first line feed, and where there is none
 module _ (w : Option Book) where
   -- the answer to a line, and the answers behind it
-  pub line_answered : (s : List ℕ) (at p : ℕ) → first_from (is line_feed) s at ≡ Here p
+  pub line_answered : (s : List ℕ) (at p : ℕ) → first_from (is line_feed) s at ≡ Some p
       → answers w (lines_in [] (drop at s)) ≡ symbol_answered w (take (p - at) (drop at s)) ++ answers w (lines_in [] (drop (p + 1) s))
   unfolding answers
   line_answered s at p e = rw (lines_to_feed s at p e)
 
-  pub last_answered : (s : List ℕ) (at : ℕ) → at < length s → first_from (is line_feed) s at ≡ Nowhere
+  pub last_answered : (s : List ℕ) (at : ℕ) → at < length s → first_from (is line_feed) s at ≡ None
       → answers w (lines_in [] (drop at s)) ≡ symbol_answered w (drop at s)
   unfolding answers
   last_answered s at h e = rw (lines_to_end s at h e, append-nil)
 
   -- ---- an answer has 14 bytes more than its line at most
-  name_few : (t : List ℕ) (f : Found) → length (part_before t f) ≤ length t
-  name_few t (Here p) = omega (arith, length-take p t)
-  name_few t Nowhere = omega arith
+  name_few : (t : List ℕ) (f : Option ℕ) → length (part_before t f) ≤ length t
+  name_few t (Some p) = omega (arith, length-take p t)
+  name_few t None = omega arith
 
   asked_few : (name : List ℕ) (wanted : Option (List ℕ)) → length (asked_line w name wanted) ≤ length name + 14
   unfolding asked_line symbol_line
@@ -91,7 +89,7 @@ module _ {w : Option Book} {s d : List ℕ} {from : ℕ} {l : List ℕ} {at end 
       rw e inv.put
 
   -- the line feed behind the next line
-  module _ {x : Found} (e : x ≡ first_from (is line_feed) s at) {p : ℕ} (f : x ≡ Here p) where
+  module _ {x : Option ℕ} (e : x ≡ first_from (is line_feed) s at) {p : ℕ} (f : x ≡ Some p) where
     line_found : First (is line_feed) s at p
     line_found = first_within (sym e ∙ f)
 
@@ -118,7 +116,7 @@ module _ {w : Option Book} {s d : List ℕ} {from : ℕ} {l : List ℕ} {at end 
     pub last_room : end + length (take (length s - at) (drop at s)) + 48 ≤ length l
     last_room = omega (arith, ample, inv.few, inv.long, length-take (length s - at) (drop at s), length-drop at s)
 
-    pub last_put : {x : Found} → x ≡ first_from (is line_feed) s at → x ≡ Nowhere → {m : List ℕ} {r : ℕ}
+    pub last_put : {x : Option ℕ} → x ≡ first_from (is line_feed) s at → x ≡ None → {m : List ℕ} {r : ℕ}
         → Puts l end (symbol_answered w (take (length s - at) (drop at s))) m r → Puts d from (answers w (lines_in [] s)) m r
     last_put e f p =
         let t : take (length s - at) (drop at s) ≡ drop at s = take_all (length s - at) (drop at s) (omega (arith, length-drop at s)) in
@@ -130,7 +128,7 @@ module _ {w : Option Book} {s d : List ℕ} {from : ℕ} {l : List ℕ} {at end 
         inv.put (rw t at p))
 
   -- the next line, up to its line feed
-  module _ (room : 0 < length s → from + 48 + 15 * length s ≤ length d) {x : Found} (e : x ≡ first_from (is line_feed) s at) {p : ℕ} (f : x ≡ Here p) where
+  module _ (room : 0 < length s → from + 48 + 15 * length s ≤ length d) {x : Option ℕ} (e : x ≡ first_from (is line_feed) s at) {p : ℕ} (f : x ≡ Some p) where
     pub line_room : end + length (take (p - at) (drop at s)) + 48 ≤ length l
     line_room = omega (arith, room (omega (arith, next_within e f)), inv.few, inv.long, line_long e f, (line_found e f).within, (line_found e f).onward)
 

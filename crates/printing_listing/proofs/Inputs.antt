@@ -11,8 +11,7 @@ use lib.ListN.{length, take, drop, length-drop, length-take, drop_of_length-le}
 use lib.Seq.{length-take-le, take_all}
 use Rattle.numbers.specs.Refusals.{too_long}
 use Rattle.lists.specs.Front.{front}
-use Rattle.linker_script.specs.declared.Found.{Found}
-use Rattle.linker_script.specs.declared.Found.TheVariants.{Here, Nowhere}
+use Rattle.std.specs.Prelude.{Option, Some, None}
 use Rattle.book.specs.Layout.{Buffers}
 use Rattle.book_opening.specs.Opening.{as_script, cleared, declined, left, opening}
 use Rattle.input.specs.Splitting.{mark, part_before, symbols_by}
@@ -35,11 +34,11 @@ module _ (text out : ℕ) where
       by false f = sym (lt-leb (48 + 15 * text) out (omega (arith, leb-false text ((out - 48) / 15) f)))
 
 -- ---- the input's parts
-module _ (s : List ℕ) (x : Found) (e : x ≡ mark s) where
-  pub all_script : x ≡ Nowhere → length s ≡ length (part_before s (mark s))
+module _ (s : List ℕ) (x : Option ℕ) (e : x ≡ mark s) where
+  pub all_script : x ≡ None → length s ≡ length (part_before s (mark s))
   all_script f = rw (← e, f)
 
-  pub script_before : (p : ℕ) → x ≡ Here p → p ≡ length (part_before s (mark s))
+  pub script_before : (p : ℕ) → x ≡ Some p → p ≡ length (part_before s (mark s))
   script_before p f = rw (← e, f) (sym (length-take-le p s (omega (arith, mark-within s p (sym e ∙ f)))))
 
 module _ (end text : ℕ) where
@@ -53,9 +52,9 @@ module _ (s : List ℕ) (end : ℕ) (e : end ≡ length (part_before s (mark s))
   pub script-within : end ≤ length s
   script-within = go (mark s) refl e
     where
-      go : (x : Found) → mark s ≡ x → end ≡ length (part_before s x) → end ≤ length s
-      go Nowhere f g = omega arith
-      go (Here p) f g = omega (arith, mark-within s p f, length-take p s)
+      go : (x : Option ℕ) → mark s ≡ x → end ≡ length (part_before s x) → end ≤ length s
+      go None f g = omega arith
+      go (Some p) f g = omega (arith, mark-within s p f, length-take p s)
 
   pub script-count : end ≡ length (take end s)
   script-count = sym (length-take-le end s script-within)
@@ -63,9 +62,9 @@ module _ (s : List ℕ) (end : ℕ) (e : end ≡ length (part_before s (mark s))
   pub script-part : take end s ≡ part_before s (mark s)
   script-part = go (mark s) refl e
     where
-      go : (x : Found) → mark s ≡ x → end ≡ length (part_before s x) → take end s ≡ part_before s x
-      go Nowhere f g = take_all end s (omega arith)
-      go (Here p) f g = ap (λ (n : ℕ). take n s) (g ∙ length-take-le p s (omega (arith, mark-within s p f)))
+      go : (x : Option ℕ) → mark s ≡ x → end ≡ length (part_before s x) → take end s ≡ part_before s x
+      go None f g = take_all end s (omega arith)
+      go (Some p) f g = ap (λ (n : ℕ). take n s) (g ∙ length-take-le p s (omega (arith, mark-within s p f)))
 
   module _ (from : ℕ) (f : from ≡ cond (leb (length s) (end + 3)) (length s) (end + 3)) where
     symbols_at : Dec (end + 3 < length s) → (from ≤ length s) × (drop from s ≡ drop (end + 3) s)
@@ -85,9 +84,9 @@ module _ (s : List ℕ) (end : ℕ) (e : end ≡ length (part_before s (mark s))
     pub symbols-part : take (length s - from) (drop from s) ≡ symbols_by s (mark s)
     symbols-part = symbols_left ∙ go (mark s) refl e
       where
-        go : (x : Found) → mark s ≡ x → end ≡ length (part_before s x) → drop (end + 3) s ≡ symbols_by s x
-        go Nowhere i g = drop_of_length-le s {i = end + 3} (omega arith)
-        go (Here p) i g = ap (λ (n : ℕ). drop (n + 3) s) (g ∙ length-take-le p s (omega (arith, mark-within s p i)))
+        go : (x : Option ℕ) → mark s ≡ x → end ≡ length (part_before s x) → drop (end + 3) s ≡ symbols_by s x
+        go None i g = drop_of_length-le s {i = end + 3} (omega arith)
+        go (Some p) i g = ap (λ (n : ℕ). drop (n + 3) s) (g ∙ length-take-le p s (omega (arith, mark-within s p i)))
 
 -- ---- the exits of `render_listing`: x is whether there is room, and the code asked whether there is none
 module _ (b : Buffers) (s d : List ℕ) (x : Bool) (e : x ≡ leb (48 + 15 * length s) (length d)) where

@@ -3,7 +3,7 @@ use Prim.Native.Nat.{ℕ, ◌+◌, ◌*◌, ◌<◌, ◌≤◌}
 use mathlib.Core.Path.{◌≡◌, refl, sym, ap, ◌∙◌}
 use mathlib.Core.List.{List, [], ◌∷◌, ◌++◌, append-nil}
 use mathlib.Core.Bool.{Bool, true, false, cond}
-use mathlib.Core.Option.{Option, some}
+use Rattle.std.specs.Prelude.{Option, Some}
 use native.Mathlib.Decide.{dec_lt}
 use native.Mathlib.Omega.{arith}
 use borrow.Author.Tests.{ne_eqb}
@@ -22,8 +22,9 @@ use Rattle.book_opening.specs.declared.Opened.{Opened}
 use Rattle.book_opening.specs.Opening.{Opening, as_script, cleared, declined, left, opening, opens, told}
 use Rattle.book_opening.proofs.Refusing.{opening-refuses}
 use Rattle.book_opened.proofs.Opened.{opened-holds}
-use Rattle.counting.specs.declared.Count.{Count}
-use Rattle.counting.specs.declared.Count.TheVariants as count
+use Rattle.std.specs.Prelude.{Result, Ok, Err}
+use Rattle.numbers.specs.declared.Refusal.{Refusal}
+use Rattle.numbers.specs.Saying.{number}
 use Rattle.counting.specs.Questions.{counted, parent_count, version_count}
 use Rattle.input.specs.Splitting.{lines_in}
 use Rattle.printing.specs.Printing.{Begins, Puts, refused_line}
@@ -54,11 +55,11 @@ refused-few : (n : ℕ) → length (refused_line n) ≤ 19
 unfolding refused_line codes
 refused-few n = few-numbered (codes "refused") n
 
-counts_line-few : (x y : Count) → length (counts_line x y) ≤ 36
+counts_line-few : (x y : Result ℕ Refusal) → length (counts_line x y) ≤ 36
 unfolding counts_line codes
-counts_line-few (count.Counted n) (count.Counted m) = simp length-append (omega (arith, few-digits n, few-digits m))
-counts_line-few (count.Counted n) (count.Refused m) = omega (arith, refused-few m)
-counts_line-few (count.Refused n) y = omega (arith, refused-few n)
+counts_line-few (Ok n) (Ok m) = simp length-append (omega (arith, few-digits n, few-digits m))
+counts_line-few (Ok n) (Err e) = omega (arith, refused-few (number e))
+counts_line-few (Err e) y = omega (arith, refused-few (number e))
 
 counts-few : (w : Option Book) → length (counts_answered w) ≤ 36
 unfolding counts_answered
@@ -108,12 +109,12 @@ module _ (w : Option Book) (symbols d : List ℕ) (room : 48 ≤ length d) where
 -- ---- a script's opening: a refusal other than 0, or a book that the buffers hold
 module _ (b : Buffers) (s : List ℕ) (x : Opened) (e : x ≡ told (opening as_script b s)) where
   pub script-opens : x.refusal ≡ 0 → (b' : Buffers) → b' ≡ left b (opening as_script b s)
-      → (w : Book) × ((opening as_script b s ≡ opens w) × (view x.counts b' ≡ some w))
+      → (w : Book) × ((opening as_script b s ≡ opens w) × (view x.counts b' ≡ Some w))
   unfolding told left
   script-opens h b' k = go (opening as_script b s) refl e k
     where
       go : (o : Opening) → opening as_script b s ≡ o → x ≡ told o → b' ≡ left b o
-          → (w : Book) × ((opening as_script b s ≡ opens w) × (view x.counts b' ≡ some w))
+          → (w : Book) × ((opening as_script b s ≡ opens w) × (view x.counts b' ≡ Some w))
       go (opens w) f g j = (w, (f, rw (j, ap (λ (y : Opened). y.counts) g) (opened-holds as_script b s w refl f)))
       go (declined n p) f g j =
           let z : x.refusal ≡ n = ap (λ (y : Opened). y.refusal) g in

@@ -1,6 +1,5 @@
 -- What verlist prints for a script and its symbols' lines, as 01 has it, and what is told of it. Assumes nothing.
-use Rattle.std.specs.Prelude.{ℕ, ◌≡◌, List, [], ◌++◌, cond, eqb, length}
-use Rattle.std.proofs.Math.Option.{Option, some}
+use Rattle.std.specs.Prelude.{ℕ, ◌≡◌, List, [], ◌++◌, cond, eqb, length, Option, Some}
 use Rattle.lists.specs.Front.{front}
 use Rattle.book.specs.Books.{Book}
 use Rattle.book.specs.Layout.{Buffers}
@@ -17,7 +16,7 @@ book_printed w symbols = counts_answered w ++ answers w (lines_in [] symbols)
 
 -- "or `refused` and the number for the script"
 unfoldable pub printed : Opening → List ℕ → List ℕ
-printed (opens w) symbols = book_printed (some w) symbols
+printed (opens w) symbols = book_printed (Some w) symbols
 printed (declined n p) symbols = refused_line n
 
 -- what is printed, by what is told of an opening: its refusal, or 0, and the book that the buffers hold then

@@ -1,6 +1,5 @@
 -- The answers to the symbols' lines of verlist's input, as 01 has them. Assumes nothing.
-use Rattle.std.specs.Prelude.{ℕ, List, [], ◌∷◌, ◌++◌}
-use Rattle.std.proofs.Math.Option.{Option}
+use Rattle.std.specs.Prelude.{ℕ, List, [], ◌∷◌, ◌++◌, Option}
 use Rattle.book.specs.Books.{Book}
 use Rattle.printing_symbols.specs.Lines.{symbol_answered}
 

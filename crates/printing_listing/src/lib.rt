@@ -8,7 +8,6 @@ ghost use Rattle.printing_listing.specs.Listing.{Lists, nothing_listed, room_for
 
 use crate::script::{Listed, render_script, render_too_long};
 use input::splitting::find_mark;
-use linker_script::Found;
 use numbers::NO_ROOM;
 use printing_symbols::TAIL_ROOM;
 
@@ -44,8 +43,8 @@ pub fn script_end(text: &[u8]) -> usize
     ensures { result ≡ length (part_before text.now (mark text.now)) }
 {
     match find_mark(text) {
-        Found::Nowhere => text.len(),
-        Found::Here(p) => p,
+        None => text.len(),
+        Some(p) => p,
     }
 }
 

@@ -3,6 +3,7 @@
 ghost use Rattle.std.specs.Prelude.{◌≡◌, true, ◌+◌, ◌*◌, ◌<◌, ◌≤◌, length};
 ghost use Rattle.numbers.specs.Refusals.{too_long};
 ghost use Rattle.lists.specs.Front.{front};
+ghost use Rattle.book.specs.Lending.{holds_book, view_of};
 ghost use Rattle.book.specs.Layout.{five};
 ghost use Rattle.book.specs.View.{holds, view};
 ghost use Rattle.book_opening.specs.Opening.{as_script, cleared, declined, opening};
@@ -11,7 +12,8 @@ ghost use Rattle.printing_listing.specs.Script.{Prints, opened_printed, with_ref
 ghost use Rattle.printing_symbols.specs.Lines.{tail_room, byte_room, counts_room};
 
 use crate::symbols::render_symbols;
-use book::Counts;
+use book::lent::Lent;
+use book_check::Held;
 use numbers::TOO_LONG;
 use packing::{clear_bytes, clear_numbers};
 use printing::put_refused_line;
@@ -63,28 +65,18 @@ pub fn render_too_long(
 }
 
 // What is printed behind an opening: the refusal's line, or the book's counts and its symbols' lines. Answers how many bytes that are.
-fn render_opened(
-    refusal: u32,
-    c: Counts,
-    nodes: &[u32],
-    names: &[u8],
-    lines: &[u32],
-    pool: &[u8],
-    journal: &[u32],
-    symbols: &[u8],
-    out: &mut [u8],
-) -> usize
+fn render_opened(refusal: u32, book: Lent, symbols: &[u8], out: &mut [u8]) -> usize
     requires { (tail_room ≤ length out.old) × (0 < length symbols.now → counts_room + tail_room + byte_room * length symbols.now ≤ length out.old)
-        × (refusal ≡ 0 → holds c (five nodes.now names.now lines.now pool.now journal.now) ≡ true) }
+        × (refusal ≡ 0 → holds_book book ≡ true) }
     ensures { Begins out.old
-        (opened_printed refusal (view c (five nodes.now names.now lines.now pool.now journal.now))
+        (opened_printed refusal (view_of book.entry)
         symbols.now) out.new result }
 {
     if refusal != 0 {
         return put_refused_line(out, refusal);
     }
-    let from = render_counts(c, nodes, names, lines, pool, journal, out);
-    render_symbols(c, nodes, names, lines, pool, journal, symbols, from, out)
+    let from = render_counts(book, out);
+    render_symbols(Held { lent: book }, symbols, from, out)
 }
 
 // A script and its symbols' lines.
@@ -104,17 +96,15 @@ pub fn render_script(
         (five nodes.new names.new lines.new pool.new journal.new) }
 {
     let opened = open(script, nodes, names, lines, pool, journal);
-    let length = render_opened(
-        opened.refusal,
-        opened.counts,
+    let book = Lent {
+        counts: opened.counts,
         nodes,
         names,
         lines,
         pool,
         journal,
-        symbols,
-        out,
-    );
+    };
+    let length = render_opened(opened.refusal, book, symbols, out);
     Listed {
         length,
         refusal: opened.refusal,

@@ -6,70 +6,53 @@ use native.Mathlib.Omega.{arith}
 use lib.ListN.{length, length-append}
 use Rattle.numbers.specs.Signs.{space}
 use Rattle.lists.specs.Texts.{codes}
-use Rattle.lookups.specs.declared.answers.Version.{Version}
-use Rattle.lookups.specs.declared.answers.Version.TheVariants as version
+use Rattle.std.specs.Prelude.{Option, Some, None, Ok, Err}
+use Rattle.numbers.specs.declared.Refusal.{Refusal}
+use Rattle.numbers.specs.Saying.{number}
+use Rattle.lookups.specs.Lookups.{LocalityAnswer, VersionAnswer}
 use Rattle.lookups.specs.declared.index.VersionIndex.{VersionIndex}
 use Rattle.lookups.specs.declared.answers.Locality.{Locality}
 use Rattle.lookups.specs.declared.answers.Locality.TheVariants as locality
-use Rattle.printing.specs.Printing.{Begins, Puts, decimal, refused_fields}
-use Rattle.printing_symbols.specs.Lines.{fields, index_field, symbol_line, with_locality}
+use Rattle.printing.specs.Printing.{Begins, Puts, refused_fields}
+use Rattle.printing_symbols.specs.Lines.{fields, index_field, locality_field, symbol_line}
 use Rattle.printing.proofs.Digits.{few-digits}
 use Rattle.printing.proofs.Pieces.{begins, few-refused, line_end, puts-both, puts-long}
 
 -- ---- the fields behind a name
-with_few : (xs : List ℕ) (l : Locality) → length xs ≤ 10 → length (with_locality xs l) ≤ 12
-unfolding with_locality codes
-with_few xs locality.Global h = simp length-append (omega arith)
-with_few xs locality.Local h = simp length-append (omega arith)
-with_few xs locality.Nothing h = simp length-append (omega arith)
-with_few xs (locality.Refused n) h = few-refused n
+pub few-index : (v : Option VersionIndex) → length (index_field v) ≤ 10
+unfolding index_field
+few-index (Some i) = few-digits i.0
+few-index None = omega arith
 
-pub few-fields : (v : Version) (l : Locality) → length (fields v l) ≤ 12
-unfolding fields index_field
-few-fields (version.Index i) l = with_few (decimal i.0) l (few-digits i.0)
-few-fields version.Unversioned l = with_few (45 ∷ []) l (omega arith)
-few-fields (version.Refused n) l = few-refused n
+few-locality : (l : Option Locality) → length (locality_field l) ≤ 2
+unfolding locality_field codes
+few-locality (Some locality.Global) = omega arith
+few-locality (Some locality.Local) = omega arith
+few-locality None = omega arith
 
-module _ (d : List ℕ) (at : ℕ) {v : Version} (l : Locality) {d₁ : List ℕ} {r : ℕ} where
-  pub version-refused : {n : ℕ} → v ≡ version.Refused n → Puts d at (refused_fields n) d₁ r → Puts d at (fields v l) d₁ r
+pub few-fields : (v : VersionAnswer) (l : LocalityAnswer) → length (fields v l) ≤ 12
+unfolding fields
+few-fields (Ok v) (Ok l) = omega (arith, length-append (index_field v) (locality_field l), few-index v, few-locality l)
+few-fields (Ok v) (Err e) = few-refused (number e)
+few-fields (Err e) l = few-refused (number e)
+
+module _ (d : List ℕ) (at : ℕ) {v : VersionAnswer} (l : LocalityAnswer) {d₁ : List ℕ} {r : ℕ} where
+  pub version-refused : {e : Refusal} → v ≡ Err e → Puts d at (refused_fields (number e)) d₁ r → Puts d at (fields v l) d₁ r
   unfolding fields
-  version-refused e p = rw e p
+  version-refused f p = rw f p
 
-  pub unversioned_refused : {n : ℕ} → v ≡ version.Unversioned → l ≡ locality.Refused n → Puts d at (refused_fields n) d₁ r → Puts d at (fields v l) d₁ r
-  unfolding fields with_locality
-  unversioned_refused e f p = rw (e, f) p
+  module _ {i : Option VersionIndex} (f : v ≡ Ok i) where
+    pub locality-refused : {e : Refusal} → l ≡ Err e → Puts d at (refused_fields (number e)) d₁ r → Puts d at (fields v l) d₁ r
+    unfolding fields
+    locality-refused g p = rw (f, g) p
 
-  pub index-refused : {i : VersionIndex} {n : ℕ} → v ≡ version.Index i → l ≡ locality.Refused n → Puts d at (refused_fields n) d₁ r → Puts d at (fields v l) d₁ r
-  unfolding fields with_locality
-  index-refused e f p = rw (e, f) p
-
-  pub unversioned_global : v ≡ version.Unversioned → l ≡ locality.Global → Puts d at (45 ∷ 32 ∷ 71 ∷ []) d₁ r → Puts d at (fields v l) d₁ r
-  unfolding fields with_locality index_field codes
-  unversioned_global e f p = rw (e, f) p
-
-  pub unversioned_local : v ≡ version.Unversioned → l ≡ locality.Local → Puts d at (45 ∷ 32 ∷ 76 ∷ []) d₁ r → Puts d at (fields v l) d₁ r
-  unfolding fields with_locality index_field codes
-  unversioned_local e f p = rw (e, f) p
-
-  pub unversioned_nothing : v ≡ version.Unversioned → l ≡ locality.Nothing → Puts d at (45 ∷ 32 ∷ 45 ∷ []) d₁ r → Puts d at (fields v l) d₁ r
-  unfolding fields with_locality index_field codes
-  unversioned_nothing e f p = rw (e, f) p
-
-  module _ {i : VersionIndex} (e : v ≡ version.Index i) where
-    pub index-global : l ≡ locality.Global → Puts d at (decimal i.0 ++ (32 ∷ 71 ∷ [])) d₁ r → Puts d at (fields v l) d₁ r
-    unfolding fields with_locality index_field codes
-    index-global f p = rw (e, f) p
-
-    pub index-local : l ≡ locality.Local → Puts d at (decimal i.0 ++ (32 ∷ 76 ∷ [])) d₁ r → Puts d at (fields v l) d₁ r
-    unfolding fields with_locality index_field codes
-    index-local f p = rw (e, f) p
-
-    pub index-nothing : l ≡ locality.Nothing → Puts d at (decimal i.0 ++ (32 ∷ 45 ∷ [])) d₁ r → Puts d at (fields v l) d₁ r
-    unfolding fields with_locality index_field codes
-    index-nothing f p = rw (e, f) p
+    pub fields-told : {o : Option Locality} {d₀ : List ℕ} {a : ℕ} → at + 14 ≤ length d → l ≡ Ok o → Puts d at (index_field i) d₀ a
+        → Puts d₀ a (locality_field o) d₁ r → Puts d at (fields v l) d₁ r
+    unfolding fields
+    fields-told {o} room g p q = rw (f, g) (puts-both d at (index_field i) (locality_field o) (omega (arith, few-index i, few-locality o)) p q)
 
 -- ---- a symbol's line
-pub symbol_line-put : (d name : List ℕ) (v : Version) (l : Locality) {d₁ d₂ d₃ d₄ : List ℕ} {a b c r : ℕ} → length name + 48 ≤ length d
+pub symbol_line-put : (d name : List ℕ) (v : VersionAnswer) (l : LocalityAnswer) {d₁ d₂ d₃ d₄ : List ℕ} {a b c r : ℕ} → length name + 48 ≤ length d
     → Puts d 0 name d₁ a → Puts d₁ a (space ∷ []) d₂ b → Puts d₂ b (fields v l) d₃ c → Puts d₃ c line_end d₄ r → Begins d (symbol_line name v l) d₄ r
 unfolding symbol_line
 symbol_line-put d name v l {d₁} {d₂} {d₄ = d₄} {a} {b} {r = r} room p q s t =

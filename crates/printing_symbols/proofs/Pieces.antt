@@ -5,7 +5,7 @@ use mathlib.Core.List.{List, [], ◌∷◌, ◌++◌}
 use native.Mathlib.Omega.{arith}
 use lib.ListN.{length, length-append}
 use Rattle.lists.specs.Texts.{codes}
-use Rattle.counting.specs.declared.Count.TheVariants as count
+use Rattle.std.specs.Prelude.{Ok}
 use Rattle.printing.specs.Printing.{Begins, Puts, decimal}
 use Rattle.printing_symbols.specs.Lines.{counts_line}
 use Rattle.printing.proofs.Digits.{few-digits}
@@ -21,7 +21,7 @@ parents_word = 32 ∷ 112 ∷ 97 ∷ 114 ∷ 101 ∷ 110 ∷ 116 ∷ 115 ∷ 32 
 module _ (d : List ℕ) where
   pub counts_line-put : (n m : ℕ) {d₁ d₂ d₃ d₄ d₅ : List ℕ} {a b c e r : ℕ} → 36 ≤ length d
       → Puts d 0 nodes_word d₁ a → Puts d₁ a (decimal n) d₂ b → Puts d₂ b parents_word d₃ c → Puts d₃ c (decimal m) d₄ e → Puts d₄ e line_end d₅ r
-      → Begins d (counts_line (count.Counted n) (count.Counted m)) d₅ r
+      → Begins d (counts_line (Ok n) (Ok m)) d₅ r
   unfolding counts_line codes
   counts_line-put n m {d₁} {d₂} {d₃} {d₅ = d₅} {a} {b} {c} {r = r} room p q s t u =
       let w : a ≡ 6 = p.0 in
@@ -39,5 +39,5 @@ module _ (d : List ℕ) where
       let l₂ = length-append (decimal n) (parents_word ++ (decimal m ++ line_end)) in
       let y₂ : Puts d₁ a (decimal n ++ (parents_word ++ (decimal m ++ line_end))) d₅ r =
       puts-both d₁ a (decimal n) (parents_word ++ (decimal m ++ line_end)) (omega arith) q y₃ in
-      begins d (counts_line (count.Counted n) (count.Counted m))
+      begins d (counts_line (Ok n) (Ok m))
       (puts-both d 0 nodes_word (decimal n ++ (parents_word ++ (decimal m ++ line_end))) (omega arith) p y₂)

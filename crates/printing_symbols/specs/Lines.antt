@@ -1,51 +1,48 @@
 -- The lines that verlist prints, as 01 has them, and the room that they take. A number in decimal, `! N` and `refused N` are printing's. Assumes nothing.
-use Rattle.std.specs.Prelude.{ℕ, List, [], ◌∷◌, ◌++◌}
-use Rattle.std.proofs.Math.Option.{Option}
+use Rattle.std.specs.Prelude.{ℕ, List, [], ◌∷◌, ◌++◌, Option, Some, None, Result, Ok, Err}
 use Rattle.numbers.specs.Signs.{dash, line_feed, space}
 use Rattle.lists.specs.Texts.{codes}
 use Rattle.book.specs.Books.{Book}
 use Rattle.ranking.specs.Matching.{plain}
-use Rattle.counting.specs.declared.Count.{Count}
-use Rattle.counting.specs.declared.Count.TheVariants as count
-use Rattle.lookups.specs.declared.answers.Version.{Version}
-use Rattle.lookups.specs.declared.answers.Version.TheVariants as version
+use Rattle.numbers.specs.declared.Refusal.{Refusal}
+use Rattle.numbers.specs.Saying.{number}
+use Rattle.lookups.specs.declared.index.VersionIndex.{VersionIndex}
 use Rattle.lookups.specs.declared.answers.Locality.{Locality}
 use Rattle.lookups.specs.declared.answers.Locality.TheVariants as locality
 use Rattle.counting.specs.Questions.{counted, parent_count, version_count}
-use Rattle.lookups.specs.Lookups.{locality_asked, version_asked}
+use Rattle.lookups.specs.Lookups.{LocalityAnswer, VersionAnswer, locality_asked, version_asked}
 use Rattle.printing.specs.Printing.{decimal, refused_fields, refused_line}
 use Rattle.input.specs.Splitting.{name_part, wanted_part}
 
 -- ---- "It prints version and parent counts"; where they are refused, as the script is. Behind an opening they are not: it leaves a book of a kind that has
 -- these counts. The cases stand here because the functions answer any buffers, an export list and buffers without a book too
-unfoldable pub counts_line : Count → Count → List ℕ
-counts_line (count.Counted n) (count.Counted p) = codes "nodes " ++ (decimal n ++ (codes " parents " ++ (decimal p ++ line_feed ∷ [])))
-counts_line (count.Counted n) (count.Refused m) = refused_line m
-counts_line (count.Refused m) p = refused_line m
+unfoldable pub counts_line : Result ℕ Refusal → Result ℕ Refusal → List ℕ
+counts_line (Ok n) (Ok p) = codes "nodes " ++ (decimal n ++ (codes " parents " ++ (decimal p ++ line_feed ∷ [])))
+counts_line (Ok n) (Err e) = refused_line (number e)
+counts_line (Err e) p = refused_line (number e)
 
 unfoldable pub counts_answered : Option Book → List ℕ
 counts_answered w = counts_line (counted version_count w) (counted parent_count w)
 
 -- ---- "then the name before any `@`, index or `-`, and G, L or `-`; a refusal prints `!` and its number for these two fields"
-unfoldable pub index_field : Version → List ℕ
-index_field (version.Index i) = decimal i.0
-index_field version.Unversioned = dash ∷ []
-index_field (version.Refused n) = refused_fields n
+unfoldable pub index_field : Option VersionIndex → List ℕ
+index_field (Some i) = decimal i.0
+index_field None = dash ∷ []
 
--- behind the index. Of one book and one name no locality is refused where the version is not, so the refused case does not occur: it is here because the fields
--- are those of any version and any locality
-unfoldable pub with_locality : List ℕ → Locality → List ℕ
-with_locality index locality.Global = index ++ codes " G"
-with_locality index locality.Local = index ++ codes " L"
-with_locality index locality.Nothing = index ++ codes " -"
-with_locality index (locality.Refused n) = refused_fields n
+-- behind the index
+unfoldable pub locality_field : Option Locality → List ℕ
+locality_field (Some locality.Global) = codes " G"
+locality_field (Some locality.Local) = codes " L"
+locality_field None = codes " -"
 
-unfoldable pub fields : Version → Locality → List ℕ
-fields (version.Index i) l = with_locality (index_field (version.Index i)) l
-fields version.Unversioned l = with_locality (index_field version.Unversioned) l
-fields (version.Refused n) l = refused_fields n
+-- of one book and one name no locality is refused where the version is not, so that case does not occur: it is here because the fields are those of any version
+-- and any locality
+unfoldable pub fields : VersionAnswer → LocalityAnswer → List ℕ
+fields (Ok v) (Ok l) = index_field v ++ locality_field l
+fields (Ok v) (Err e) = refused_fields (number e)
+fields (Err e) l = refused_fields (number e)
 
-unfoldable pub symbol_line : List ℕ → Version → Locality → List ℕ
+unfoldable pub symbol_line : List ℕ → VersionAnswer → LocalityAnswer → List ℕ
 symbol_line name v l = name ++ space ∷ (fields v l ++ line_feed ∷ [])
 
 -- "the demangled name is the raw one": a name, and a wanted version, where there is one, asked of a book

@@ -3,13 +3,14 @@
 #![tactic(auto)]
 
 ghost use Rattle.std.specs.Prelude.{◌≤◌, length};
+ghost use Rattle.book.specs.Lending.{view_of};
 ghost use Rattle.book.specs.Layout.{five};
 ghost use Rattle.book.specs.View.{view};
 ghost use Rattle.printing.specs.Printing.{Begins};
 ghost use Rattle.printing_symbols.specs.Lines.{counts_answered, counts_line, counts_room};
 
-use book::Counts;
-use counting::{Count, parent_count, version_count};
+use book::lent::Lent;
+use counting::{parent_count, version_count};
 use printing::{put_number, put_refused_line, put_text};
 
 pub mod symbols;
@@ -19,7 +20,7 @@ pub const TAIL_ROOM: usize = 48;
 
 fn put_counts_line(out: &mut [u8], n: u32, p: u32) -> usize
     requires { counts_room ≤ length out.old }
-    ensures { Begins out.old (counts_line (Count.Counted n) (Count.Counted p)) out.new result }
+    ensures { Begins out.old (counts_line (Ok n) (Ok p)) out.new result }
 {
     let a = put_text(out, 0, b"nodes ");
     let b = put_number(out, a, n);
@@ -29,25 +30,17 @@ fn put_counts_line(out: &mut [u8], n: u32, p: u32) -> usize
 }
 
 // The version and parent counts of a book.
-pub fn render_counts(
-    c: Counts,
-    nodes: &[u32],
-    names: &[u8],
-    lines: &[u32],
-    pool: &[u8],
-    journal: &[u32],
-    out: &mut [u8],
-) -> usize
+pub fn render_counts(book: Lent, out: &mut [u8]) -> usize
     requires { counts_room ≤ length out.old }
     ensures { Begins out.old
-        (counts_answered (view c (five nodes.now names.now lines.now pool.now journal.now)))
+        (counts_answered (view_of book.entry))
         out.new result }
 {
-    match version_count(c, nodes, names, lines, pool, journal) {
-        Count::Refused(no) => put_refused_line(out, no),
-        Count::Counted(n) => match parent_count(c, nodes, names, lines, pool, journal) {
-            Count::Refused(no) => put_refused_line(out, no),
-            Count::Counted(p) => put_counts_line(out, n, p),
+    match version_count(book) {
+        Err(no) => put_refused_line(out, no.number()),
+        Ok(n) => match parent_count(book) {
+            Err(no) => put_refused_line(out, no.number()),
+            Ok(p) => put_counts_line(out, n, p),
         },
     }
 }

@@ -4,7 +4,7 @@ use Prim.Native.Nat.{ℕ, ◌+◌, ◌≤◌}
 use mathlib.Core.Path.{◌≡◌, refl, sym, ap, ◌∙◌}
 use mathlib.Core.List.{List}
 use mathlib.Core.Bool.{Bool, true, false, cond}
-use mathlib.Core.Option.{Option, some, none}
+use Rattle.std.specs.Prelude.{Option, Some, None}
 use native.Mathlib.Omega.{arith}
 use lib.Dec.{eqb, ltb}
 use lib.ListN.{length, drop}
@@ -37,7 +37,7 @@ module _ (t symbol : List ℕ) (a : symbol ≡ part_before t (first_from (is tab
     raw-short = omega (arith, ap length a, ap length b, part-short t tab, part-short symbol at_sign)
 
     -- the version that is wanted
-    version_is : asked_version t ≡ cond (ltb (length raw) (length symbol)) (some (drop (length raw + 1) symbol)) none
+    version_is : asked_version t ≡ cond (ltb (length raw) (length symbol)) (Some (drop (length raw + 1) symbol)) None
     unfolding wanted_part
     version_is = ap wanted_part (sym symbol_is) ∙ (wanted_is symbol at_sign ∙ rw (← b))
 
@@ -51,8 +51,8 @@ module _ (t symbol : List ℕ) (a : symbol ≡ part_before t (first_from (is tab
     unfolding book_of
     version-told c b h has d v e = rw ((held-book c b h).viewed, d, e, version_is) (go (eqb c.kind export))
       where
-        go : (x : Bool) → cond (cond x false (ltb (length raw) (length symbol))) (some (drop (length raw + 1) symbol)) none
-            ≡ cond x none (cond (ltb (length raw) (length symbol)) (some (drop (length raw + 1) symbol)) none)
+        go : (x : Bool) → cond (cond x false (ltb (length raw) (length symbol))) (Some (drop (length raw + 1) symbol)) None
+            ≡ cond x None (cond (ltb (length raw) (length symbol)) (Some (drop (length raw + 1) symbol)) None)
         go true = refl
         go false = refl
 

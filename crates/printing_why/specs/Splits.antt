@@ -1,6 +1,5 @@
 -- A symbol's line of `why` and of the release desk, `NAME[@VERSION]`, or `NAME[@VERSION]<TAB>DEMANGLED`: what is asked. Assumes nothing.
-use Rattle.std.specs.Prelude.{ℕ, List, cond, eqb}
-use Rattle.std.proofs.Math.Option.{Option, some, none}
+use Rattle.std.specs.Prelude.{ℕ, List, cond, eqb, Option, Some, None}
 use Rattle.book.specs.Books.{Book, export}
 use Rattle.ranking.specs.Matching.{Name, name_of}
 use Rattle.input.specs.Splitting.{demangled_part, name_part, symbol_part, wanted_part}
@@ -18,5 +17,5 @@ asked_version t = wanted_part (symbol_part t)
 
 -- of an export list no version is asked, as with `ask`
 abbrev pub version_for : Option Book → List ℕ → Option (List ℕ)
-version_for (some w) t = cond (eqb w.kind export) none (asked_version t)
-version_for none t = asked_version t
+version_for (Some w) t = cond (eqb w.kind export) None (asked_version t)
+version_for None t = asked_version t

@@ -1,6 +1,6 @@
 -- The line that is printed for a symbol, request 03: "prints the deciding line's number, class, node, section, language and offset, or that no line matches".
 -- The script s is the text that was opened. Assumes nothing.
-use Rattle.std.specs.Prelude.{ℕ, ◌-◌, List, [], ◌∷◌, ◌++◌, cond, eqb}
+use Rattle.std.specs.Prelude.{ℕ, ◌-◌, List, [], ◌∷◌, ◌++◌, cond, eqb, Ok, Err}
 use Rattle.numbers.specs.Classes.{escaped_class, exact_class, nonstar_class, star_class}
 use Rattle.numbers.specs.Marks.{general, global}
 use Rattle.numbers.specs.Signs.{line_feed, space}
@@ -8,8 +8,9 @@ use Rattle.lists.specs.Texts.{codes}
 use Rattle.book.specs.Books.{Node}
 use Rattle.book.specs.Sanity.{name_at}
 use Rattle.reasons.specs.declared.Reason.{Reason}
-use Rattle.reasons.specs.declared.Why.{Why}
 use Rattle.reasons.specs.declared.Why.TheVariants as why
+use Rattle.reasons.specs.Why.{WhyAnswer}
+use Rattle.numbers.specs.Saying.{number}
 use Rattle.input.specs.declared.positions.Position.{Position}
 use Rattle.input.specs.Positions.{position}
 use Rattle.printing.specs.Printing.{decimal, refused_fields, spaced}
@@ -56,17 +57,17 @@ unfoldable pub reason_told : List ℕ → List ℕ → Reason → List ℕ
 reason_told s t r = head_told r ++ (name_told t ++ (marks_told r ++ offset_told s r))
 
 -- ---- what stands behind a name: the line, or that none matches; "It says "wanted version" when the `@` part decided"; a refusal as verlist prints it
-unfoldable pub why_fields : List ℕ → List Node → Why → List ℕ
-why_fields s xs (why.Line r) = reason_told s (name_at xs r.node) r
-why_fields s xs why.NoLine = codes "no line"
-why_fields s xs why.Wanted = codes "wanted version"
-why_fields s xs (why.Refused n) = refused_fields n
+unfoldable pub why_fields : List ℕ → List Node → WhyAnswer → List ℕ
+why_fields s xs (Ok (why.Line r)) = reason_told s (name_at xs r.node) r
+why_fields s xs (Ok why.NoLine) = codes "no line"
+why_fields s xs (Ok why.Wanted) = codes "wanted version"
+why_fields s xs (Err e) = refused_fields (number e)
 
 -- a name and what stands behind it, as a line
 abbrev pub answer_line : List ℕ → List ℕ → List ℕ
 answer_line name fields = name ++ space ∷ (fields ++ line_feed ∷ [])
 
-unfoldable pub why_line : List ℕ → List Node → List ℕ → Why → List ℕ
+unfoldable pub why_line : List ℕ → List Node → List ℕ → WhyAnswer → List ℕ
 why_line s xs name y = answer_line name (why_fields s xs y)
 
 -- ---- the room of a lent buffer: all but a name and a node's name is at most 128 bytes

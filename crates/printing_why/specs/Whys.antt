@@ -1,6 +1,5 @@
 -- What is printed for the lines of symbols that a book is asked for, and by the program `why` for a whole input. Assumes nothing.
-use Rattle.std.specs.Prelude.{ℕ, ◌≡◌, List, [], ◌∷◌, ◌++◌, length}
-use Rattle.std.proofs.Math.Option.{Option, some, none}
+use Rattle.std.specs.Prelude.{ℕ, ◌≡◌, List, [], ◌∷◌, ◌++◌, length, Option, Some, None}
 use Rattle.lists.specs.Front.{front}
 use Rattle.book.specs.Books.{Node, Book}
 use Rattle.book.specs.Layout.{Buffers}
@@ -14,8 +13,8 @@ use Rattle.printing_why.specs.Splits.{asked_name, version_for}
 use Rattle.printing_why.specs.WhyLine.{why_line}
 
 abbrev pub nodes_of : Option Book → List Node
-nodes_of (some w) = w.nodes
-nodes_of none = []
+nodes_of (Some w) = w.nodes
+nodes_of None = []
 
 -- a name, and a wanted version, where there is one, asked of a book that the text s was opened as
 unfoldable pub asked_why : List ℕ → Option Book → Name → Option (List ℕ) → List ℕ
@@ -32,7 +31,7 @@ whys s w (t ∷ ts) = why_answered s w t ∷ whys s w ts
 
 -- as verlist: "or `refused` and the number for the script"
 unfoldable pub why_printed : List ℕ → Opening → List ℕ → List (List ℕ)
-why_printed s (opens w) symbols = whys s (some w) (lines_in [] symbols)
+why_printed s (opens w) symbols = whys s (Some w) (lines_in [] symbols)
 why_printed s (declined n p) symbols = refused_line n ∷ []
 
 -- of an input whose parts are verlist's: the script, a line `%%`, and the symbols' lines

@@ -11,7 +11,7 @@ ghost use Rattle.printing_why.specs.WhyLine.{reason_told, section_word, why_line
 
 use book::rows::node_name;
 use input::positions::position_of;
-use numbers::{ESCAPED_CLASS, EXACT_CLASS, GENERAL, GLOBAL, NONSTAR_CLASS, STAR_CLASS};
+use numbers::{ESCAPED_CLASS, EXACT_CLASS, GENERAL, GLOBAL, NONSTAR_CLASS, Refusal, STAR_CLASS};
 use printing::{put_number, put_refused_fields, put_spaced, put_text};
 use reasons::{Reason, Why};
 
@@ -155,7 +155,7 @@ fn put_line(out: &mut [u8], text: &[u8], name: &[u8], node: &[u8], r: Reason) ->
 }
 
 // A name, and why it is answered as it is, among n nodes, whose names end at m.
-pub fn put_why_line(
+fn put_told(
     out: &mut [u8],
     text: &[u8],
     nodes: &[u32],
@@ -168,12 +168,33 @@ pub fn put_why_line(
     requires { (packs node_form any_node n m nodes.now names.now ≡ true) × (length name.now + m + why_room ≤ length out.old)
         × ((r : Reason) → y ≡ variant.Line r → r.node < n) }
     ensures { Begins out.old
-        (why_line text.now (things node_form n nodes.now names.now) name.now y) out.new result }
+        (why_line text.now (things node_form n nodes.now names.now) name.now (Ok y)) out.new result }
 {
     match y {
         Why::Line(r) => put_line(out, text, name, node_name(nodes, names, r.node as usize), r),
         Why::NoLine => put_answer(out, name, b"no line"),
         Why::Wanted => put_answer(out, name, b"wanted version"),
-        Why::Refused(no) => put_refused_name(out, name, no),
+    }
+}
+
+// The same, or what refuses it.
+pub fn put_why_line(
+    out: &mut [u8],
+    text: &[u8],
+    nodes: &[u32],
+    names: &[u8],
+    n: u32,
+    m: u32,
+    name: &[u8],
+    y: Result<Why, Refusal>,
+) -> usize
+    requires { (packs node_form any_node n m nodes.now names.now ≡ true) × (length name.now + m + why_room ≤ length out.old)
+        × ((r : Reason) → y ≡ Ok (variant.Line r) → r.node < n) }
+    ensures { Begins out.old
+        (why_line text.now (things node_form n nodes.now names.now) name.now y) out.new result }
+{
+    match y {
+        Ok(y) => put_told(out, text, nodes, names, n, m, name, y),
+        Err(no) => put_refused_name(out, name, no.number()),
     }
 }

@@ -4,19 +4,20 @@
 
 ghost use Rattle.std.specs.Prelude.{◌≡◌, true, false, cond, ◌+◌, ◌≤◌, eqb, ltb, length, drop};
 ghost use Rattle.book.specs.Books.{export};
+ghost use Rattle.book.specs.Lending.{view_of};
 ghost use Rattle.book.specs.Layout.{five};
 ghost use Rattle.book.specs.View.{holds, view};
 ghost use Rattle.ranking.specs.Matching.{name_of};
-ghost use Rattle.lookups.specs.Lookups.{wanted_of};
+ghost use Rattle.lookups.specs.Lookups.{bytes_of};
 ghost use Rattle.printing.specs.Printing.{Begins};
 ghost use Rattle.printing_why.specs.WhyLine.{why_room};
 ghost use Rattle.printing_why.specs.Whys.{asked_why, why_answered};
 
 use crate::fields::{put_refused_name, put_why_line};
-use book::{Counts, EXPORT};
-use book_check::is_book;
+use book::EXPORT;
+use book::lent::Lent;
+use book_check::Held;
 use input::splitting::{part_before, part_behind};
-use numbers::NO_BOOK;
 use reasons::asking::why_in_book;
 
 pub mod fields;
@@ -41,94 +42,63 @@ fn has_version(kind: u32, n: usize, symbol: usize) -> bool
     n < symbol
 }
 
-// Why a name is answered as it is, in buffers that hold a book; `has_wanted` says that the version `wanted` is wanted.
+// Why a name is answered as it is, in buffers that hold a book, where that version is wanted or none.
 fn ask_why(
-    c: Counts,
-    nodes: &[u32],
-    names: &[u8],
-    lines: &[u32],
-    pool: &[u8],
-    journal: &[u32],
+    book: Held,
     text: &[u8],
     raw: &[u8],
     demangled: &[u8],
-    has_wanted: bool,
-    wanted: &[u8],
+    wanted: Option<&[u8]>,
     out: &mut [u8],
 ) -> usize
-    requires { (length raw.now + c.names + why_room ≤ length out.old)
-        × (holds c (five nodes.now names.now lines.now pool.now journal.now) ≡ true) }
+    requires { length raw.now + book.lent.counts.names + why_room ≤ length out.old }
     ensures { Begins out.old
         (asked_why text.now
-        (view c (five nodes.now names.now lines.now pool.now journal.now))
-        (name_of raw.now demangled.now) (wanted_of has_wanted wanted.now)) out.new result }
+        (view_of book.entry.lent)
+        (name_of raw.now demangled.now) (bytes_of wanted.entry)) out.new result }
 {
-    let y = why_in_book(
-        c, nodes, names, lines, pool, journal, raw, demangled, has_wanted, wanted,
-    );
-    put_why_line(out, text, nodes, names, c.nodes, c.names, raw, y)
+    let lent = book.lent;
+    let c = lent.counts;
+    let y = why_in_book(book, raw, demangled, wanted);
+    put_why_line(out, text, lent.nodes, lent.names, c.nodes, c.names, raw, y)
 }
 
 // A symbol's line, asked of buffers that hold a book.
-pub fn render_why_in_book(
-    c: Counts,
-    nodes: &[u32],
-    names: &[u8],
-    lines: &[u32],
-    pool: &[u8],
-    journal: &[u32],
-    text: &[u8],
-    line: &[u8],
-    out: &mut [u8],
-) -> usize
-    requires { (length line.now + c.names + why_room ≤ length out.old)
-        × (holds c (five nodes.now names.now lines.now pool.now journal.now) ≡ true) }
+pub fn render_why_in_book(book: Held, text: &[u8], line: &[u8], out: &mut [u8]) -> usize
+    requires { length line.now + book.lent.counts.names + why_room ≤ length out.old }
     ensures { Begins out.old
         (why_answered text.now
-        (view c (five nodes.now names.now lines.now pool.now journal.now))
+        (view_of book.entry.lent)
         line.now) out.new result }
 {
+    let c = book.lent.counts;
     let symbol = part_before(line, b'\t');
     let raw = part_before(symbol, b'@');
     let demangled = demangled_of(line, symbol.len(), raw);
     let has_wanted = has_version(c.kind, raw.len(), symbol.len());
     ask_why(
-        c,
-        nodes,
-        names,
-        lines,
-        pool,
-        journal,
+        book,
         text,
         raw,
         demangled,
-        has_wanted,
-        part_behind(symbol, raw.len()),
+        has_wanted.then_some(part_behind(symbol, raw.len())),
         out,
     )
 }
 
 // A symbol's line, asked of a book, if the buffers hold one.
-pub fn render_why(
-    c: Counts,
-    nodes: &[u32],
-    names: &[u8],
-    lines: &[u32],
-    pool: &[u8],
-    journal: &[u32],
-    text: &[u8],
-    line: &[u8],
-    out: &mut [u8],
-) -> usize
-    requires { length line.now + c.names + why_room ≤ length out.old }
+pub fn render_why(book: Lent, text: &[u8], line: &[u8], out: &mut [u8]) -> usize
+    requires { length line.now + book.counts.names + why_room ≤ length out.old }
     ensures { Begins out.old
         (why_answered text.now
-        (view c (five nodes.now names.now lines.now pool.now journal.now))
+        (view_of book.entry)
         line.now) out.new result }
 {
-    if !is_book(c, nodes, names, lines, pool, journal) {
-        let symbol = part_before(line, b'\t');
-        return put_refused_name(out, part_before(symbol, b'@'), NO_BOOK);
+    match Held::of(book) {
+        Ok(held) => render_why_in_book(held, text, line, out),
+        Err(no) => {
+            let symbol = part_before(line, b'\t');
+            put_refused_name(out, part_before(symbol, b'@'), no.number())
+        }
     }
-    render_why_in_book(c, nodes, names, lines, pool, journal, text, line, out)
 }

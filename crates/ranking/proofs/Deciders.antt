@@ -5,7 +5,7 @@ use mathlib.Core.Path.{◌≡◌, refl, sym, ap, subst, ◌∙◌}
 use mathlib.Core.List.{List, [], ◌∷◌}
 use mathlib.Core.Bool.{Bool, true, false, cond, ◌&&◌, false≢true}
 use mathlib.Core.Logic.{◌↔◌, ⊎_elim}
-use mathlib.Core.Option.{Option, some, none, some-injective}
+use Rattle.std.specs.Prelude.{Option, Some, None}
 use native.Mathlib.Omega.{arith}
 use lib.Dec.{eqb}
 use borrow.Author.Tests.{eqb-true, eq-eqb}
@@ -31,13 +31,13 @@ pub record First (t : Line → Bool) (ls : List Line) (i : ℕ) : Type 0 where
 
 -- what the search among lines numbered from s on gives
 pub data Looked (t : Line → Bool) (ls : List Line) (s : ℕ) : Option ℕ → Type 0 where
-  found : (i : ℕ) → First t ls i → Looked t ls s (some (s + i))
-  missing : ((j : ℕ) → j < length ls → t (line_at ls j) ≡ false) → Looked t ls s none
+  found : (i : ℕ) → First t ls i → Looked t ls s (Some (s + i))
+  missing : ((j : ℕ) → j < length ls → t (line_at ls j) ≡ false) → Looked t ls s None
 
 module _ (t : Line → Bool) where
   looked_behind : (x : Line) (xs : List Line) (s : ℕ) (o : Option ℕ) → t x ≡ false → Looked t xs (s + 1) o → Looked t (x ∷ xs) s o
   looked_behind x xs s o e (found i f) =
-      subst (λ (k : ℕ). Looked t (x ∷ xs) s (some k)) (omega arith)
+      subst (λ (k : ℕ). Looked t (x ∷ xs) s (Some k)) (omega arith)
       (found (suc i) (record { there = omega (arith, f.there); passes = f.passes; before = passed }))
     where
       passed : (j : ℕ) → j < suc i → t (line_at (x ∷ xs) j) ≡ false
@@ -48,9 +48,9 @@ module _ (t : Line → Bool) where
     passed zero h = e
     passed (suc j) h = f j (omega arith)
 
-  looked_at : (x : Line) (xs : List Line) (s : ℕ) (o : Option ℕ) (b : Bool) → t x ≡ b → Looked t xs (s + 1) o → Looked t (x ∷ xs) s (cond b (some s) o)
+  looked_at : (x : Line) (xs : List Line) (s : ℕ) (o : Option ℕ) (b : Bool) → t x ≡ b → Looked t xs (s + 1) o → Looked t (x ∷ xs) s (cond b (Some s) o)
   looked_at x xs s o true e l =
-      subst (λ (k : ℕ). Looked t (x ∷ xs) s (some k)) (omega arith)
+      subst (λ (k : ℕ). Looked t (x ∷ xs) s (Some k)) (omega arith)
       (found 0 (record { there = omega arith; passes = e; before = λ j h. absurd (omega arith) }))
   looked_at x xs s o false e l = looked_behind x xs s o e l
 
@@ -75,8 +75,8 @@ module _ (n : ℕ) (m : Line → Bool) (ls : List Line) where
 
   -- what a walk gives whose stages go up to rank e
   data Walked (e : ℕ) : Option ℕ → Type 0 where
-    decided_by : (i : ℕ) → Decides n m ls i → Walked e (some i)
-    unmatched : From e → Walked e none
+    decided_by : (i : ℕ) → Decides n m ls i → Walked e (Some i)
+    unmatched : From e → Walked e None
 
   -- the stages ts look at the ranks from s on
   abbrev RanksFrom : ℕ → List Stage → Type 0
@@ -126,36 +126,36 @@ module _ (n : ℕ) (m : Line → Bool) (ls : List Line) where
     none_matches : From (10 * n) → (j : ℕ) → j < length ls → m (line_at ls j) ≡ false
     none_matches f j h = fails (λ y. omega (arith, f j h y, rank_below n (line_at ls j) (line_ranged j h)))
 
-    decided_is : (o : Option ℕ) → Walked (10 * n) o → (i : ℕ) → o ≡ some i → Decides n m ls i
-    decided_is o (decided_by k d) i e = subst (Decides n m ls) (some-injective k i e) d
+    decided_is : (o : Option ℕ) → Walked (10 * n) o → (i : ℕ) → o ≡ Some i → Decides n m ls i
+    decided_is o (decided_by k d) i e = subst (Decides n m ls) (let q : k ≡ i = cc in q) d
     decided_is o (unmatched f) i e = let z : ◌≡◌ {A = ℕ} 0 1 = cc in absurd (omega arith)
 
-    is_decided : (o : Option ℕ) → Walked (10 * n) o → (i : ℕ) → Decides n m ls i → o ≡ some i
-    is_decided o (decided_by k d) i e = ap some (decides_once k i d e)
+    is_decided : (o : Option ℕ) → Walked (10 * n) o → (i : ℕ) → Decides n m ls i → o ≡ Some i
+    is_decided o (decided_by k d) i e = ap Some (decides_once k i d e)
     is_decided o (unmatched f) i e = absurd (false≢true (sym (none_matches f i e.there) ∙ e.matching))
 
-    undecided_is : (o : Option ℕ) → Walked (10 * n) o → o ≡ none → (j : ℕ) → j < length ls → m (line_at ls j) ≡ false
+    undecided_is : (o : Option ℕ) → Walked (10 * n) o → o ≡ None → (j : ℕ) → j < length ls → m (line_at ls j) ≡ false
     undecided_is o (decided_by k d) e = let z : ◌≡◌ {A = ℕ} 0 1 = cc in absurd (omega arith)
     undecided_is o (unmatched f) e = none_matches f
 
-    is_undecided : (o : Option ℕ) → Walked (10 * n) o → ((j : ℕ) → j < length ls → m (line_at ls j) ≡ false) → o ≡ none
+    is_undecided : (o : Option ℕ) → Walked (10 * n) o → ((j : ℕ) → j < length ls → m (line_at ls j) ≡ false) → o ≡ None
     is_undecided o (decided_by k d) f = absurd (false≢true (sym (f k d.there) ∙ d.matching))
     is_undecided o (unmatched f) e = refl
 
     -- what the walk gives is what decides
-    pub walk_decides : (i : ℕ) → (walk m (stages n) ls ≡ some i) ↔ Decides n m ls i
+    pub walk_decides : (i : ℕ) → (walk m (stages n) ls ≡ Some i) ↔ Decides n m ls i
     walk_decides i = (decided_is _ all_walked i, is_decided _ all_walked i)
 
     -- "nothing is found exactly when no line matches"
-    pub walk-nothing : (walk m (stages n) ls ≡ none) ↔ ((j : ℕ) → j < length ls → m (get_or ls j no_line) ≡ false)
+    pub walk-nothing : (walk m (stages n) ls ≡ None) ↔ ((j : ℕ) → j < length ls → m (get_or ls j no_line) ≡ false)
     walk-nothing = (undecided_is _ all_walked, is_undecided _ all_walked)
 
 -- ---- the same of a book whose lines are in range
 module _ (nm : Name) (w : Book) (g : every (in_range (length w.nodes)) w.lines ≡ true) where
-  pub deciding_exactly : (i : ℕ) → (deciding nm w ≡ some i) ↔ Decides (length w.nodes) (line_matches (edition_of (book_frame w)) nm) w.lines i
+  pub deciding_exactly : (i : ℕ) → (deciding nm w ≡ Some i) ↔ Decides (length w.nodes) (line_matches (edition_of (book_frame w)) nm) w.lines i
   unfolding deciding
   deciding_exactly i = walk_decides (length w.nodes) (line_matches (edition_of (book_frame w)) nm) w.lines g i
 
-  pub deciding-nothing : (deciding nm w ≡ none) ↔ ((j : ℕ) → j < length w.lines → line_matches (edition_of (book_frame w)) nm (get_or w.lines j no_line) ≡ false)
+  pub deciding-nothing : (deciding nm w ≡ None) ↔ ((j : ℕ) → j < length w.lines → line_matches (edition_of (book_frame w)) nm (get_or w.lines j no_line) ≡ false)
   unfolding deciding
   deciding-nothing = walk-nothing (length w.nodes) (line_matches (edition_of (book_frame w)) nm) w.lines g

@@ -4,6 +4,7 @@ use Prim.Native.Nat.{ℕ, ◌+◌, ◌*◌, ◌≤◌, ◌<◌}
 use mathlib.Core.Path.{◌≡◌, refl, sym, ap, ap₂, ◌∙◌}
 use mathlib.Core.List.{List, []}
 use mathlib.Core.Bool.{Bool, true, false, false≢true}
+use Rattle.std.specs.Prelude.{Option, Some, None}
 use native.Mathlib.Omega.{arith}
 use borrow.Author.Count.{below_more}
 use lib.ListN.{length, get_or}
@@ -18,35 +19,34 @@ use Rattle.book.specs.Edits.{line_at}
 use Rattle.book.specs.Layout.{LineLies, bytes_of_line, line_form, line_of, line_width}
 use Rattle.book.specs.Sanity.{in_range, line_ok}
 use Rattle.book.proofs.Forms.{ranged}
-use Rattle.book.proofs.LineRows.{Row, Walk, lines-count, row_line, row-short, walk-count, walk_on, walk_ranged, walk-row, walk-starts}
+use Rattle.book.proofs.LineRows.{Row, Walk, row_line, row-short, walk-count, walk_on, walk_ranged, walk-row, walk-starts}
 use Rattle.packing.proofs.TableLaws.{every_at}
-use Rattle.ranking.specs.declared.Deciding.TheVariants as answer
 use Rattle.ranking.specs.Matching.{line_matches, name_of, seen}
-use Rattle.ranking.specs.Walk.{decided, deciding_among, stages, walk}
+use Rattle.ranking.specs.Walk.{deciding_among, stages, walk}
 use Rattle.ranking.specs.Ranks.{rank, Decides}
 use Rattle.ranking.proofs.Stages.{rank_below}
 use Rattle.ranking.proofs.Deciders.{walk_decides, walk-nothing}
 use Rattle.ranking.proofs.Offsets.{matches_ignores_offset, rank_ignores_offset}
 
 -- ---- among lines, of which i are passed
--- no line is held yet, and `line` is how many lines there are; or a line that matches is held, and each that matches before it is of a higher rank
-pub data Held (n : ℕ) (m : Line → Bool) (ls : List Line) (i best line : ℕ) : Type 0 where
-  nothing_yet : best ≡ 10 * n → line ≡ length ls → Held n m ls i best line
-  one : line < i → m (line_at ls line) ≡ true → best ≡ rank n (line_at ls line)
-      → ((j : ℕ) → j < line → m (line_at ls j) ≡ true → best < rank n (line_at ls j)) → Held n m ls i best line
+-- no line is held yet; or a line that matches is held, and each that matches before it is of a higher rank
+pub data Held (n : ℕ) (m : Line → Bool) (ls : List Line) (i best : ℕ) : Option ℕ → Type 0 where
+  nothing_yet : best ≡ 10 * n → Held n m ls i best None
+  one : {k : ℕ} → k < i → m (line_at ls k) ≡ true → best ≡ rank n (line_at ls k)
+      → ((j : ℕ) → j < k → m (line_at ls j) ≡ true → best < rank n (line_at ls j)) → Held n m ls i best (Some k)
 
 -- and no line that is passed and matches is of a lower rank than the best
-pub record Leading (n : ℕ) (m : Line → Bool) (ls : List Line) (i best line : ℕ) : Type 0 where
+pub record Leading (n : ℕ) (m : Line → Bool) (ls : List Line) (i best : ℕ) (line : Option ℕ) : Type 0 where
   pub least : (j : ℕ) → j < i → m (line_at ls j) ≡ true → best ≤ rank n (line_at ls j)
   pub who : Held n m ls i best line
 
 module _ {n : ℕ} {m : Line → Bool} {ls : List Line} where
-  pub leading_starts : {line : ℕ} → length ls ≡ line → Leading n m ls 0 (10 * n) line
-  leading_starts e = record { least = λ j h y. absurd (omega arith); who = nothing_yet refl (sym e) }
+  pub leading_starts : Leading n m ls 0 (10 * n) None
+  leading_starts = record { least = λ j h y. absurd (omega arith); who = nothing_yet refl }
 
-  module _ {i best line : ℕ} (z : Leading n m ls i best line) where
-    still_held : Held n m ls i best line → Held n m ls (i + 1) best line
-    still_held (nothing_yet e f) = nothing_yet e f
+  module _ {i best : ℕ} {line : Option ℕ} (z : Leading n m ls i best line) where
+    still_held : {o : Option ℕ} → Held n m ls i best o → Held n m ls (i + 1) best o
+    still_held (nothing_yet e) = nothing_yet e
     still_held (one h y e f) = one (omega arith) y e f
 
     abbrev NoLower : ℕ → ℕ → Type 0
@@ -61,41 +61,34 @@ module _ {n : ℕ} {m : Line → Bool} {ls : List Line} where
     leading_other e = record { least = below_more (NoLower best) i z.least (λ y. absurd (false≢true (sym e ∙ y))); who = still_held z.who }
 
     -- it matches, and is ahead of the best
-    pub leading_better : {r : ℕ} → r ≡ rank n (line_at ls i) → r < best → m (line_at ls i) ≡ true → Leading n m ls (i + 1) r i
+    pub leading_better : {r : ℕ} → r ≡ rank n (line_at ls i) → r < best → m (line_at ls i) ≡ true → Leading n m ls (i + 1) r (Some i)
     leading_better {r} e h y = record {
       least = below_more (NoLower r) i (λ j k w. omega (arith, z.least j k w)) (λ w. omega arith);
       who = one (omega arith) y e (λ j k w. omega (arith, z.least j k w));
     }
 
   -- all lines are passed
-  module _ {best line : ℕ} (z : Leading n m ls (length ls) best line) (g : every (in_range n) ls ≡ true) where
+  module _ {best : ℕ} {line : Option ℕ} (z : Leading n m ls (length ls) best line) (g : every (in_range n) ls ≡ true) where
     below : (j : ℕ) → j < length ls → rank n (line_at ls j) < 10 * n
     below j h = rank_below n (line_at ls j) (ranged n (line_at ls j) (every_at (in_range n) ls j no_line g h))
 
-    nothing-held : Held n m ls (length ls) best line → line ≡ length ls → (j : ℕ) → j < length ls → m (line_at ls j) ≡ false
-    nothing-held (nothing_yet e f) q j h = fails (λ y. omega (arith, z.least j h y, below j h))
-    nothing-held (one h y e f) q j k = absurd (omega arith)
+    led : {o : Option ℕ} → Held n m ls (length ls) best o → o ≡ walk m (stages n) ls
+    led (nothing_yet e) = sym ((walk-nothing n m ls g).1 (λ j h. fails (λ y. omega (arith, z.least j h y, below j h))))
+    led (one {k} h y e f) =
+        let d : Decides n m ls k = record {
+          there = h;
+          matching = y;
+          first = λ j k w. omega (arith, z.least j k w);
+          lowest = λ j k w. omega (arith, f j k w);
+        } in
+        sym ((walk_decides n m ls g k).1 d)
 
-    one-held : Held n m ls (length ls) best line → (line ≡ length ls → ⊥) → Decides n m ls line
-    one-held (nothing_yet e f) q = absurd (q f)
-    one-held (one h y e f) q = record {
-      there = h;
-      matching = y;
-      first = λ j k w. omega (arith, z.least j k w);
-      lowest = λ j k w. omega (arith, f j k w);
-    }
-
-    pub leading_nothing : line ≡ length ls → answer.Nothing ≡ decided (walk m (stages n) ls)
-    unfolding decided
-    leading_nothing e = rw ((walk-nothing n m ls g).1 (nothing-held z.who e))
-
-    pub leading_line : (line ≡ length ls → ⊥) → answer.Line line ≡ decided (walk m (stages n) ls)
-    unfolding decided
-    leading_line e = rw ((walk_decides n m ls g line).1 (one-held z.who e))
+    pub leading_ends : line ≡ walk m (stages n) ls
+    leading_ends = led z.who
 
 -- ---- in the rows of a book
 -- i lines are passed
-pub record Seeking (frame : Frame) (n p : ℕ) (l m raw demangled : List ℕ) (best line i : ℕ) : Type 0 where
+pub record Seeking (frame : Frame) (n p : ℕ) (l m raw demangled : List ℕ) (best : ℕ) (line : Option ℕ) (i : ℕ) : Type 0 where
   pub walk : Walk frame n p l m i
   pub leads : Leading frame.nodes (line_matches (edition_of frame) (name_of raw demangled)) (things line_form n l m) i best line
 
@@ -110,10 +103,10 @@ unfolding line_matches seen
 same_match e raw demangled node code bs = refl
 
 module _ {frame : Frame} {n p : ℕ} {l m raw demangled : List ℕ} where
-  pub seek_starts : packs line_form (line_ok frame) n p l m ≡ true → Seeking frame n p l m raw demangled (10 * frame.nodes) n 0
-  seek_starts g = record { walk = walk-starts g; leads = leading_starts (lines-count frame n p l m g) }
+  pub seek_starts : packs line_form (line_ok frame) n p l m ≡ true → Seeking frame n p l m raw demangled (10 * frame.nodes) None 0
+  seek_starts g = record { walk = walk-starts g; leads = leading_starts }
 
-  module _ {best line i : ℕ} (z : Seeking frame n p l m raw demangled best line i) where
+  module _ {best : ℕ} {line : Option ℕ} {i : ℕ} (z : Seeking frame n p l m raw demangled best line i) where
     -- the row of line i, which is not passed yet
     module _ (h : i < n) where
       pub seek_row : Row frame n l m i
@@ -143,7 +136,7 @@ module _ {frame : Frame} {n p : ℕ} {l m raw demangled : List ℕ} where
               ∙ ap (line_matches (edition_of frame) (name_of raw demangled)) (row_line seek_row)
 
           -- it is better, and matches
-          pub seek_better : r < best → v ≡ true → Seeking frame n p l m raw demangled r i (i + 1)
+          pub seek_better : r < best → v ≡ true → Seeking frame n p l m raw demangled r (Some i) (i + 1)
           seek_better k t = record { walk = walk_on z.walk h; leads = leading_better z.leads seen-rank k (sym seen_match ∙ t) }
 
           -- it does not match
@@ -157,8 +150,5 @@ module _ {frame : Frame} {n p : ℕ} {l m raw demangled : List ℕ} where
           let e : i ≡ length (things line_form n l m) = omega (arith, z.walk.within, walk-count z.walk) in
           rw e at z.leads
 
-      pub seek_nothing : line ≡ n → answer.Nothing ≡ decided (deciding_among frame (name_of raw demangled) (things line_form n l m))
-      seek_nothing e = leading_nothing all_passed (walk_ranged z.walk) (e ∙ sym (walk-count z.walk))
-
-      pub seek_line : (line ≡ n → ⊥) → answer.Line line ≡ decided (deciding_among frame (name_of raw demangled) (things line_form n l m))
-      seek_line f = leading_line all_passed (walk_ranged z.walk) (λ e. f (e ∙ walk-count z.walk))
+      pub seek_ends : line ≡ deciding_among frame (name_of raw demangled) (things line_form n l m)
+      seek_ends = leading_ends all_passed (walk_ranged z.walk)

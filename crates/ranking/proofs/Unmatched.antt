@@ -3,7 +3,7 @@ use Prim.Native.Nat.{ℕ, zero, suc, ◌+◌}
 use mathlib.Core.Path.{◌≡◌, refl, sym, ap, ◌∙◌}
 use mathlib.Core.List.{List, [], ◌∷◌, ◌++◌}
 use mathlib.Core.Bool.{Bool, true, false, cond, ◌&&◌, and-false}
-use mathlib.Core.Option.{Option, some, none}
+use Rattle.std.specs.Prelude.{Option, Some, None}
 use native.Mathlib.Omega.{arith}
 use lib.ListN.{length, set, length-append}
 use lib.Seq.{append_snoc, get_or-append_seam}
@@ -17,12 +17,12 @@ module _ (t : Line → Bool) where
   unfolding first_line
   first_set s [] k y e f = refl
   first_set s (x ∷ xs) zero y e f = rw (e, f)
-  first_set s (x ∷ xs) (suc k) y e f = ap (cond (t x) (some s)) (first_set (s + 1) xs k y e f)
+  first_set s (x ∷ xs) (suc k) y e f = ap (cond (t x) (Some s)) (first_set (s + 1) xs k y e f)
 
   first_last : (s : ℕ) (ls : List Line) (y : Line) → t y ≡ false → first_line t s (ls ++ y ∷ []) ≡ first_line t s ls
   unfolding first_line
   first_last s [] y f = rw f
-  first_last s (x ∷ xs) y f = ap (cond (t x) (some s)) (first_last (s + 1) xs y f)
+  first_last s (x ∷ xs) y f = ap (cond (t x) (Some s)) (first_last (s + 1) xs y f)
 
 -- ---- a walk
 module _ (m : Line → Bool) where
@@ -45,23 +45,23 @@ module _ (m : Line → Bool) where
 -- ---- one taken away: the lines behind it get other numbers, so the law is of the line itself
 -- the line with the number that is found
 abbrev pub line_found : List Line → Option ℕ → Option Line
-line_found ls (some i) = some (line_at ls i)
-line_found ls none = none
+line_found ls (Some i) = Some (line_at ls i)
+line_found ls None = None
 
 first_of : (Line → Bool) → List Line → Option Line
-first_of t [] = none
-first_of t (x ∷ xs) = cond (t x) (some x) (first_of t xs)
+first_of t [] = None
+first_of t (x ∷ xs) = cond (t x) (Some x) (first_of t xs)
 
 abbrev or_line : Option Line → Option Line → Option Line
-or_line (some x) r = some x
-or_line none r = r
+or_line (Some x) r = Some x
+or_line None r = r
 
 walk_of : (Line → Bool) → List Stage → List Line → Option Line
-walk_of m [] ls = none
+walk_of m [] ls = None
 walk_of m (t ∷ ts) ls = or_line (first_of (λ x. t x && m x) ls) (walk_of m ts ls)
 
 first_of_step : (t : Line → Bool) (ps : List Line) (x : Line) (xs : List Line) (o : Option ℕ) (r : Option Line) (b : Bool)
-    → line_found (ps ++ x ∷ xs) o ≡ r → line_found (ps ++ x ∷ xs) (cond b (some (length ps)) o) ≡ cond b (some x) r
+    → line_found (ps ++ x ∷ xs) o ≡ r → line_found (ps ++ x ∷ xs) (cond b (Some (length ps)) o) ≡ cond b (Some x) r
 first_of_step t ps x xs o r true e = rw get_or-append_seam
 first_of_step t ps x xs o r false e = e
 
@@ -74,8 +74,8 @@ first_of_is t ps (x ∷ xs) =
     first_of_step t ps x xs (first_line t (length ps + 1) xs) (first_of t xs) (t x) e
 
 or_found : (ls : List Line) (o r : Option ℕ) → line_found ls (or_else o r) ≡ or_line (line_found ls o) (line_found ls r)
-or_found ls (some i) r = refl
-or_found ls none r = refl
+or_found ls (Some i) r = refl
+or_found ls None r = refl
 
 walk_of_is : (m : Line → Bool) (ts : List Stage) (ls : List Line) → line_found ls (walk m ts ls) ≡ walk_of m ts ls
 unfolding walk walk_of
@@ -86,7 +86,7 @@ walk_of_is m (t ∷ ts) ls =
 first_of_without : (t : Line → Bool) (xs : List Line) (y : Line) (ys : List Line) → t y ≡ false → first_of t (xs ++ y ∷ ys) ≡ first_of t (xs ++ ys)
 unfolding first_of
 first_of_without t [] y ys f = rw f
-first_of_without t (x ∷ xs) y ys f = ap (cond (t x) (some x)) (first_of_without t xs y ys f)
+first_of_without t (x ∷ xs) y ys f = ap (cond (t x) (Some x)) (first_of_without t xs y ys f)
 
 walk_of-without : (m : Line → Bool) (ts : List Stage) (xs : List Line) (y : Line) (ys : List Line) → m y ≡ false → walk_of m ts (xs ++ y ∷ ys) ≡ walk_of m ts (xs ++ ys)
 unfolding walk_of

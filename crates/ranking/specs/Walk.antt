@@ -5,14 +5,11 @@
 -- the name is treated as literal", that names are demangled "before matching them to the patterns" of a language, and "You can bind all otherwise unspecified
 -- symbols to a given version node by using 'global: *;' somewhere in the version script": `*` comes last. 01 departs from it in that several nodes may have a
 -- `*`, of which the last counts, and from LLD, which knows two kinds of patterns, in that those without a star go before those with one. Assumes nothing.
-use Rattle.std.specs.Prelude.{ℕ, zero, suc, ◌+◌, List, [], ◌∷◌, ◌++◌, Bool, cond, ◌&&◌, eqb}
-use Rattle.std.proofs.Math.Option.{Option, some, none}
+use Rattle.std.specs.Prelude.{ℕ, zero, suc, ◌+◌, List, [], ◌∷◌, ◌++◌, Bool, cond, ◌&&◌, eqb, Option, Some, None}
 use Rattle.numbers.specs.Classes.{all_class, by_bytes, nonstar_class, star_class}
 use Rattle.numbers.specs.Marks.{cxx, general, global, local}
 use Rattle.book.specs.declared.Frame.{Frame}
 use Rattle.book.specs.Books.{Line, Book, book_frame, edition_of}
-use Rattle.ranking.specs.declared.Deciding.{Deciding}
-use Rattle.ranking.specs.declared.Deciding.TheVariants as answer
 use Rattle.ranking.specs.Matching.{Name, line_matches}
 
 -- a stage of the walk asks which lines it looks at
@@ -45,16 +42,16 @@ stages n = exact_stages n 0 ++ (glob_stages nonstar_class n ++ (glob_stages star
 
 -- the number of the first line that passes a test, of lines that are numbered from i on
 unfoldable pub first_line : (Line → Bool) → ℕ → List Line → Option ℕ
-first_line t i [] = none
-first_line t i (x ∷ xs) = cond (t x) (some i) (first_line t (i + 1) xs)
+first_line t i [] = None
+first_line t i (x ∷ xs) = cond (t x) (Some i) (first_line t (i + 1) xs)
 
 abbrev pub or_else : Option ℕ → Option ℕ → Option ℕ
-or_else (some i) r = some i
-or_else none r = r
+or_else (Some i) r = Some i
+or_else None r = r
 
 -- "The first match decides"
 unfoldable pub walk : (Line → Bool) → List Stage → List Line → Option ℕ
-walk m [] ls = none
+walk m [] ls = None
 walk m (t ∷ ts) ls = or_else (first_line (λ x. t x && m x) 0 ls) (walk m ts ls)
 
 -- the number of the line that decides, of those that match at its stage the lowest: among the lines ls of a book with that frame
@@ -63,8 +60,3 @@ deciding_among f n ls = walk (line_matches (edition_of f) n) (stages f.nodes) ls
 
 unfoldable pub deciding : Name → Book → Option ℕ
 deciding n w = deciding_among (book_frame w) n w.lines
-
--- as it is answered
-unfoldable pub decided : Option ℕ → Deciding
-decided (some i) = answer.Line i
-decided none = answer.Nothing

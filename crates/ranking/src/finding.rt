@@ -6,9 +6,9 @@ ghost use Rattle.packing.specs.Tables.{packs, things};
 ghost use Rattle.book.specs.Layout.{line_form, line_of};
 ghost use Rattle.book.specs.Sanity.{line_ok};
 ghost use Rattle.ranking.specs.Matching.{class_matches, line_matches, name_of};
-ghost use Rattle.ranking.specs.Walk.{decided, deciding_among};
+ghost use Rattle.ranking.specs.Walk.{deciding_among};
 
-use crate::{Deciding, rank_of};
+use crate::rank_of;
 use book::codes::{class_of, is_struck, language_of};
 use book::editions::edition_of;
 use book::rows::line_bytes;
@@ -47,7 +47,7 @@ fn line_matches(edition: Edition, code: u32, bytes: &[u8], raw: &[u8], demangled
     class_matches(edition, class, bytes, raw)
 }
 
-// The deciding line among n lines, whose bytes end at p of the pool, in a book with that frame.
+// The number of the deciding line among n lines, whose bytes end at p of the pool, in a book with that frame.
 pub fn find_match(
     frame: Frame,
     lines: &[u32],
@@ -56,33 +56,26 @@ pub fn find_match(
     p: usize,
     raw: &[u8],
     demangled: &[u8],
-) -> Deciding
+) -> Option<usize>
     requires { (packs line_form (line_ok frame) n p lines.now pool.now ≡ true) × (frame.nodes ≤ node_limit)
         × (length raw.now ≤ name_limit) × (length demangled.now ≤ name_limit) }
-    ensures { result ≡ decided (deciding_among frame (name_of raw.now demangled.now)
-        (things line_form n lines.now pool.now)) }
+    ensures { result ≡ deciding_among frame (name_of raw.now demangled.now)
+        (things line_form n lines.now pool.now) }
 {
     let edition = edition_of(frame);
     let mut best = 10 * frame.nodes;
-    let mut line = n;
-    let mut i = 0;
-    while i < n {
-        let number = i;
+    let mut line = None;
+    for i in 0..n {
         let row = LINE_WIDTH * i;
-        i += 1;
         let code = lines[row + 1];
         let rank = rank_of(frame.nodes, lines[row], code);
         if best <= rank {
             continue;
         }
-        let bytes = line_bytes(lines, pool, number);
-        if line_matches(edition, code, bytes, raw, demangled) {
+        if line_matches(edition, code, line_bytes(lines, pool, i), raw, demangled) {
             best = rank;
-            line = number;
+            line = Some(i);
         }
     }
-    if line == n {
-        return Deciding::Nothing;
-    }
-    Deciding::Line(line)
+    line
 }

@@ -14,13 +14,6 @@ use numbers::{ESCAPED_CLASS, NONSTAR_CLASS};
 pub mod finding;
 pub mod names;
 
-// The number of the line that decides, or nothing where no line matches.
-#[derive(Clone, Copy)]
-pub enum Deciding {
-    Line(usize),
-    Nothing,
-}
-
 // A line's place in the ranking of a book with n nodes, from the first two numbers of its row.
 pub fn rank_of(n: u32, node: u32, code: u32) -> u32
     requires { (n ≤ node_limit) × (node < n) × (code < 64) }

@@ -11,18 +11,16 @@ use lib.ListN.{length, get_or, get_or-eq_default}
 use Rattle.numbers.specs.declared.Edition.{Edition}
 use Rattle.numbers.specs.Signs.{asterisk, closing_brace, hash, line_feed, semicolon, slash}
 use Rattle.lists.proofs.Tests.{both, neither}
-use Rattle.linker_script.specs.declared.Found.{Found}
-use Rattle.linker_script.specs.declared.Found.TheVariants.{Here, Nowhere}
-use Rattle.linker_script.specs.declared.Skipped.TheVariants.{At, Open}
+use Rattle.std.specs.Prelude.{Option, Some, None, Ok, Err}
 use Rattle.linker_script.specs.Finding.{Test, are, first_from, is}
 use Rattle.linker_script.specs.Skip.{blank, closes_after, comment_end, skip, skips}
 use Rattle.linker_script.proofs.Searches.{byte_within, first_here, first_on, first_within, passes}
 use Rattle.linker_script.proofs.Skipping.{comment-from, skip-ends, past_blank, past_line, line-opens, stops, past_comment, comment-opens}
-use Rattle.reading.specs.Rules.{Byte, None, NoPair}
+use Rattle.reading.specs.Rules.{Byte, NoByte, NoPair}
 
 -- ---- nothing is found
 module _ (t : Test) (s : List ℕ) (k : ℕ) (l : k < length s) where
-  nowhere_turn : (p : ℕ) → first_from t s p ≡ Nowhere → p ≤ k → (p + 1 ≤ k → first_from t s (p + 1) ≡ Nowhere → passes t s k ≡ false)
+  nowhere_turn : (p : ℕ) → first_from t s p ≡ None → p ≤ k → (p + 1 ≤ k → first_from t s (p + 1) ≡ None → passes t s k ≡ false)
       → (v : Bool) → passes t s p ≡ v → passes t s k ≡ false
   nowhere_turn p e a on true x =
       let n = first_here t s p (omega arith) x in
@@ -36,50 +34,50 @@ module _ (t : Test) (s : List ℕ) (k : ℕ) (l : k < length s) where
           let z : p ≡ k = omega arith in
           rw (← z) x
 
-  pub nowhere_in : (n p : ℕ) → k - p ≤ n → p ≤ k → first_from t s p ≡ Nowhere → passes t s k ≡ false
+  pub nowhere_in : (n p : ℕ) → k - p ≤ n → p ≤ k → first_from t s p ≡ None → passes t s k ≡ false
   nowhere_in zero p h a e = nowhere_turn p e a (λ g f. absurd (omega arith)) (passes t s p) refl
   nowhere_in (suc n) p h a e = nowhere_turn p e a (λ g f. nowhere_in n (p + 1) (omega arith) g f) (passes t s p) refl
 
 module _ (b : ℕ) (s : List ℕ) (p : ℕ) where
-  pub nowhere_none : 0 < b → first_from (is b) s p ≡ Nowhere → None b s p
+  pub nowhere_none : 0 < b → first_from (is b) s p ≡ None → NoByte b s p
   nowhere_none h e q l k =
       let w = byte_within s q (omega arith) in
       true≢false (sym (eq-eqb (get_or s q 0) b k) ∙ nowhere_in (is b) s q w (q - p) p (omega arith) l e)
 
-  pub none_nowhere : None b s p → first_from (is b) s p ≡ Nowhere
+  pub none_nowhere : NoByte b s p → first_from (is b) s p ≡ None
   none_nowhere h = go (first_from (is b) s p) refl
     where
-      go : (f : Found) → first_from (is b) s p ≡ f → first_from (is b) s p ≡ Nowhere
-      go (Here q) e =
+      go : (f : Option ℕ) → first_from (is b) s p ≡ f → first_from (is b) s p ≡ None
+      go (Some q) e =
           let f = first_within e in
           absurd (h q f.onward (eqb-true (get_or s q 0) b f.holds))
-      go Nowhere e = e
+      go None e = e
 
-  pub stands_first : 0 < b → Byte b s p → first_from (is b) s p ≡ Here p
+  pub stands_first : 0 < b → Byte b s p → first_from (is b) s p ≡ Some p
   stands_first h k = first_here (is b) s p (byte_within s p (omega arith)) (eq-eqb (get_or s p 0) b k)
 
 module _ (a b : ℕ) (s : List ℕ) (p : ℕ) where
-  pub pair_found : (q : ℕ) → first_from (are a b) s p ≡ Here q → (p ≤ q) × (Byte a s q × Byte b s (q + 1))
+  pub pair_found : (q : ℕ) → first_from (are a b) s p ≡ Some q → (p ≤ q) × (Byte a s q × Byte b s (q + 1))
   pair_found q e =
       let f = first_within e in
       let k = both (eqb (get_or s q 0) a) (eqb (get_or s (q + 1) 0) b) f.holds in
       (f.onward, (eqb-true (get_or s q 0) a k.0, eqb-true (get_or s (q + 1) 0) b k.1))
 
-  pub nowhere-pair : 0 < a → first_from (are a b) s p ≡ Nowhere → NoPair a b s p
+  pub nowhere-pair : 0 < a → first_from (are a b) s p ≡ None → NoPair a b s p
   nowhere-pair h e q l j k =
       let w = byte_within s q (omega arith) in
       let n = nowhere_in (are a b) s q w (q - p) p (omega arith) l e in
       let y : eqb (get_or s q 0) a && eqb (get_or s (q + 1) 0) b ≡ true = rw (eq-eqb (get_or s q 0) a j, eq-eqb (get_or s (q + 1) 0) b k) in
       true≢false (sym y ∙ n)
 
-  pub pair-nowhere : NoPair a b s p → first_from (are a b) s p ≡ Nowhere
+  pub pair-nowhere : NoPair a b s p → first_from (are a b) s p ≡ None
   pair-nowhere h = go (first_from (are a b) s p) refl
     where
-      go : (f : Found) → first_from (are a b) s p ≡ f → first_from (are a b) s p ≡ Nowhere
-      go (Here q) e =
+      go : (f : Option ℕ) → first_from (are a b) s p ≡ f → first_from (are a b) s p ≡ None
+      go (Some q) e =
           let f = pair_found q e in
           absurd (h q f.0 f.1.0 f.1.1)
-      go Nowhere e = e
+      go None e = e
 
 -- ---- a skip at the place p
 module _ (s : List ℕ) (p : ℕ) where
@@ -110,10 +108,10 @@ module _ (x : Edition) (s : List ℕ) (p : ℕ) where
     hash-within : p < length s
     hash-within = byte_within s p (omega arith)
 
-    pub skip-line : (q : ℕ) → first_from (is line_feed) s (p + 1) ≡ Here q → skip x s p ≡ skip x s (q + 1)
+    pub skip-line : (q : ℕ) → first_from (is line_feed) s (p + 1) ≡ Some q → skip x s p ≡ skip x s (q + 1)
     skip-line q f = past_line x s p p refl hash-within (hash-blank s p e) refl e (sym f) refl
 
-    pub skip-line-opens : None line_feed s p → skip x s p ≡ Open p
+    pub skip-line-opens : NoByte line_feed s p → skip x s p ≡ Err p
     skip-line-opens f =
         let n = none_nowhere line_feed s (p + 1) (λ q l. f q (omega arith)) in
         sym (line-opens x s p p refl hash-within (hash-blank s p e) refl e (sym n) refl)
@@ -128,18 +126,18 @@ module _ (x : Edition) (s : List ℕ) (p : ℕ) where
     opens : true ≡ passes (are slash asterisk) s p
     opens = rw (e, f)
 
-    pub skip-comment : (q : ℕ) → comment_end x s p ≡ Here q → skip x s p ≡ skip x s (q + 2)
+    pub skip-comment : (q : ℕ) → comment_end x s p ≡ Some q → skip x s p ≡ skip x s (q + 2)
     skip-comment q g = past_comment x s p p refl slash-within (slash-blank s p e) refl no_hash opens refl (sym g) refl
 
-    pub skip-comment-opens : NoPair asterisk slash s (p + closes_after x) → skip x s p ≡ Open p
+    pub skip-comment-opens : NoPair asterisk slash s (p + closes_after x) → skip x s p ≡ Err p
     skip-comment-opens g =
         let n = comment-from x s p ∙ pair-nowhere asterisk slash s (p + closes_after x) g in
         sym (comment-opens x s p p refl slash-within (slash-blank s p e) refl no_hash opens refl (sym n) refl)
 
-  pub skip-stays : skips s p ≡ false → skip x s p ≡ At p
+  pub skip-stays : skips s p ≡ false → skip x s p ≡ Ok p
   skip-stays e = go (dec_lt p (length s))
     where
-      go : Dec (p < length s) → skip x s p ≡ At p
+      go : Dec (p < length s) → skip x s p ≡ Ok p
       go (yes h) =
           let a = neither (blank (get_or s p 0)) (eqb (get_or s p 0) hash || are slash asterisk (get_or s p 0) (get_or s (p + 1) 0)) e in
           let b = neither (eqb (get_or s p 0) hash) (are slash asterisk (get_or s p 0) (get_or s (p + 1) 0)) a.1 in
@@ -147,11 +145,11 @@ module _ (x : Edition) (s : List ℕ) (p : ℕ) where
       go (no h) = sym (skip-ends x s p p refl (omega arith))
 
   -- at the end of a token
-  pub semicolon-stays : Byte semicolon s p → skip x s p ≡ At p
+  pub semicolon-stays : Byte semicolon s p → skip x s p ≡ Ok p
   unfolding blank
   semicolon-stays e = skip-stays (rw e)
 
-  pub closing_stays : Byte closing_brace s p → skip x s p ≡ At p
+  pub closing_stays : Byte closing_brace s p → skip x s p ≡ Ok p
   unfolding blank
   closing_stays e = skip-stays (rw e)
 
@@ -159,17 +157,17 @@ module _ (x : Edition) (s : List ℕ) (p : ℕ) where
 pub data Turn (x : Edition) (s : List ℕ) (p : ℕ) : Type 0 where
   stays : skips s p ≡ false → Turn x s p
   at_blank : p < length s → blank (get_or s p 0) ≡ true → Turn x s p
-  at_line : {q : ℕ} → p < q → q < length s → Byte hash s p → first_from (is line_feed) s (p + 1) ≡ Here q → Turn x s p
-  at_comment : {q : ℕ} → p < q → q < length s → Byte slash s p → Byte asterisk s (p + 1) → comment_end x s p ≡ Here q → Turn x s p
-  in_line : Byte hash s p → None line_feed s p → Turn x s p
+  at_line : {q : ℕ} → p < q → q < length s → Byte hash s p → first_from (is line_feed) s (p + 1) ≡ Some q → Turn x s p
+  at_comment : {q : ℕ} → p < q → q < length s → Byte slash s p → Byte asterisk s (p + 1) → comment_end x s p ≡ Some q → Turn x s p
+  in_line : Byte hash s p → NoByte line_feed s p → Turn x s p
   in_comment : Byte slash s p → Byte asterisk s (p + 1) → NoPair asterisk slash s (p + closes_after x) → Turn x s p
 
 module _ (x : Edition) (s : List ℕ) (p : ℕ) where
-  turn_line : Byte hash s p → (f : Found) → first_from (is line_feed) s (p + 1) ≡ f → Turn x s p
-  turn_line k (Here q) e =
+  turn_line : Byte hash s p → (f : Option ℕ) → first_from (is line_feed) s (p + 1) ≡ f → Turn x s p
+  turn_line k (Some q) e =
       let f = first_within e in
       at_line {q = q} (omega (arith, f.onward)) f.within k e
-  turn_line k Nowhere e = in_line k (λ q l b. on q l b (dec_le (p + 1) q))
+  turn_line k None e = in_line k (λ q l b. on q l b (dec_le (p + 1) q))
     where
       on : (q : ℕ) → p ≤ q → Byte line_feed s q → Dec (p + 1 ≤ q) → ⊥
       on q l b (yes g) = nowhere_none line_feed s (p + 1) (omega arith) e q g b
@@ -177,11 +175,11 @@ module _ (x : Edition) (s : List ℕ) (p : ℕ) where
           let z : p ≡ q = omega arith in
           omega (arith, rw (← z) at b)
 
-  turn_comment : Byte slash s p → Byte asterisk s (p + 1) → (f : Found) → comment_end x s p ≡ f → Turn x s p
-  turn_comment j k (Here q) e =
+  turn_comment : Byte slash s p → Byte asterisk s (p + 1) → (f : Option ℕ) → comment_end x s p ≡ f → Turn x s p
+  turn_comment j k (Some q) e =
       let f = first_within (sym (comment-from x s p) ∙ e) in
       at_comment {q = q} (omega (arith, f.onward)) f.within j k e
-  turn_comment j k Nowhere e = in_comment j k (nowhere-pair asterisk slash s (p + closes_after x) (omega arith) (sym (comment-from x s p) ∙ e))
+  turn_comment j k None e = in_comment j k (nowhere-pair asterisk slash s (p + closes_after x) (omega arith) (sym (comment-from x s p) ∙ e))
 
   pub turn : Turn x s p
   turn = go (blank (get_or s p 0)) refl

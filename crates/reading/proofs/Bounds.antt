@@ -8,15 +8,15 @@ use borrow.Author.Tests.{eqb-true, ltb-true}
 use lib.Dec.{eqb, ltb}
 use lib.ListN.{length, get_or, drop, length-drop}
 use Rattle.numbers.specs.declared.Edition.{Edition}
+use Rattle.numbers.specs.declared.Refusal.{Refusal}
+use Rattle.numbers.specs.declared.Refusal.TheVariants as no
 use Rattle.numbers.specs.Refusals.{unclosed, unreadable, bad_extern}
+use Rattle.numbers.specs.Saying.{number}
 use Rattle.numbers.specs.Signs.{closing_brace, semicolon}
-use Rattle.linker_script.specs.declared.Found.{Found}
-use Rattle.linker_script.specs.declared.Found.TheVariants.{Here, Nowhere}
+use Rattle.std.specs.Prelude.{Option, Some, None, Ok, Err}
 use Rattle.linker_script.specs.Finding.{Test, closes, first_from, found_any, is}
 use Rattle.linker_script.proofs.Searches.{byte_within, first_within}
-use Rattle.reading_tokens.specs.declared.TokenEnd.{TokenEnd}
-use Rattle.reading_tokens.specs.declared.TokenEnd.TheVariants.{To, Refused}
-use Rattle.reading_tokens.specs.Tokens.{begins, stands_at, named, longer, name_in, name_end, end_at, to_semicolon, to_brace, brace_next, to_either, bare_extern_end, bare_end, bare_skip}
+use Rattle.reading_tokens.specs.Tokens.{TokenEnd, begins, stands_at, named, longer, name_in, name_end, end_at, to_semicolon, to_brace, brace_next, to_either, bare_extern_end, bare_end, bare_skip}
 use Rattle.reading_matchers.specs.Matchers.{past_semicolon}
 
 -- ---- bytes and words
@@ -69,30 +69,30 @@ of_grammar n = eqb n unreadable || (eqb n unclosed || eqb n bad_extern)
 
 -- a token that starts at p: it ends behind p, in the text, or its refusal is one of the grammar's
 pub data Ends (s : List ℕ) (p : ℕ) : TokenEnd → Type 0 where
-  ends : {q : ℕ} → p < q → q < length s → Ends s p (To q)
-  refuses : {n : ℕ} → of_grammar n ≡ true → Ends s p (Refused n)
+  ends : {q : ℕ} → p < q → q < length s → Ends s p (Ok q)
+  refuses : {n : Refusal} → of_grammar (number n) ≡ true → Ends s p (Err n)
 
 ends-cond : {s : List ℕ} {p : ℕ} (t : Bool) {a b : TokenEnd} → Ends s p a → Ends s p b → Ends s p (cond t a b)
 ends-cond true x y = x
 ends-cond false x y = y
 
 module _ (s : List ℕ) (p : ℕ) where
-  ends_found : (t : Test) (n : ℕ) → of_grammar n ≡ true → (f : Found) → first_from t s p ≡ f → Ends s p (end_at p n f)
-  ends_found t n h (Here q) e = go (ltb p q) refl
+  ends_found : (t : Test) (n : Refusal) → of_grammar (number n) ≡ true → (f : Option ℕ) → first_from t s p ≡ f → Ends s p (end_at p n f)
+  ends_found t n h (Some q) e = go (ltb p q) refl
     where
-      go : (v : Bool) → ltb p q ≡ v → Ends s p (cond v (To q) (Refused unreadable))
+      go : (v : Bool) → ltb p q ≡ v → Ends s p (cond v (Ok q) (Err no.Unreadable))
       go true l = ends (ltb-true p q l) (first_within e).within
       go false l = refuses refl
-  ends_found t n h Nowhere e = refuses h
+  ends_found t n h None e = refuses h
 
 module _ (x : Edition) (s : List ℕ) (p : ℕ) where
   pub semicolon-ends : Ends s p (to_semicolon x s p)
   unfolding to_semicolon
-  semicolon-ends = ends_found s p (is semicolon) unreadable refl (first_from (is semicolon) s p) refl
+  semicolon-ends = ends_found s p (is semicolon) no.Unreadable refl (first_from (is semicolon) s p) refl
 
   brace-ends : Ends s p (to_brace x s p)
   unfolding to_brace
-  brace-ends = ends_found s p (is closing_brace) unclosed refl (first_from (is closing_brace) s p) refl
+  brace-ends = ends_found s p (is closing_brace) no.Unclosed refl (first_from (is closing_brace) s p) refl
 
   pub either_ends : Ends s p (to_either x s p)
   unfolding to_either
@@ -106,18 +106,18 @@ pub bare_skip-within : (x : Edition) (s : List ℕ) → bare_skip x s ≤ length
 unfolding bare_skip
 bare_skip-within x s = go (first_from (is closing_brace) s 0) refl
   where
-    go : (f : Found) → first_from (is closing_brace) s 0 ≡ f → bare_skip x s ≤ length s
-    go (Here q) e = rw e (omega (arith, (first_within e).within))
-    go Nowhere e = rw e (omega arith)
+    go : (f : Option ℕ) → first_from (is closing_brace) s 0 ≡ f → bare_skip x s ≤ length s
+    go (Some q) e = rw e (omega (arith, (first_within e).within))
+    go None e = rw e (omega arith)
 
-pub bare-refuses : (x : Edition) (s : List ℕ) (n : ℕ) → bare_end x s ≡ Refused n → of_grammar n ≡ true
+pub bare-refuses : (x : Edition) (s : List ℕ) (n : Refusal) → bare_end x s ≡ Err n → of_grammar (number n) ≡ true
 unfolding bare_end
 bare-refuses x s n e = go (first_from (is closing_brace) s 0) refl
   where
-    short : (q : ℕ) (t : Bool) → cond t (To q) (Refused unreadable) ≡ Refused n → of_grammar n ≡ true
+    short : (q : ℕ) (t : Bool) → cond t (Ok q) (Err no.Unreadable) ≡ Err n → of_grammar (number n) ≡ true
     short q true h = absurd (true≢false (cc))
-    short q false h = let z : 2 ≡ n = cc in rw (← z)
+    short q false h = let z : no.Unreadable ≡ n = cc in rw (← z)
 
-    go : (f : Found) → first_from (is closing_brace) s 0 ≡ f → of_grammar n ≡ true
-    go (Here q) k = short q (ltb 0 q) (rw k at e)
-    go Nowhere k = let z : To (length s) ≡ Refused n = rw k at e in absurd (true≢false (cc))
+    go : (f : Option ℕ) → first_from (is closing_brace) s 0 ≡ f → of_grammar (number n) ≡ true
+    go (Some q) k = short q (ltb 0 q) (rw k at e)
+    go None k = let z : Ok (length s) ≡ Err n = rw k at e in absurd (true≢false (cc))

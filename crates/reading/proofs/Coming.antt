@@ -13,25 +13,22 @@ use lib.ListN.{length, get_or, drop, drop_of_length-le}
 use Rattle.lists.proofs.Tests.{both}
 use Rattle.numbers.specs.declared.Edition.{Edition}
 use Rattle.numbers.specs.Limits.{script_limit, token_limit}
-use Rattle.numbers.specs.Refusals.{unreadable, unclosed, bad_extern}
+use Rattle.numbers.specs.declared.Refusal.TheVariants as no
 use Rattle.numbers.specs.Signs.{closing_brace, opening_brace, semicolon}
-use Rattle.linker_script.specs.declared.Skipped.TheVariants.{At, Open}
+use Rattle.std.specs.Prelude.{Ok, Err}
 use Rattle.linker_script.specs.Finding.{closes, first_from, found_any}
 use Rattle.linker_script.proofs.Searches.{drop_next}
-use Rattle.reading_tokens.specs.declared.TokenEnd.{TokenEnd}
-use Rattle.reading_tokens.specs.declared.TokenEnd.TheVariants as no
-use Rattle.reading_tokens.specs.Tokens.{begins, stands_at, named, longer, name_in, name_end, to_semicolon, to_brace, brace_next, to_either, bare_extern_end, bare_end, bare_skip}
+use Rattle.reading_tokens.specs.Tokens.{TokenEnd, begins, stands_at, named, longer, name_in, name_end, to_semicolon, to_brace, brace_next, to_either, bare_extern_end, bare_end, bare_skip}
+use Rattle.reading_cursors.specs.declared.places.Place.{Place}
 use Rattle.reading_cursors.specs.declared.Cursor.{Cursor}
 use Rattle.reading_cursors.specs.declared.Event.{Event}
 use Rattle.reading_cursors.specs.declared.Event.TheVariants.{Body, Extern, Closed}
-use Rattle.reading_cursors.specs.declared.Step.{Step}
-use Rattle.reading_cursors.specs.declared.Step.TheVariants.{Go, Refused}
-use Rattle.reading_cursors.specs.Moves.{edition_at, moved, in_section, in_language, skip_at, skipping, expecting, ending}
+use Rattle.reading_cursors.specs.Moves.{Step, stepped, refused_at, edition_at, moved, in_section, in_language, skip_at, skipping, expecting, ending}
 use Rattle.reading_matchers.specs.Matchers.{extern_word, cxx_word, c_word, close_word, line_to, extern_open, extern_at, extern_inside, in_extern, in_bare, matcher as matcher-at, line as line_of, bare_line, bare_matcher}
 use Rattle.reading_cursors.specs.Places.{in_body, in_body_extern, in_sole, in_sole_extern, in_list, in_list_extern, in_symbol_extern, in_bare_extern, behind_symbol}
 use Rattle.reading_bodies.specs.Bodies.{global_word, local_word, name_to, node_at, script_at, parent_to, parent_at, node_end, sole_end, inside_body, body_at, sole_at, list_at}
-use Rattle.reading.specs.Scripts.{opening_at, start_script, go_node, go_body, go_sole, go_list, next_script, next_list, next_symbol, next}
-use Rattle.reading.specs.Rules.{Byte, None, Word, NoWord, NameByte, Token, plain_token, extern_token, bare_token, bare_extern_token, to_closing, Rule, skip_to, script_start, node, opening, body, parent, last_semicolon, end, matchers, matcher, block, token, no_more, Due, due_script, due_node, due_opening, due_body, due_body_block, due_sole, due_sole_block, due_list, due_matchers, due_list_block, due_symbol, due_symbol_block, due_bare, due_bare_block, due_at, Over, script, list, symbol, bare, Comes, starts, past_blank, past_line, past_comment, skipped, to_nodes, behind_body, of_body, behind_semicolon, behind_list, of_list, behind_cxx, behind_c, behind_block, of_matcher, of_block, all_text}
+use Rattle.reading.specs.Scripts.{opening_at, start_script, go_node, go_body, go_sole, go_list, step_at, next}
+use Rattle.reading.specs.Rules.{Byte, NoByte, Word, NoWord, NameByte, Token, plain_token, extern_token, bare_token, bare_extern_token, to_closing, Rule, skip_to, script_start, node, opening, body, parent, last_semicolon, end, matchers, matcher, block, token, no_more, Due, due_script, due_node, due_opening, due_body, due_body_block, due_sole, due_sole_block, due_list, due_matchers, due_list_block, due_symbol, due_symbol_block, due_bare, due_bare_block, due_at, Over, script, list, symbol, bare, Comes, starts, past_blank, past_line, past_comment, skipped, to_nodes, behind_body, of_body, behind_semicolon, behind_list, of_list, behind_cxx, behind_c, behind_block, of_matcher, of_block, all_text}
 use Rattle.reading.specs.Refusing.{Unreadable, no_name, no_opening, no_parent_end, no_semicolon, bytes_remain, no_token_end, empty_to_semicolon, empty_to_closing, Unclosed, line, comment, no_brace_left, BadExtern, language, within_extern}
 use Rattle.reading.proofs.Absence.{none_nowhere, stands_first, pair-nowhere, skip-blank, skip-line, skip-line-opens, skip-comment, skip-comment-opens, skip-stays}
 
@@ -107,19 +104,19 @@ pub data Rest (s : List ℕ) (c : Cursor) : Rule → ℕ → Step → Type 0 whe
   skip_rest : {r : Rule} {p : ℕ} (on : ℕ → Step) → ((q : ℕ) → Rest s c r q (on q)) → Rest s c (skip_to r) p (skipping c s p on)
   script_rest : {p : ℕ} → Rest s c script_start p (script_at c s p)
   node_rest : {p : ℕ} → Rest s c node p (node_at c s p)
-  opening_rest : {p : ℕ} (e : Event) (d : ℕ → Cursor) → Rest s c opening p (expecting opening_brace s p (λ q. Go e (d q)))
-  body_rest : {r : Rule} {p : ℕ} {a : Step} (inner : ℕ) → Rest s c (skip_to r) (p + 1) a
+  opening_rest : {p : ℕ} (e : Event) (d : ℕ → Cursor) → Rest s c opening p (expecting opening_brace s p (λ q. stepped e (d q)))
+  body_rest : {r : Rule} {p : ℕ} {a : Step} (inner : Place) → Rest s c (skip_to r) (p + 1) a
       → Rest s c (body r) p (cond (eqb (get_or s p 0) closing_brace) a (inside_body c s inner p))
   parent_rest : {p : ℕ} (d : Cursor) → Rest s c parent p (parent_at d s p)
   semicolon_rest : {p : ℕ} → Rest s c last_semicolon p (expecting semicolon s p (λ r. skipping c s r (λ e. ending s e)))
   end_rest : {p : ℕ} → Rest s c end p (ending s p)
   list_rest : {p : ℕ} → Rest s c matchers p (list_at c s p)
-  matcher_rest : {k : Token} {p : ℕ} {t : Step} (inner : ℕ) → Rest s c (token k) p t
+  matcher_rest : {k : Token} {p : ℕ} {t : Step} (inner : Place) → Rest s c (token k) p t
       → Rest s c (matcher k) p (cond (stands_at extern_word s p) (extern_at c s inner p) t)
-  block_rest : {k : Token} {p : ℕ} (place : ℕ) → usual k ≡ true → Rest s c (block k) p (extern_inside c s place p (token_end (edition_at c) k s p))
-  token_rest : {k : Token} {p : ℕ} (place : ℕ) → usual k ≡ true → Rest s c (token k) p (line_to c s place p (token_end (edition_at c) k s p))
-  bare_rest : {p : ℕ} (place : ℕ) → p ≡ 0 → Rest s c (token bare_token) p (bare_line c s place (bare_end (edition_at c) s))
-  no_more_rest : {p : ℕ} (e : Event) (d : Cursor) → Rest s c no_more p (Go e d)
+  block_rest : {k : Token} {p : ℕ} (place : Place) → usual k ≡ true → Rest s c (block k) p (extern_inside c s place p (token_end (edition_at c) k s p))
+  token_rest : {k : Token} {p : ℕ} (place : Place) → usual k ≡ true → Rest s c (token k) p (line_to c s place p (token_end (edition_at c) k s p))
+  bare_rest : {p : ℕ} (place : Place) → p ≡ 0 → Rest s c (token bare_token) p (bare_line c s place (bare_end (edition_at c) s))
+  no_more_rest : {p : ℕ} (e : Event) (d : Cursor) → Rest s c no_more p (stepped e d)
 
 in_limit : (s : List ℕ) (limit : ℕ) → (limit < length s → ⊥) → ltb limit (length s) ≡ false
 in_limit s limit h = le-ltb limit (length s) (omega arith)
@@ -129,28 +126,28 @@ pub data Left (s : List ℕ) (c : Cursor) (r : Rule) (p : ℕ) : Type 0 where
 
 module _ {s : List ℕ} {c : Cursor} where
   -- a matcher in a body or a list; the `{` of an extern block
-  plain_rest : (inner place p : ℕ) → Rest s c (matcher plain_token) p (matcher-at c s inner place p)
+  plain_rest : (inner place : Place) (p : ℕ) → Rest s c (matcher plain_token) p (matcher-at c s inner place p)
   unfolding matcher-at
   plain_rest inner place p = matcher_rest inner (token_rest place refl)
 
-  extern_rest : (place l p : ℕ) → Rest s c (skip_to opening) p (extern_open c s place l p)
+  extern_rest : (place : Place) (l p : ℕ) → Rest s c (skip_to opening) p (extern_open c s place l p)
   unfolding extern_open
   extern_rest place l p =
       skip_rest
-      (λ r. expecting opening_brace s r (λ q. Go (Extern c.section l) (moved (in_language c l) place q)))
+      (λ r. expecting opening_brace s r (λ q. stepped (Extern c.section l) (moved (in_language c l) place q)))
       (λ q. opening_rest (Extern c.section l) (λ r. moved (in_language c l) place r))
 
   end_skip_rest : (p : ℕ) → Rest s c (skip_to end) p (skipping c s p (λ r. ending s r))
   end_skip_rest p = skip_rest (λ r. ending s r) (λ q. end_rest)
 
-  closed_rest : {p : ℕ} (place : ℕ) → Rest s c (skip_to no_more) p (skipping c s p (λ r. Go Closed (moved (in_language c 0) place r)))
-  closed_rest place = skip_rest (λ r. Go Closed (moved (in_language c 0) place r)) (λ q. no_more_rest Closed (moved (in_language c 0) place q))
+  closed_rest : {p : ℕ} (place : Place) → Rest s c (skip_to no_more) p (skipping c s p (λ r. stepped Closed (moved (in_language c 0) place r)))
+  closed_rest place = skip_rest (λ r. stepped Closed (moved (in_language c 0) place r)) (λ q. no_more_rest Closed (moved (in_language c 0) place q))
 
   -- ---- a step comes to where it is said to come
   skip-moves : {r : Rule} {p q : ℕ} → skip_at c s p ≡ skip_at c s q → Left s c (skip_to r) p → Left s c (skip_to r) q
   skip-moves e (left (skip_rest on f) z) = left (skip_rest on f) (z ∙ rw e)
 
-  skip-done : {r : Rule} {p : ℕ} → skip_at c s p ≡ At p → Left s c (skip_to r) p → Left s c r p
+  skip-done : {r : Rule} {p : ℕ} → skip_at c s p ≡ Ok p → Left s c (skip_to r) p → Left s c r p
   skip-done {p = p} e (left (skip_rest on f) z) = left (f p) (z ∙ rw e)
 
   nodes_left : {p : ℕ} → (Byte opening_brace s p → ⊥) → Left s c script_start p → Left s c node p
@@ -197,15 +194,15 @@ module _ {s : List ℕ} {c : Cursor} where
   unfolding extern_inside
   in_block_left e f (left (block_rest place u) z) = left (token_rest c.place u) (z ∙ rw (e, f))
 
-  all_left : {p : ℕ} → None closing_brace s p → Left s c (token bare_token) p → Left s c (skip_to no_more) 0
+  all_left : {p : ℕ} → NoByte closing_brace s p → Left s c (token bare_token) p → Left s c (skip_to no_more) 0
   unfolding bare_line bare_end bare_skip
   all_left n (left (token_rest place u) z) = absurd (true≢false (sym u))
   all_left n (left (bare_rest place y) z) =
       let e = none_nowhere closing_brace s 0 (rw y at n) in
       left (skip_rest (λ r. matched place) (λ q. no_more_rest (line_of c s 0 (length s)) (moved c place (length s + 1)))) (z ∙ rw (e, bare_line, e))
     where
-      matched : ℕ → Step
-      matched place = Go (line_of c s 0 (length s)) (moved c place (length s + 1))
+      matched : Place → Step
+      matched place = stepped (line_of c s 0 (length s)) (moved c place (length s + 1))
 
   -- where it starts
   at_body_rest : (p : ℕ) → Rest s c (body parent) p (body_at c s p)
@@ -218,31 +215,31 @@ module _ {s : List ℕ} {c : Cursor} where
       body_rest in_sole_extern
       (skip_rest (λ q. expecting semicolon s q (λ r. skipping c s r (λ e. ending s e))) (λ q. semicolon_rest))
 
-  at_opening_rest : (place : ℕ) → Rest s c (skip_to opening) c.at (opening_at c s place)
+  at_opening_rest : (place : Place) → Rest s c (skip_to opening) c.at (opening_at c s place)
   unfolding opening_at
   at_opening_rest place =
-      skip_rest (λ p. expecting opening_brace s p (λ q. Go Body (moved c place q))) (λ p. opening_rest Body (λ q. moved c place q))
+      skip_rest (λ p. expecting opening_brace s p (λ q. stepped Body (moved c place q))) (λ p. opening_rest Body (λ q. moved c place q))
 
-  at_block_rest : (place : ℕ) → Rest s c (skip_to (block extern_token)) c.at (in_extern c s place)
+  at_block_rest : (place : Place) → Rest s c (skip_to (block extern_token)) c.at (in_extern c s place)
   unfolding in_extern to_either
   at_block_rest place =
       skip_rest {r = block extern_token}
       (λ p. extern_inside c s place p (to_either (edition_at c) s p))
       (λ p. block_rest place refl)
 
-  at_bare-block_rest : (place : ℕ) → Rest s c (skip_to (block bare_extern_token)) c.at (in_bare c s place)
+  at_bare-block_rest : (place : Place) → Rest s c (skip_to (block bare_extern_token)) c.at (in_bare c s place)
   unfolding in_bare
   at_bare-block_rest place =
       skip_rest {r = block bare_extern_token}
       (λ p. extern_inside c s place p (bare_extern_end (edition_at c) s p))
       (λ p. rw (bare_end-said (edition_at c) s p) (block_rest place refl))
 
-  at_bare_rest : (inner place : ℕ) → Rest s c (matcher bare_token) 0 (bare_matcher c s inner place)
+  at_bare_rest : (inner place : Place) → Rest s c (matcher bare_token) 0 (bare_matcher c s inner place)
   unfolding bare_matcher
   at_bare_rest inner place = matcher_rest inner (bare_rest place refl)
 
-  pub due_left : {r : Rule} (n : ℕ) → c.place ≡ n → (Over s n → ⊥) → Due n r → Left s c r (due_at n c.at)
-  unfolding next next_script next_list next_symbol start_script go_node go_body go_sole go_list
+  pub due_left : {r : Rule} (n : Place) → c.place ≡ n → (Over s n → ⊥) → Due n r → Left s c r (due_at n c.at)
+  unfolding next step_at start_script go_node go_body go_sole go_list
   due_left n z o due_script = left (skip_rest (λ p. script_at c s p) (λ p. script_rest)) (rw (z, in_limit s script_limit (λ h. o (script h))))
   due_left n z o due_node = left (skip_rest (λ p. node_at c s p) (λ p. node_rest)) (rw z)
   due_left n z o due_opening = left (at_opening_rest in_body) (rw z)
@@ -279,58 +276,58 @@ module _ {s : List ℕ} {c : Cursor} where
 
   -- ---- and refuses where it is said to refuse
   module _ {p : ℕ} where
-    name-refuses : (p ≡ length s → ⊥) → (NameByte s p → ⊥) → Left s c node p → next s c ≡ Refused unreadable p
+    name-refuses : (p ≡ length s → ⊥) → (NameByte s p → ⊥) → Left s c node p → next s c ≡ refused_at no.Unreadable p
     unfolding node_at name_to
     name-refuses n m (left node_rest z) = z ∙ rw (ne_eqb p (length s) n, le-ltb p (name_end s p) (name-stays s p m))
 
-    opening-refuses : (Byte opening_brace s p → ⊥) → Left s c opening p → next s c ≡ Refused unreadable p
+    opening-refuses : (Byte opening_brace s p → ⊥) → Left s c opening p → next s c ≡ refused_at no.Unreadable p
     opening-refuses n (left (opening_rest e d) z) = z ∙ rw (ne_eqb (get_or s p 0) opening_brace n)
 
-    parent-refuses : None semicolon s p → Left s c parent p → next s c ≡ Refused unreadable p
+    parent-refuses : NoByte semicolon s p → Left s c parent p → next s c ≡ refused_at no.Unreadable p
     unfolding parent_at parent_to
     parent-refuses n (left (parent_rest d) z) = z ∙ rw (none_nowhere semicolon s p n)
 
-    semicolon-refuses : (Byte semicolon s p → ⊥) → Left s c last_semicolon p → next s c ≡ Refused unreadable p
+    semicolon-refuses : (Byte semicolon s p → ⊥) → Left s c last_semicolon p → next s c ≡ refused_at no.Unreadable p
     semicolon-refuses n (left semicolon_rest z) = z ∙ rw (ne_eqb (get_or s p 0) semicolon n)
 
-    end_refuses : (p ≡ length s → ⊥) → Left s c end p → next s c ≡ Refused unreadable p
+    end_refuses : (p ≡ length s → ⊥) → Left s c end p → next s c ≡ refused_at no.Unreadable p
     end_refuses n (left end_rest z) = z ∙ rw (ne_eqb p (length s) n)
 
-    skip-refuses : {r : Rule} → skip_at c s p ≡ Open p → Left s c (skip_to r) p → next s c ≡ Refused unclosed p
+    skip-refuses : {r : Rule} → skip_at c s p ≡ Err p → Left s c (skip_to r) p → next s c ≡ refused_at no.Unclosed p
     skip-refuses e (left (skip_rest on f) z) = z ∙ rw e
 
     language-refuses : {k : Token} → Word extern_word s p → NoWord cxx_word s (p + 7) → NoWord c_word s (p + 7) → Left s c (matcher k) p
-        → next s c ≡ Refused bad_extern p
+        → next s c ≡ refused_at no.BadExtern p
     unfolding extern_at
     language-refuses e a b (left (matcher_rest inner x) z) = z ∙ rw (e, a, b)
 
-    within-refuses : {k : Token} → Word extern_word s p → Left s c (block k) p → next s c ≡ Refused bad_extern p
+    within-refuses : {k : Token} → Word extern_word s p → Left s c (block k) p → next s c ≡ refused_at no.BadExtern p
     unfolding extern_inside
     within-refuses e (left (block_rest place u) z) = z ∙ rw (differ extern_word close_word s p 0 (omega arith) (omega arith) (λ y. omega arith) e, e)
 
     -- tokens
-    no_end_refuses : {k : Token} → to_closing (edition_at c) k s p ≡ false → None semicolon s p → Left s c (token k) p → next s c ≡ Refused unreadable p
+    no_end_refuses : {k : Token} → to_closing (edition_at c) k s p ≡ false → NoByte semicolon s p → Left s c (token k) p → next s c ≡ refused_at no.Unreadable p
     unfolding line_to to_semicolon
     no_end_refuses e n (left (token_rest place u) z) = z ∙ rw (e, none_nowhere semicolon s p n)
     no_end_refuses e n (left (bare_rest place y) z) = absurd (true≢false e)
 
-    empty-refuses : {k : Token} → to_closing (edition_at c) k s p ≡ false → Byte semicolon s p → Left s c (token k) p → next s c ≡ Refused unreadable p
+    empty-refuses : {k : Token} → to_closing (edition_at c) k s p ≡ false → Byte semicolon s p → Left s c (token k) p → next s c ≡ refused_at no.Unreadable p
     unfolding line_to to_semicolon
     empty-refuses e b (left (token_rest place u) z) = z ∙ rw (e, stands_first semicolon s p (omega arith) b, le-ltb p p (omega arith))
     empty-refuses e b (left (bare_rest place y) z) = absurd (true≢false e)
 
-    closing_refuses : {k : Token} → to_closing (edition_at c) k s p ≡ true → Byte closing_brace s p → Left s c (token k) p → next s c ≡ Refused unreadable p
+    closing_refuses : {k : Token} → to_closing (edition_at c) k s p ≡ true → Byte closing_brace s p → Left s c (token k) p → next s c ≡ refused_at no.Unreadable p
     unfolding line_to to_brace bare_line bare_end
     closing_refuses e b (left (token_rest place u) z) = z ∙ rw (e, stands_first closing_brace s p (omega arith) b, le-ltb p p (omega arith))
     closing_refuses e b (left (bare_rest place y) z) = z ∙ rw (stands_first closing_brace s 0 (omega arith) (rw y at b), y)
 
-    brace-refuses : None closing_brace s p → Left s c (token extern_token) p → next s c ≡ Refused unclosed p
+    brace-refuses : NoByte closing_brace s p → Left s c (token extern_token) p → next s c ≡ refused_at no.Unclosed p
     unfolding line_to to_brace
     brace-refuses n (left (token_rest place u) z) =
         z ∙ rw (pair-nowhere closing_brace semicolon s p (λ q l b _. n q l b), none_nowhere closing_brace s p n)
 
   module _ {p : ℕ} where
-    pub unreadable-refuses : Unreadable s c p → next s c ≡ Refused unreadable p
+    pub unreadable-refuses : Unreadable s c p → next s c ≡ refused_at no.Unreadable p
     unreadable-refuses (no_name h n m) = name-refuses n m (comes_left h)
     unreadable-refuses (no_opening h n) = opening-refuses n (comes_left h)
     unreadable-refuses (no_parent_end h n) = parent-refuses n (comes_left h)
@@ -340,11 +337,11 @@ module _ {s : List ℕ} {c : Cursor} where
     unreadable-refuses (empty_to_semicolon h e b) = empty-refuses e b (comes_left h)
     unreadable-refuses (empty_to_closing h e b) = closing_refuses e b (comes_left h)
 
-    pub unclosed-refuses : Unclosed s c p → next s c ≡ Refused unclosed p
+    pub unclosed-refuses : Unclosed s c p → next s c ≡ refused_at no.Unclosed p
     unclosed-refuses (line h e n) = skip-refuses (skip-line-opens (edition_at c) s p e n) (comes_left h)
     unclosed-refuses (comment h e f n) = skip-refuses (skip-comment-opens (edition_at c) s p e f n) (comes_left h)
     unclosed-refuses (no_brace_left h n) = brace-refuses n (comes_left h)
 
-    pub bad_extern-refuses : BadExtern s c p → next s c ≡ Refused bad_extern p
+    pub bad_extern-refuses : BadExtern s c p → next s c ≡ refused_at no.BadExtern p
     bad_extern-refuses (language h e a b) = language-refuses e a b (comes_left h)
     bad_extern-refuses (within_extern h e) = within-refuses e (comes_left h)

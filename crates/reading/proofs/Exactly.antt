@@ -2,51 +2,50 @@
 -- and 4 (`unreadable_exactly`, `unclosed_exactly`, `bad_extern_exactly`; for 1, `too_long_exactly` of proofs/Refusals.antt), and of a whole reading
 -- (`reading_exactly`). A step may start at any cursor: nothing is asked of it.
 -- Assumes nothing.
-use Prim.Native.Nat.{ℕ, zero, suc, ◌+◌, ◌-◌, ◌<◌, ◌≤◌}
-use mathlib.Core.Path.{◌≡◌, refl, sym, ◌∙◌}
+use Prim.Native.Nat.{ℕ, zero, suc, ◌+◌, ◌-◌, ◌<◌}
+use mathlib.Core.Path.{◌≡◌, refl, sym, ◌∙◌, ap}
 use mathlib.Core.List.{List}
 use mathlib.Core.Bool.{Bool, true, false, cond, true≢false}
-use native.Mathlib.Decide.{dec_lt}
 use native.Mathlib.Omega.{arith}
-use borrow.Author.Tests.{ne_eqb, eqb-true, eqb-false, le-ltb, ltb-false}
+use borrow.Author.Tests.{eqb-true, eqb-false, ltb-false}
 use lib.Dec.{eqb, ltb}
 use lib.ListN.{length, get_or}
-use Rattle.numbers.specs.Refusals.{too_long, unreadable, unclosed, bad_extern}
+use Rattle.numbers.specs.declared.Refusal.{Refusal}
+use Rattle.numbers.specs.declared.Refusal.TheVariants as no
+use Rattle.numbers.specs.Saying.{number}
 use Rattle.numbers.specs.Signs.{closing_brace, opening_brace, semicolon}
-use Rattle.linker_script.specs.declared.Found.{Found}
-use Rattle.linker_script.specs.declared.Found.TheVariants.{Here, Nowhere}
-use Rattle.linker_script.specs.declared.Skipped.TheVariants.{At}
+use Rattle.std.specs.Prelude.{Option, Some, None, Ok, Err}
 use Rattle.linker_script.specs.Finding.{closes, first_from, is}
 use Rattle.linker_script.proofs.Searches.{first_within}
-use Rattle.reading_tokens.specs.declared.TokenEnd.{TokenEnd}
-use Rattle.reading_tokens.specs.declared.TokenEnd.TheVariants.{To}
-use Rattle.reading_tokens.specs.declared.TokenEnd.TheVariants as no
-use Rattle.reading_tokens.specs.Tokens.{stands_at, name_end, end_at, to_semicolon, to_brace, bare_end, bare_skip}
+use Rattle.reading_tokens.specs.Tokens.{TokenEnd, stands_at, name_end, end_at, to_semicolon, to_brace, bare_end, bare_skip}
+use Rattle.numbers.specs.declared.Edition.{Edition}
+use Rattle.reading_cursors.specs.declared.places.Place.TheVariants as place
+use Rattle.reading_cursors.specs.declared.places.Place.{Place}
 use Rattle.reading_cursors.specs.declared.Cursor.{Cursor}
 use Rattle.reading_cursors.specs.declared.Event.{Event}
 use Rattle.reading_cursors.specs.declared.Event.TheVariants.{Extern}
-use Rattle.reading_cursors.specs.declared.Step.{Step}
-use Rattle.reading_cursors.specs.declared.Step.TheVariants.{Go, End, Refused}
-use Rattle.reading_cursors.specs.Moves.{edition_at, moved, in_language, skip_at, skipping, expecting, ending}
+use Rattle.reading_cursors.specs.declared.RefusedAt.{RefusedAt}
+use Rattle.reading_cursors.specs.Moves.{Step, stepped, finished, refused_at, edition_at, moved, in_language, skip_at, skipping, expecting, ending}
 use Rattle.reading_matchers.specs.Matchers.{extern_word, cxx_word, c_word, close_word, line_to, extern_open, extern_at, extern_inside, matcher as matcher-at, bare_line}
-use Rattle.reading_cursors.specs.Places.{at_list, in_list, in_list_extern, at_symbol, in_symbol_extern, at_bare, in_bare_extern}
+use Rattle.reading_cursors.specs.Places.{in_list, in_list_extern, behind_symbol}
 use Rattle.reading_bodies.specs.Bodies.{global_word, local_word, name_to, node_at, script_at, parent_to, parent_at, inside_body, list_at}
-use Rattle.reading.specs.Scripts.{next_symbol, next}
+use Rattle.reading.specs.Scripts.{step_at, next}
 use Rattle.reading.specs.Rules.{Byte, Token, plain_token, extern_token, bare_token, bare_extern_token, to_closing, Rule, skip_to, node, opening, parent, end, matcher, token, Due, due_script, due_node, due_opening, due_body, due_body_block, due_sole, due_sole_block, due_list, due_matchers, due_list_block, due_symbol, due_symbol_block, due_bare, due_bare_block, Over, Comes, starts, past_blank, past_line, past_comment, skipped, to_nodes, behind_body, of_body, behind_semicolon, behind_list, of_list, behind_cxx, behind_c, behind_block, of_matcher, of_block, all_text}
 use Rattle.reading.specs.Refusing.{Unreadable, no_name, no_opening, no_parent_end, no_semicolon, bytes_remain, no_token_end, empty_to_semicolon, empty_to_closing, Unclosed, line, comment, no_brace_left, BadExtern, language, within_extern, Refusing, one, two, three, four, Reaches, first, after, RefusedReading}
 use Rattle.reading.specs.Events.{refused, on_step, reading_from, reading}
 use Rattle.reading.proofs.Absence.{nowhere_none, pair_found, skip-blank, skip-line, skip-line-opens, skip-comment, skip-comment-opens, skip-stays, semicolon-stays, closing_stays, Turn, stays, at_blank, at_line, at_comment, in_line, in_comment, turn}
 use Rattle.reading.specs.Standing.{Standing}
 use Rattle.reading.proofs.Onward.{start_stands, next_stands, next_onward, reading_step}
-use Rattle.reading.proofs.Refusals.{too_long_exactly}
+use Rattle.reading.proofs.Refusals.{refusal, too_long_exactly}
+use Rattle.reading.proofs.Steps.{Reason, long, grammar}
 use Rattle.reading.proofs.Coming.{name-goes, usual, token_end, Rest, skip_rest, script_rest, node_rest, opening_rest, body_rest, parent_rest, semicolon_rest, end_rest, list_rest, matcher_rest, block_rest, token_rest, bare_rest, no_more_rest, Left, left, due_left, unreadable-refuses, unclosed-refuses, bad_extern-refuses}
 
 module _ (s : List ℕ) (c : Cursor) where
   -- ---- it refuses only so
   data Says : Step → Type 0 where
-    goes : {e : Event} {d : Cursor} → Says (Go e d)
-    ended : Says End
-    refuses : {n p : ℕ} → Refusing s c n p → Says (Refused n p)
+    goes : {e : Event} {d : Cursor} → Says (stepped e d)
+    ended : Says finished
+    refuses : {n : Refusal} {p : ℕ} → Refusing s c n p → Says (refused_at n p)
 
   on_cond : (t : Bool) {a b : Step} → (t ≡ true → Says a) → (t ≡ false → Says b) → Says (cond t a b)
   on_cond true f g = f refl
@@ -78,7 +77,7 @@ module _ (s : List ℕ) (c : Cursor) where
         (λ e. on_cond (ltb p (name_end s p)) (λ _. goes)
         (λ h. refuses (two (no_name w (eqb-false p (length s) e) (λ n. omega (arith, ltb-false p (name_end s p) h, name-goes n))))))
 
-    opening-says : (e : Event) (d : ℕ → Cursor) → Comes s c opening p → Says (expecting opening_brace s p (λ q. Go e (d q)))
+    opening-says : (e : Event) (d : ℕ → Cursor) → Comes s c opening p → Says (expecting opening_brace s p (λ q. stepped e (d q)))
     opening-says e d w =
         on_cond (eqb (get_or s p 0) opening_brace) (λ _. goes) (λ h. refuses (two (no_opening w (eqb-false (get_or s p 0) opening_brace h))))
 
@@ -89,60 +88,60 @@ module _ (s : List ℕ) (c : Cursor) where
     unfolding parent_at parent_to
     parent-says d w = go (first_from (is semicolon) s p) refl
       where
-        go : (f : Found) → first_from (is semicolon) s p ≡ f → Says (parent_to d p f)
-        go (Here q) e = goes
-        go Nowhere e = refuses (two (no_parent_end w (nowhere_none semicolon s p (omega arith) e)))
+        go : (f : Option ℕ) → first_from (is semicolon) s p ≡ f → Says (parent_to d p f)
+        go (Some q) e = goes
+        go None e = refuses (two (no_parent_end w (nowhere_none semicolon s p (omega arith) e)))
 
   -- tokens
   data Ended (k : Token) (p : ℕ) : TokenEnd → Type 0 where
-    to : {q : ℕ} → skip_at c s q ≡ At q → Ended k p (To q)
-    not : {n : ℕ} → (Comes s c (token k) p → Refusing s c n p) → Ended k p (no.Refused n)
+    to : {q : ℕ} → skip_at c s q ≡ Ok q → Ended k p (Ok q)
+    not : {n : Refusal} → (Comes s c (token k) p → Refusing s c n p) → Ended k p (Err n)
 
   -- one that goes to the byte b
-  ended-found : {k : Token} {p : ℕ} (b n : ℕ) → ((q : ℕ) → Byte b s q → skip_at c s q ≡ At q) → (Byte b s p → Comes s c (token k) p → Refusing s c unreadable p)
-      → (first_from (is b) s p ≡ Nowhere → Comes s c (token k) p → Refusing s c n p) → (f : Found) → first_from (is b) s p ≡ f → Ended k p (end_at p n f)
-  ended-found {k} {p} b n z empty none (Here q) e = go (ltb p q) refl
+  ended-found : {k : Token} {p : ℕ} (b : ℕ) (n : Refusal) → ((q : ℕ) → Byte b s q → skip_at c s q ≡ Ok q) → (Byte b s p → Comes s c (token k) p → Refusing s c no.Unreadable p)
+      → (first_from (is b) s p ≡ None → Comes s c (token k) p → Refusing s c n p) → (f : Option ℕ) → first_from (is b) s p ≡ f → Ended k p (end_at p n f)
+  ended-found {k} {p} b n z empty none (Some q) e = go (ltb p q) refl
     where
       stands-there : Byte b s q
       stands-there = eqb-true (get_or s q 0) b (first_within e).holds
 
-      go : (v : Bool) → ltb p q ≡ v → Ended k p (cond v (To q) (no.Refused unreadable))
+      go : (v : Bool) → ltb p q ≡ v → Ended k p (cond v (Ok q) (Err no.Unreadable))
       go true h = to (z q stands-there)
       go false h =
           let y : q ≡ p = omega (arith, ltb-false p q h, (first_within e).onward) in
           not (empty (rw y at stands-there))
-  ended-found b n z empty none Nowhere e = not (none e)
+  ended-found b n z empty none None e = not (none e)
 
   semicolon-ended : {k : Token} {p : ℕ} → to_closing (edition_at c) k s p ≡ false → Ended k p (to_semicolon (edition_at c) s p)
   unfolding to_semicolon
   semicolon-ended {p = p} h =
-      ended-found semicolon unreadable (semicolon-stays (edition_at c) s) (λ b w. two (empty_to_semicolon w h b))
+      ended-found semicolon no.Unreadable (semicolon-stays (edition_at c) s) (λ b w. two (empty_to_semicolon w h b))
       (λ e w. two (no_token_end w h (nowhere_none semicolon s p (omega arith) e)))
       (first_from (is semicolon) s p)
       refl
 
-  no_brace : {k : Token} {p : ℕ} → usual k ≡ true → to_closing (edition_at c) k s p ≡ true → first_from (is closing_brace) s p ≡ Nowhere → Comes s c (token k) p
-      → Refusing s c unclosed p
+  no_brace : {k : Token} {p : ℕ} → usual k ≡ true → to_closing (edition_at c) k s p ≡ true → first_from (is closing_brace) s p ≡ None → Comes s c (token k) p
+      → Refusing s c no.Unclosed p
   no_brace {k = plain_token} u h e w = absurd (true≢false (sym h))
   no_brace {k = extern_token} {p = p} u h e w = three (no_brace_left w (nowhere_none closing_brace s p (omega arith) e))
   no_brace {k = bare_token} u h e w = absurd (true≢false (sym u))
   no_brace {k = bare_extern_token} {p = p} u h e w = go (first_from closes s p) refl
     where
-      go : (f : Found) → first_from closes s p ≡ f → Refusing s c unclosed p
-      go (Here q) k =
+      go : (f : Option ℕ) → first_from closes s p ≡ f → Refusing s c no.Unclosed p
+      go (Some q) k =
           let x = pair_found closing_brace semicolon s p q k in
           absurd (nowhere_none closing_brace s p (omega arith) e q x.0 x.1.0)
-      go Nowhere k = absurd (true≢false (sym (rw k at h)))
+      go None k = absurd (true≢false (sym (rw k at h)))
 
   brace-ended : {k : Token} {p : ℕ} → usual k ≡ true → to_closing (edition_at c) k s p ≡ true → Ended k p (to_brace (edition_at c) s p)
   unfolding to_brace
   brace-ended {p = p} u h =
-      ended-found closing_brace unclosed (closing_stays (edition_at c) s) (λ b w. two (empty_to_closing w h b))
+      ended-found closing_brace no.Unclosed (closing_stays (edition_at c) s) (λ b w. two (empty_to_closing w h b))
       (no_brace u h)
       (first_from (is closing_brace) s p)
       refl
 
-  token-says : {k : Token} {p : ℕ} (place : ℕ) → usual k ≡ true → Comes s c (token k) p → Says (line_to c s place p (token_end (edition_at c) k s p))
+  token-says : {k : Token} {p : ℕ} (place : Place) → usual k ≡ true → Comes s c (token k) p → Says (line_to c s place p (token_end (edition_at c) k s p))
   unfolding line_to
   token-says {k} {p} place u w = go (to_closing (edition_at c) k s p) refl
     where
@@ -155,29 +154,29 @@ module _ (s : List ℕ) (c : Cursor) where
       go true h = line-says (brace-ended u h)
       go false h = line-says (semicolon-ended h)
 
-  bare-says : (place : ℕ) {p : ℕ} → p ≡ 0 → Comes s c (token bare_token) p → Says (bare_line c s place (bare_end (edition_at c) s))
+  bare-says : (place : Place) {p : ℕ} → p ≡ 0 → Comes s c (token bare_token) p → Says (bare_line c s place (bare_end (edition_at c) s))
   unfolding bare_line bare_end bare_skip
   bare-says place y w = go (first_from (is closing_brace) s 0) refl
     where
       at_first : Comes s c (token bare_token) 0
       at_first = rw y at w
 
-      go : (f : Found) → first_from (is closing_brace) s 0 ≡ f → Says (bare_line c s place (bare_end (edition_at c) s))
-      go (Here q) e = rw e (here (ltb 0 q) refl)
+      go : (f : Option ℕ) → first_from (is closing_brace) s 0 ≡ f → Says (bare_line c s place (bare_end (edition_at c) s))
+      go (Some q) e = rw e (here (ltb 0 q) refl)
         where
           stands-there : Byte closing_brace s q
           stands-there = eqb-true (get_or s q 0) closing_brace (first_within e).holds
 
-          here : (v : Bool) → ltb 0 q ≡ v → Says (bare_line c s place (cond v (To q) (no.Refused unreadable)))
+          here : (v : Bool) → ltb 0 q ≡ v → Says (bare_line c s place (cond v (Ok q) (Err no.Unreadable)))
           here true h = rw (e, closing_stays (edition_at c) s q stands-there) goes
           here false h =
               let z : q ≡ 0 = omega (arith, ltb-false 0 q h) in
               refuses (two (empty_to_closing at_first refl (rw z at stands-there)))
-      go Nowhere e =
+      go None e =
           rw (e, bare_line, e) (skip-says (λ _ _. goes) (all_text at_first (nowhere_none closing_brace s 0 (omega arith) e)))
 
   -- matchers
-  matcher-says : {k : Token} (inner : ℕ) {p : ℕ} {t : Step} → (Comes s c (token k) p → Says t) → Comes s c (matcher k) p
+  matcher-says : {k : Token} (inner : Place) {p : ℕ} {t : Step} → (Comes s c (token k) p → Says t) → Comes s c (matcher k) p
       → Says (cond (stands_at extern_word s p) (extern_at c s inner p) t)
   unfolding extern_at extern_open
   matcher-says inner {p} f w =
@@ -190,7 +189,7 @@ module _ (s : List ℕ) (c : Cursor) where
       opens : (l : ℕ) {q : ℕ} → Comes s c (skip_to opening) q → Says (extern_open c s inner l q)
       opens l v = skip-says (λ _ y. opening-says (Extern c.section l) (λ z. moved (in_language c l) inner z) y) v
 
-  plain-says : (inner place : ℕ) {p : ℕ} → Comes s c (matcher plain_token) p → Says (matcher-at c s inner place p)
+  plain-says : (inner place : Place) {p : ℕ} → Comes s c (matcher plain_token) p → Says (matcher-at c s inner place p)
   unfolding matcher-at
   plain-says inner place w = matcher-says inner (token-says place refl) w
 
@@ -226,110 +225,94 @@ module _ (s : List ℕ) (c : Cursor) where
   rest_says (no_more_rest e d) w = goes
 
 -- ---- the rule at each place of the grammar; none behind the matcher of `add_symbol`
-data Placed (n : ℕ) : Type 0 where
-  due : {r : Rule} → Due n r → Placed n
-  past : 13 < n → Placed n
+data Placed (x : Place) : Type 0 where
+  due : {r : Rule} → Due x r → Placed x
+  past : x ≡ behind_symbol → Placed x
 
-placed : (n : ℕ) → Placed n
-placed n =
-    at 0 (omega arith) due_script
-    (λ h. at 1 h due_node
-    (λ h. at 2 h due_opening
-    (λ h. at 3 h due_body
-    (λ h. at 4 h due_body_block
-    (λ h. at 5 h due_sole
-    (λ h. at 6 h due_sole_block
-    (λ h. at 7 h due_list
-    (λ h. at 8 h due_matchers
-    (λ h. at 9 h due_list_block
-    (λ h. at 10 h due_symbol
-    (λ h. at 11 h due_symbol_block
-    (λ h. at 12 h due_bare
-    (λ h. at 13 h due_bare_block
-    (λ h. past h))))))))))))))
-  where
-    at : {r : Rule} (m : ℕ) → m ≤ n → Due m r → (m < n → Placed n) → Placed n
-    at m h d more = go (dec_lt m n)
-      where
-        go : Dec (m < n) → Placed n
-        go (yes k) = more k
-        go (no k) =
-            let z : m ≡ n = omega arith in
-            due (rw z at d)
+placed : (x : Place) → Placed x
+placed place.AtScript = due due_script
+placed place.AtNode = due due_node
+placed place.AtBody = due due_opening
+placed place.InBody = due due_body
+placed place.InBodyExtern = due due_body_block
+placed place.InSole = due due_sole
+placed place.InSoleExtern = due due_sole_block
+placed place.AtList = due due_list
+placed place.InList = due due_matchers
+placed place.InListExtern = due due_list_block
+placed place.AtSymbol = due due_symbol
+placed place.InSymbolExtern = due due_symbol_block
+placed place.AtBare = due due_bare
+placed place.InBareExtern = due due_bare_block
+placed place.BehindSymbol = past refl
+
+-- one step has one refusal, at one place
+same_refusal : {t : Step} {n m : Refusal} {p q : ℕ} → t ≡ refused_at n p → t ≡ refused_at m q → (n ≡ m) × (p ≡ q)
+same_refusal {n = n} {m = m} {p = p} {q = q} x y =
+    let z : ◌≡◌ {A = RefusedAt} (record { refusal = n; place = p }) (record { refusal = m; place = q }) = cc in
+    (ap (λ r. r.refusal) z, ap (λ r. r.place) z)
 
 module _ (s : List ℕ) (c : Cursor) where
-  nothing_read : 13 < c.place → next s c ≡ End
-  unfolding next next_symbol
-  nothing_read h =
-      rw (
-        le-ltb c.place at_list (omega arith),
-        le-ltb c.place at_symbol (omega arith),
-        ne_eqb c.place at_symbol (λ z. omega arith),
-        ne_eqb c.place in_symbol_extern (λ z. omega arith),
-        ne_eqb c.place at_bare (λ z. omega arith),
-        ne_eqb c.place in_bare_extern (λ z. omega arith),
-      )
+  nothing_read : c.place ≡ behind_symbol → next s c ≡ finished
+  unfolding next step_at
+  nothing_read h = rw h
 
   left_says : {r : Rule} {p : ℕ} → Left s c r p → Comes s c r p → Says s c (next s c)
   left_says (left x z) w = rw z (rest_says s c x w)
 
-  module _ {n p : ℕ} where
-    said : Says s c (Refused n p) → Refusing s c n p
+  module _ {n : Refusal} {p : ℕ} where
+    said : Says s c (refused_at n p) → Refusing s c n p
     said (refuses r) = r
 
-    other : (n ≡ too_long → ⊥) → next s c ≡ Refused n p → Placed c.place → Refusing s c n p
+    other : (n ≡ no.TooLong → ⊥) → next s c ≡ refused_at n p → Placed c.place → Refusing s c n p
     other h e (due d) =
-        let o : Over s c.place → ⊥ = λ o. (let z : n ≡ too_long = cc ((too_long_exactly s c).1 o) in h z) in
+        let o : Over s c.place → ⊥ = λ o. h (same_refusal e ((too_long_exactly s c).1 o)).0 in
         said (rw e at (left_says (due_left c.place refl o d) (starts o d)))
     other h e (past k) =
         let z : ◌≡◌ {A = ℕ} 0 1 = cc (nothing_read k) in
         absurd (omega arith)
 
-    refuses-only : next s c ≡ Refused n p → Refusing s c n p
-    refuses-only e = go (eqb n too_long) refl
+    refuses-only : next s c ≡ refused_at n p → Refusing s c n p
+    refuses-only e = go refl refl (refusal s c e)
       where
-        go : (t : Bool) → eqb n too_long ≡ t → Refusing s c n p
-        go true h =
-            let z = eqb-true n too_long h in
-            let o = (too_long_exactly s c).0 p (rw z at e) in
-            let y : p ≡ 0 = cc ((too_long_exactly s c).1 o) in
-            rw (z, y) (one o)
-        go false h = other (eqb-false n too_long h) e (placed c.place)
+        go : {m : Refusal} {q : ℕ} → n ≡ m → p ≡ q → Reason s c m q → Refusing s c n p
+        go z y (long o) = rw (z, y) (one o)
+        go z y (grammar k l) = other (λ h. absurd (true≢false (sym (rw (← z, h) at k)))) e (placed c.place)
 
-  refuses_so : {n p : ℕ} → Refusing s c n p → next s c ≡ Refused n p
+  refuses_so : {n : Refusal} {p : ℕ} → Refusing s c n p → next s c ≡ refused_at n p
   refuses_so (one o) = (too_long_exactly s c).1 o
   refuses_so (two u) = unreadable-refuses u
   refuses_so (three u) = unclosed-refuses u
   refuses_so (four u) = bad_extern-refuses u
 
-  pub refuses_exactly : (n p : ℕ) → (next s c ≡ Refused n p → Refusing s c n p) × (Refusing s c n p → next s c ≡ Refused n p)
+  pub refuses_exactly : (n : Refusal) (p : ℕ) → (next s c ≡ refused_at n p → Refusing s c n p) × (Refusing s c n p → next s c ≡ refused_at n p)
   refuses_exactly n p = (refuses-only, refuses_so)
 
   -- so only one number and place fit
-  pub refuses-once : {n m p q : ℕ} → Refusing s c n p → Refusing s c m q → (n ≡ m) × (p ≡ q)
-  refuses-once x y = (cc (refuses_so x, refuses_so y), cc (refuses_so x, refuses_so y))
+  pub refuses-once : {n m : Refusal} {p q : ℕ} → Refusing s c n p → Refusing s c m q → (n ≡ m) × (p ≡ q)
+  refuses-once x y = same_refusal (refuses_so x) (refuses_so y)
 
   module _ (p : ℕ) where
-    pub unreadable_exactly : (next s c ≡ Refused unreadable p → Unreadable s c p) × (Unreadable s c p → next s c ≡ Refused unreadable p)
+    pub unreadable_exactly : (next s c ≡ refused_at no.Unreadable p → Unreadable s c p) × (Unreadable s c p → next s c ≡ refused_at no.Unreadable p)
     unreadable_exactly = (λ e. go (refuses-only e), unreadable-refuses)
       where
-        go : Refusing s c unreadable p → Unreadable s c p
+        go : Refusing s c no.Unreadable p → Unreadable s c p
         go (two u) = u
 
-    pub unclosed_exactly : (next s c ≡ Refused unclosed p → Unclosed s c p) × (Unclosed s c p → next s c ≡ Refused unclosed p)
+    pub unclosed_exactly : (next s c ≡ refused_at no.Unclosed p → Unclosed s c p) × (Unclosed s c p → next s c ≡ refused_at no.Unclosed p)
     unclosed_exactly = (λ e. go (refuses-only e), unclosed-refuses)
       where
-        go : Refusing s c unclosed p → Unclosed s c p
+        go : Refusing s c no.Unclosed p → Unclosed s c p
         go (three u) = u
 
-    pub bad_extern_exactly : (next s c ≡ Refused bad_extern p → BadExtern s c p) × (BadExtern s c p → next s c ≡ Refused bad_extern p)
+    pub bad_extern_exactly : (next s c ≡ refused_at no.BadExtern p → BadExtern s c p) × (BadExtern s c p → next s c ≡ refused_at no.BadExtern p)
     bad_extern_exactly = (λ e. go (refuses-only e), bad_extern-refuses)
       where
-        go : Refusing s c bad_extern p → BadExtern s c p
+        go : Refusing s c no.BadExtern p → BadExtern s c p
         go (four u) = u
 
 -- ---- so of a whole reading
-module _ (edition place : ℕ) (s : List ℕ) (n p : ℕ) where
+module _ (edition : Edition) (place : Place) (s : List ℕ) (n p : ℕ) where
   reached-stands : {c : Cursor} → Reaches edition place s c → Standing s c
   reached-stands first = start_stands edition place s
   reached-stands (after r h) = next_stands (reached-stands r) h
@@ -343,7 +326,7 @@ module _ (edition place : ℕ) (s : List ℕ) (n p : ℕ) where
       reached_same r ∙ z
 
   refused_so : RefusedReading edition place s n p → (reading edition place s).outcome ≡ refused n p
-  refused_so x = reached_same x.reached ∙ rw (reading_step (reached-stands x.reached), refuses_so s x.cursor x.refusing)
+  refused_so x = reached_same x.reached ∙ rw (reading_step (reached-stands x.reached), refuses_so s x.cursor x.refusing, x.numbered)
 
   -- with at most m events to come
   refused_in : (m : ℕ) {c : Cursor} → length s + 1 - c.at < m → Reaches edition place s c → (reading_from s c).outcome ≡ refused n p
@@ -352,20 +335,20 @@ module _ (edition place : ℕ) (s : List ℕ) (n p : ℕ) where
   refused_in (suc m) {c} l r h =
       go (next s c) refl (rw (reading_step (reached-stands r)) at h) (λ d e k. refused_in m (near k) (after r k))
     where
-      near : {d : Cursor} {e : Event} → next s c ≡ Go e d → length s + 1 - d.at < m
+      near : {d : Cursor} {e : Event} → next s c ≡ stepped e d → length s + 1 - d.at < m
       near k =
           let o = next_onward (reached-stands r) k in
           omega (arith, o.onward, o.within)
 
       go : (t : Step) → next s c ≡ t → (on_step t (λ d. reading_from s d)).outcome ≡ refused n p
-          → ((d : Cursor) (e : Event) → next s c ≡ Go e d → (reading_from s d).outcome ≡ refused n p → RefusedReading edition place s n p)
+          → ((d : Cursor) (e : Event) → next s c ≡ stepped e d → (reading_from s d).outcome ≡ refused n p → RefusedReading edition place s n p)
           → RefusedReading edition place s n p
-      go (Go e d) z k more = more d e z k
-      go End z k more = absurd (true≢false (cc))
-      go (Refused a b) z k more =
-          let x : a ≡ n = cc in
-          let y : b ≡ p = cc in
-          record { cursor = c; reached = r; refusing = refuses-only s c (rw (x, y) at z) }
+      go (Ok (Some (e, d))) z k more = more d e z k
+      go (Ok None) z k more = absurd (true≢false (cc))
+      go (Err t) z k more =
+          let x : number t.refusal ≡ n = cc in
+          let y : t.place ≡ p = cc in
+          record { cursor = c; reached = r; refusal = t.refusal; numbered = x; refusing = rw y at (refuses-only s c {n = t.refusal} {p = t.place} z) }
 
   refused-only : (reading edition place s).outcome ≡ refused n p → RefusedReading edition place s n p
   unfolding reading

@@ -12,3 +12,4 @@ pub mod Origins
 pub mod Spans
 pub mod Lines
 pub mod WholeNodes
+mod Placing

@@ -7,41 +7,42 @@ use mathlib.Core.List.{List}
 use mathlib.Core.Bool.{true≢false}
 use native.Mathlib.Omega.{arith}
 use lib.ListN.{length}
+use Rattle.std.specs.Prelude.{Some, None, Ok, Err}
+use Rattle.numbers.specs.declared.Edition.{Edition}
+use Rattle.reading_cursors.specs.declared.places.Place.{Place}
 use Rattle.reading_cursors.specs.declared.Cursor.{Cursor}
 use Rattle.reading_cursors.specs.declared.Event.{Event}
-use Rattle.reading_cursors.specs.declared.Step.{Step}
-use Rattle.reading_cursors.specs.declared.Step.TheVariants.{Go, End, Refused}
-use Rattle.reading_cursors.specs.Moves.{start}
+use Rattle.reading_cursors.specs.Moves.{Step, stepped, start}
 use Rattle.reading.specs.Scripts.{next}
 use Rattle.reading.specs.Events.{Reading, on_step, reading_within, reading_from, reading}
 use Rattle.reading.specs.Standing.{Fresh, Standing}
 use Rattle.reading.proofs.Steps.{Onward, Fits, goes, next_fits}
 
 -- no more is asked than that the cursor is fresh
-pub fresh-onward : (s : List ℕ) (c : Cursor) {d : Cursor} {e : Event} → Fresh c → next s c ≡ Go e d → Onward s c d
+pub fresh-onward : (s : List ℕ) (c : Cursor) {d : Cursor} {e : Event} → Fresh c → next s c ≡ stepped e d → Onward s c d
 fresh-onward s c {d} {e} f h = go (rw h at (next_fits s c))
   where
-    go : Fits s c (Go e d) → Onward s c d
+    go : Fits s c (stepped e d) → Onward s c d
     go (goes k) = k f
 
-pub next_onward : {s : List ℕ} {c d : Cursor} {e : Event} → Standing s c → next s c ≡ Go e d → Onward s c d
+pub next_onward : {s : List ℕ} {c d : Cursor} {e : Event} → Standing s c → next s c ≡ stepped e d → Onward s c d
 next_onward {s} {c} k h = fresh-onward s c k.fresh h
 
 -- ---- the cursors of a reading of s
-pub start_stands : (edition place : ℕ) (s : List ℕ) → Standing s (start edition place)
+pub start_stands : (edition : Edition) (place : Place) (s : List ℕ) → Standing s (start edition place)
 unfolding start
 start_stands edition place s = record { fresh = λ _. refl; within = omega arith; inside = λ _. omega arith }
 
-pub next_stands : {s : List ℕ} {c d : Cursor} {e : Event} → Standing s c → next s c ≡ Go e d → Standing s d
+pub next_stands : {s : List ℕ} {c d : Cursor} {e : Event} → Standing s c → next s c ≡ stepped e d → Standing s d
 next_stands k h =
     let o = next_onward k h in
     record { fresh = λ b. absurd (true≢false (sym b ∙ o.begun)); within = o.within; inside = o.inside }
 
 -- ---- the bound
-same_step : (t : Step) (f g : Cursor → Reading) → ((e : Event) (d : Cursor) → t ≡ Go e d → f d ≡ g d) → on_step t f ≡ on_step t g
-same_step (Go e d) f g h = rw (h e d refl)
-same_step End f g h = refl
-same_step (Refused n p) f g h = refl
+same_step : (t : Step) (f g : Cursor → Reading) → ((e : Event) (d : Cursor) → t ≡ stepped e d → f d ≡ g d) → on_step t f ≡ on_step t g
+same_step (Ok (Some (e, d))) f g h = rw (h e d refl)
+same_step (Ok None) f g h = refl
+same_step (Err r) f g h = refl
 
 module _ (s : List ℕ) where
   -- the first of n + 1 events
@@ -68,6 +69,6 @@ reading_step {s} {c} k =
     let z : length s + 2 - c.at ≡ suc n = omega (arith, k.within) in
     rw z (turn s n k (λ d. reading_from s d) (λ d j l. same_within s n (length s + 2 - d.at) j (omega arith) (omega arith)))
 
-pub reading-starts : (edition place : ℕ) (s : List ℕ) → reading edition place s ≡ on_step (next s (start edition place)) (λ d. reading_from s d)
+pub reading-starts : (edition : Edition) (place : Place) (s : List ℕ) → reading edition place s ≡ on_step (next s (start edition place)) (λ d. reading_from s d)
 unfolding reading
 reading-starts edition place s = reading_step (start_stands edition place s)

@@ -9,29 +9,26 @@ use native.Mathlib.Omega.{arith}
 use borrow.Author.Tests.{ltb-true}
 use lib.Dec.{eqb, ltb}
 use lib.ListN.{length, get_or, take, drop, length-take, length-drop}
+use Rattle.numbers.specs.declared.Refusal.{Refusal}
 use Rattle.numbers.specs.Limits.{script_limit, token_limit}
 use Rattle.numbers.specs.Signs.{closing_brace, opening_brace, semicolon}
-use Rattle.linker_script.specs.declared.Found.{Found}
-use Rattle.linker_script.specs.declared.Found.TheVariants.{Here, Nowhere}
-use Rattle.linker_script.specs.declared.Skipped.{Skipped}
-use Rattle.linker_script.specs.declared.Skipped.TheVariants.{At, Open}
+use Rattle.std.specs.Prelude.{Option, Some, None, Ok, Err}
 use Rattle.linker_script.specs.Finding.{first_from, is}
 use Rattle.linker_script.proofs.Searches.{first_within}
 use Rattle.linker_script.proofs.Trimming.{trim_few}
-use Rattle.reading_tokens.specs.declared.TokenEnd.{TokenEnd}
-use Rattle.reading_tokens.specs.declared.TokenEnd.TheVariants.{To}
-use Rattle.reading_tokens.specs.declared.TokenEnd.TheVariants as token
-use Rattle.reading_tokens.specs.Tokens.{stands_at, name_end, bare_end, trimmed}
+use Rattle.linker_script.specs.Skip.{Skipped}
+use Rattle.reading_tokens.specs.Tokens.{TokenEnd, stands_at, name_end, bare_end, trimmed}
+use Rattle.numbers.specs.declared.Edition.{Edition}
+use Rattle.reading_cursors.specs.declared.places.Place.TheVariants as place
+use Rattle.reading_cursors.specs.declared.places.Place.{Place}
 use Rattle.reading_cursors.specs.declared.Cursor.{Cursor}
 use Rattle.reading_cursors.specs.declared.Event.{Event}
 use Rattle.reading_cursors.specs.declared.Event.TheVariants.{Node, Body, Section, Extern, Closed, Line, Parent}
-use Rattle.reading_cursors.specs.declared.Step.{Step}
-use Rattle.reading_cursors.specs.declared.Step.TheVariants.{Go, End, Refused}
-use Rattle.reading_cursors.specs.Moves.{edition_at, in_section, skip_at, on_skip, skipping, expecting, ending, start}
+use Rattle.reading_cursors.specs.Moves.{Step, stepped, finished, refused_at, edition_at, in_section, skip_at, on_skip, skipping, expecting, ending, start}
 use Rattle.reading_matchers.specs.Matchers.{extern_word, cxx_word, c_word, close_word, line_to, extern_open, extern_at, extern_inside, in_extern, in_bare, matcher, bare_line, bare_matcher}
-use Rattle.reading_cursors.specs.Places.{at_script, at_node, at_body, in_body, in_body_extern, in_sole, in_sole_extern, at_list, in_list, in_list_extern, at_symbol, in_symbol_extern, at_bare, in_bare_extern, behind_symbol}
+use Rattle.reading_cursors.specs.Places.{in_body, in_body_extern, in_sole, in_sole_extern, in_list, in_list_extern, in_symbol_extern, in_bare_extern, behind_symbol}
 use Rattle.reading_bodies.specs.Bodies.{global_word, local_word, name_to, node_at, script_at, parent_to, parent_at, node_end, sole_end, inside_body, body_at, sole_at, list_at}
-use Rattle.reading.specs.Scripts.{opening_at, within, start_script, go_node, go_body, go_sole, go_list, next_script, next_list, next_symbol, next}
+use Rattle.reading.specs.Scripts.{opening_at, within, start_script, go_node, go_body, go_sole, go_list, step_at, next}
 use Rattle.reading.proofs.Bounds.{name-within, Ends, ends, refuses, semicolon-ends, either_ends, bare-extern-ends}
 
 -- a section and a language
@@ -53,9 +50,9 @@ abbrev pub Marked : Cursor → Type 0
 Marked c = Marks c.section c.language
 
 data Keeps (s : List ℕ) : Step → Type 0 where
-  goes : {e : Event} {d : Cursor} → Parts s e → Marked d → Keeps s (Go e d)
-  done : Keeps s End
-  refused : {n p : ℕ} → Keeps s (Refused n p)
+  goes : {e : Event} {d : Cursor} → Parts s e → Marked d → Keeps s (stepped e d)
+  done : Keeps s finished
+  refused : {n : Refusal} {p : ℕ} → Keeps s (refused_at n p)
 
 -- a token that is trimmed
 trimmed-within : (s : List ℕ) (p q : ℕ) → p ≤ length s → p + trimmed s p q ≤ length s
@@ -71,8 +68,8 @@ module _ (s : List ℕ) where
   on_skipping c p {on} f = go (skip_at c s p)
     where
       go : (k : Skipped) → Keeps s (on_skip k on)
-      go (At q) = f q
-      go (Open q) = refused
+      go (Ok q) = f q
+      go (Err q) = refused
 
   on_expecting : (b p : ℕ) {a : Step} → Keeps s a → Keeps s (expecting b s p (λ _. a))
   on_expecting b p f = on_cond (eqb (get_or s p 0) b) (λ _. f) refused
@@ -85,47 +82,47 @@ module _ (s : List ℕ) where
 
   module _ (c : Cursor) (m : Marked c) where
     -- ---- matchers
-    line_to-keeps : (place : ℕ) {p : ℕ} {e : TokenEnd} → Ends s p e → Keeps s (line_to c s place p e)
+    line_to-keeps : (place : Place) {p : ℕ} {e : TokenEnd} → Ends s p e → Keeps s (line_to c s place p e)
     unfolding line_to
     line_to-keeps place {p} (ends {q = q} h k) = on_skipping c q (λ r. goes (line m (trimmed-within s p q (omega arith)) (omega arith)) m)
     line_to-keeps place (refuses h) = refused
 
-    extern_open-keeps : (place language p : ℕ) → language ≤ 1 → Keeps s (extern_open c s place language p)
+    extern_open-keeps : (place : Place) (language p : ℕ) → language ≤ 1 → Keeps s (extern_open c s place language p)
     unfolding extern_open
     extern_open-keeps place language p h =
         on_skipping c p (λ q. on_expecting opening_brace q (goes extern (record { section = m.section; language = h })))
 
-    extern_at-keeps : (place p : ℕ) → Keeps s (extern_at c s place p)
+    extern_at-keeps : (place : Place) (p : ℕ) → Keeps s (extern_at c s place p)
     unfolding extern_at
     extern_at-keeps place p =
         on_cond (stands_at cxx_word s (p + 7)) (λ _. extern_open-keeps place 1 (p + 12) (omega arith))
         (on_cond (stands_at c_word s (p + 7)) (λ _. extern_open-keeps place 0 (p + 10) (omega arith)) refused)
 
-    extern_inside-keeps : (place : ℕ) {p : ℕ} {e : TokenEnd} → Ends s p e → Keeps s (extern_inside c s place p e)
+    extern_inside-keeps : (place : Place) {p : ℕ} {e : TokenEnd} → Ends s p e → Keeps s (extern_inside c s place p e)
     unfolding extern_inside
     extern_inside-keeps place {p} h =
         on_cond (stands_at close_word s p) (λ _. on_skipping c (p + 2) (λ q. goes closed (record { section = m.section; language = omega arith })))
         (on_cond (stands_at extern_word s p) (λ _. refused) (line_to-keeps c.place h))
 
-    in_extern-keeps : (place : ℕ) → Keeps s (in_extern c s place)
+    in_extern-keeps : (place : Place) → Keeps s (in_extern c s place)
     unfolding in_extern
     in_extern-keeps place = on_skipping c c.at (λ p. extern_inside-keeps place (either_ends (edition_at c) s p))
 
-    in_bare-keeps : (place : ℕ) → Keeps s (in_bare c s place)
+    in_bare-keeps : (place : Place) → Keeps s (in_bare c s place)
     unfolding in_bare
     in_bare-keeps place = on_skipping c c.at (λ p. extern_inside-keeps place (bare-extern-ends (edition_at c) s p))
 
-    matcher-keeps : (inner place p : ℕ) → Keeps s (matcher c s inner place p)
+    matcher-keeps : (inner place : Place) (p : ℕ) → Keeps s (matcher c s inner place p)
     unfolding matcher
     matcher-keeps inner place p =
         on_cond (stands_at extern_word s p) (λ _. extern_at-keeps inner p) (line_to-keeps place (semicolon-ends (edition_at c) s p))
 
-    bare_line-keeps : (place : ℕ) (e : TokenEnd) → Keeps s (bare_line c s place e)
+    bare_line-keeps : (place : Place) (e : TokenEnd) → Keeps s (bare_line c s place e)
     unfolding bare_line
-    bare_line-keeps place (To q) = on_skipping c _ (λ r. goes (line m (trimmed-within s 0 q (omega arith)) (omega arith)) m)
-    bare_line-keeps place (token.Refused n) = refused
+    bare_line-keeps place (Ok q) = on_skipping c _ (λ r. goes (line m (trimmed-within s 0 q (omega arith)) (omega arith)) m)
+    bare_line-keeps place (Err n) = refused
 
-    bare_matcher-keeps : (inner place : ℕ) → Keeps s (bare_matcher c s inner place)
+    bare_matcher-keeps : (inner place : Place) → Keeps s (bare_matcher c s inner place)
     unfolding bare_matcher
     bare_matcher-keeps inner place = on_cond (stands_at extern_word s 0) (λ _. extern_at-keeps inner 0) (bare_line-keeps place (bare_end (edition_at c) s))
 
@@ -147,12 +144,12 @@ module _ (s : List ℕ) where
     unfolding script_at
     script_at-keeps p = on_cond (eqb (get_or s p 0) opening_brace) (λ _. goes body m) (node_at-keeps p)
 
-  parent_to-keeps : (c : Cursor) (p : ℕ) → Marked c → (f : Found) → first_from (is semicolon) s p ≡ f → Keeps s (parent_to c p f)
+  parent_to-keeps : (c : Cursor) (p : ℕ) → Marked c → (f : Option ℕ) → first_from (is semicolon) s p ≡ f → Keeps s (parent_to c p f)
   unfolding parent_to
-  parent_to-keeps c p m (Here q) e =
+  parent_to-keeps c p m (Some q) e =
       let w = first_within e in
       goes (parent {p = p} {n = q - p} (omega (arith, w.onward, w.within))) m
-  parent_to-keeps c p m Nowhere e = refused
+  parent_to-keeps c p m None e = refused
 
   module _ (c : Cursor) (m : Marked c) where
     in_global : Marked (in_section c 0)
@@ -165,7 +162,7 @@ module _ (s : List ℕ) where
     unfolding node_end parent_at
     node_end-keeps p = on_skipping c p (λ q. parent_to-keeps (in_section c 0) q in_global (first_from (is semicolon) s q) refl)
 
-    opening_at-keeps : (place : ℕ) → Keeps s (opening_at c s place)
+    opening_at-keeps : (place : Place) → Keeps s (opening_at c s place)
     unfolding opening_at
     opening_at-keeps place = on_skipping c c.at (λ p. on_expecting opening_brace p (goes body m))
 
@@ -174,7 +171,7 @@ module _ (s : List ℕ) where
     sole_end-keeps p = on_skipping c p (λ q. on_expecting semicolon q (on_skipping c (q + 1) (λ e. on_ending e)))
 
     -- ---- bodies and lists
-    inside_body-keeps : (inner p : ℕ) → Keeps s (inside_body c s inner p)
+    inside_body-keeps : (inner : Place) (p : ℕ) → Keeps s (inside_body c s inner p)
     unfolding inside_body
     inside_body-keeps inner p =
         on_cond (stands_at global_word s p) (λ _. goes section in_global)
@@ -193,45 +190,34 @@ module _ (s : List ℕ) where
     list_at-keeps p = on_cond (stands_at close_word s p) (λ _. on_skipping c (p + 2) (λ q. on_ending q)) (matcher-keeps c m in_list_extern in_list p)
 
     -- ---- the step at each place
-    next_script-keeps : Keeps s (next_script s c)
-    unfolding next_script start_script go_node go_body go_sole
-    next_script-keeps =
-        on_cond (eqb c.place at_script) (λ _. on_within script_limit (on_skipping c c.at (λ p. script_at-keeps c m p)))
-        (on_cond (eqb c.place at_node) (λ _. on_skipping c c.at (λ p. node_at-keeps c m p))
-        (on_cond (eqb c.place at_body) (λ _. opening_at-keeps in_body)
-        (on_cond (eqb c.place in_body) (λ _. on_skipping c c.at (λ p. body_at-keeps p))
-        (on_cond (eqb c.place in_body_extern) (λ _. in_extern-keeps c m in_body)
-        (on_cond (eqb c.place in_sole) (λ _. on_skipping c c.at (λ p. sole_at-keeps p))
-        (in_extern-keeps c m in_sole))))))
-
-    next_list-keeps : Keeps s (next_list s c)
-    unfolding next_list go_list
-    next_list-keeps =
-        on_cond (eqb c.place at_list) (λ _. on_within script_limit (opening_at-keeps in_list))
-        (on_cond (eqb c.place in_list) (λ _. on_skipping c c.at (λ p. list_at-keeps p))
-        (in_extern-keeps c m in_list))
-
-    next_symbol-keeps : Keeps s (next_symbol s c)
-    unfolding next_symbol
-    next_symbol-keeps =
-        on_cond (eqb c.place at_symbol) (λ _. on_within token_limit (matcher-keeps c m in_symbol_extern behind_symbol 0))
-        (on_cond (eqb c.place in_symbol_extern) (λ _. in_extern-keeps c m behind_symbol)
-        (on_cond (eqb c.place at_bare) (λ _. on_within token_limit (bare_matcher-keeps c m in_bare_extern behind_symbol))
-        (on_cond (eqb c.place in_bare_extern) (λ _. in_bare-keeps c m behind_symbol)
-        done)))
+    step_keeps : (x : Place) → Keeps s (step_at s c x)
+    unfolding step_at start_script go_node go_body go_sole go_list
+    step_keeps place.AtScript = on_within script_limit (on_skipping c c.at (λ p. script_at-keeps c m p))
+    step_keeps place.AtNode = on_skipping c c.at (λ p. node_at-keeps c m p)
+    step_keeps place.AtBody = opening_at-keeps in_body
+    step_keeps place.InBody = on_skipping c c.at (λ p. body_at-keeps p)
+    step_keeps place.InBodyExtern = in_extern-keeps c m in_body
+    step_keeps place.InSole = on_skipping c c.at (λ p. sole_at-keeps p)
+    step_keeps place.InSoleExtern = in_extern-keeps c m in_sole
+    step_keeps place.AtList = on_within script_limit (opening_at-keeps in_list)
+    step_keeps place.InList = on_skipping c c.at (λ p. list_at-keeps p)
+    step_keeps place.InListExtern = in_extern-keeps c m in_list
+    step_keeps place.AtSymbol = on_within token_limit (matcher-keeps c m in_symbol_extern behind_symbol 0)
+    step_keeps place.InSymbolExtern = in_extern-keeps c m behind_symbol
+    step_keeps place.AtBare = on_within token_limit (bare_matcher-keeps c m in_bare_extern behind_symbol)
+    step_keeps place.InBareExtern = in_bare-keeps c m behind_symbol
+    step_keeps place.BehindSymbol = done
 
     next_keeps : Keeps s (next s c)
     unfolding next
-    next_keeps =
-        on_cond (ltb c.place at_list) (λ _. next_script-keeps)
-        (on_cond (ltb c.place at_symbol) (λ _. next_list-keeps) next_symbol-keeps)
+    next_keeps = step_keeps c.place
 
-    pub next_parts : {e : Event} {d : Cursor} → next s c ≡ Go e d → Parts s e × Marked d
+    pub next_parts : {e : Event} {d : Cursor} → next s c ≡ stepped e d → Parts s e × Marked d
     next_parts {e} {d} h = go (rw h at next_keeps)
       where
-        go : Keeps s (Go e d) → Parts s e × Marked d
+        go : Keeps s (stepped e d) → Parts s e × Marked d
         go (goes p k) = (p, k)
 
-pub start_marked : (edition place : ℕ) → Marked (start edition place)
+pub start_marked : (edition : Edition) (place : Place) → Marked (start edition place)
 unfolding start
 start_marked edition place = record { section = omega arith; language = omega arith }

@@ -5,34 +5,32 @@
 use Prim.Native.Nat.{ℕ, ◌+◌, ◌-◌, ◌<◌, ◌≤◌}
 use mathlib.Core.Path.{◌≡◌, refl, sym}
 use mathlib.Core.List.{List}
-use mathlib.Core.Bool.{Bool, true, false, cond, ◌||◌}
+use mathlib.Core.Bool.{Bool, true, false, cond, true≢false}
 use native.Mathlib.Omega.{arith}
-use borrow.Author.Tests.{eqb-true, eqb-false, ltb-true, ltb-false}
+use borrow.Author.Tests.{ltb-true}
 use lib.Dec.{eqb, ltb}
 use lib.ListN.{length, get_or, take, drop, length-take}
+use Rattle.numbers.specs.declared.Refusal.{Refusal}
 use Rattle.numbers.specs.Limits.{script_limit}
 use Rattle.numbers.specs.Signs.{closing_brace, opening_brace, semicolon}
-use Rattle.linker_script.specs.declared.Found.{Found}
-use Rattle.linker_script.specs.declared.Found.TheVariants.{Here, Nowhere}
-use Rattle.linker_script.specs.declared.Skipped.{Skipped}
-use Rattle.linker_script.specs.declared.Skipped.TheVariants.{At, Open}
+use Rattle.std.specs.Prelude.{Option, Some, None, Ok, Err}
 use Rattle.linker_script.specs.Finding.{first_from, is}
 use Rattle.linker_script.proofs.Searches.{first_within}
 use Rattle.linker_script.proofs.Skipping.{skip-ended}
 use Rattle.linker_script.proofs.Trimming.{trim_few}
-use Rattle.reading_tokens.specs.declared.TokenEnd.{TokenEnd}
-use Rattle.reading_tokens.specs.Tokens.{stands_at, name_end, trimmed}
+use Rattle.linker_script.specs.Skip.{Skipped}
+use Rattle.reading_tokens.specs.Tokens.{TokenEnd, stands_at, name_end, trimmed}
+use Rattle.reading_cursors.specs.declared.places.Place.TheVariants as place
+use Rattle.reading_cursors.specs.declared.places.Place.{Place}
 use Rattle.reading_cursors.specs.declared.Cursor.{Cursor}
 use Rattle.reading_cursors.specs.declared.Event.{Event}
 use Rattle.reading_cursors.specs.declared.Event.TheVariants.{Node, Body, Section, Extern, Closed, Line, Parent}
-use Rattle.reading_cursors.specs.declared.Step.{Step}
-use Rattle.reading_cursors.specs.declared.Step.TheVariants.{Go, End, Refused}
-use Rattle.reading_cursors.specs.Moves.{edition_at, in_section, moved, skip_at, on_skip, skipping, expecting, ending}
+use Rattle.reading_cursors.specs.Moves.{Step, stepped, finished, refused_at, edition_at, in_section, moved, skip_at, on_skip, skipping, expecting, ending}
 use Rattle.reading_matchers.specs.Matchers.{extern_word, cxx_word, c_word, close_word, past_semicolon}
 use Rattle.reading_matchers.specs.Matchers.{line_to, extern_open, extern_at, extern_inside, in_extern, matcher}
-use Rattle.reading_cursors.specs.Places.{at_script, at_node, at_body, in_body, in_body_extern, in_sole, in_sole_extern, at_list, in_list, in_list_extern, at_symbol}
+use Rattle.reading_cursors.specs.Places.{at_node, at_body, in_body, in_body_extern, in_sole, in_sole_extern, in_list, in_list_extern, of_symbol}
 use Rattle.reading_bodies.specs.Bodies.{global_word, local_word, name_to, node_at, script_at, parent_to, parent_at, node_end, sole_end, inside_body, body_at, sole_at, list_at}
-use Rattle.reading.specs.Scripts.{opening_at, within, start_script, go_node, go_body, go_sole, go_list, next_script, next_list, next}
+use Rattle.reading.specs.Scripts.{opening_at, within, start_script, go_node, go_body, go_sole, go_list, step_at, next}
 use Rattle.reading.proofs.Bounds.{Ends, ends, refuses, either_ends, past_semicolon-within, semicolon-ends}
 
 -- how far a named node has come at a place of the grammar: there is none, it has its name, its body is open
@@ -45,8 +43,11 @@ has_name = 1
 abbrev pub is_open : ℕ
 is_open = 2
 
-abbrev pub stage : ℕ → ℕ
-stage place = cond (eqb place at_body) has_name (cond (eqb place in_body || eqb place in_body_extern) is_open outside)
+abbrev pub stage : Place → ℕ
+stage place.AtBody = has_name
+stage place.InBody = is_open
+stage place.InBodyExtern = is_open
+stage p = outside
 
 -- ---- an event, from the cursor c to d: a node begins with the name of n bytes at p
 pub record Begins (c : Cursor) (p n : ℕ) (d : Cursor) : Type 0 where
@@ -88,9 +89,9 @@ Spans c (Line k l p n) d = Passes c p n d
 Spans c (Parent p n) d = Closes c p n d
 
 data Comes (c : Cursor) : Step → Type 0 where
-  goes : {e : Event} {d : Cursor} → Spans c e d → Comes c (Go e d)
-  done : stage c.place ≡ outside → Comes c End
-  refused : {n p : ℕ} → Comes c (Refused n p)
+  goes : {e : Event} {d : Cursor} → Spans c e d → Comes c (stepped e d)
+  done : stage c.place ≡ outside → Comes c finished
+  refused : {n : Refusal} {p : ℕ} → Comes c (refused_at n p)
 
 module _ (s : List ℕ) (c : Cursor) where
   -- ---- how a step goes on
@@ -102,8 +103,8 @@ module _ (s : List ℕ) (c : Cursor) where
   on_skipping p {on} f = go (skip_at c s p) refl
     where
       go : (k : Skipped) → skip_at c s p ≡ k → Comes c (on_skip k on)
-      go (At q) e = f q (skip-ended e).onward
-      go (Open q) e = refused
+      go (Ok q) e = f q (skip-ended e).onward
+      go (Err q) e = refused
 
   on_expecting : (b p : ℕ) {a : Step} → Comes c a → Comes c (expecting b s p (λ _. a))
   on_expecting b p f = on_cond (eqb (get_or s p 0) b) (λ _. f) (λ _. refused)
@@ -115,7 +116,7 @@ module _ (s : List ℕ) (c : Cursor) where
   trimmed-few : (p q : ℕ) → trimmed s p q ≤ q - p
   trimmed-few p q = omega (arith, trim_few (take (q - p) (drop p s)), length-take (q - p) (drop p s))
 
-  line_to_comes : (place p : ℕ) {e : TokenEnd} → Ends s p e → c.at ≤ p → stage place ≡ stage c.place → Comes c (line_to c s place p e)
+  line_to_comes : (place : Place) (p : ℕ) {e : TokenEnd} → Ends s p e → c.at ≤ p → stage place ≡ stage c.place → Comes c (line_to c s place p e)
   unfolding line_to
   line_to_comes place p (ends {q = q} u v) k h = on_skipping q (λ r l.
       let w = past_semicolon-within s r in
@@ -124,7 +125,7 @@ module _ (s : List ℕ) (c : Cursor) where
       goes o)
   line_to_comes place p (refuses u) k h = refused
 
-  module _ (place : ℕ) (h : stage place ≡ stage c.place) where
+  module _ (place : Place) (h : stage place ≡ stage c.place) where
     extern_open_comes : (language p : ℕ) → Comes c (extern_open c s place language p)
     unfolding extern_open
     extern_open_comes language p = on_skipping p (λ q _. on_expecting opening_brace q (goes h))
@@ -145,13 +146,13 @@ module _ (s : List ℕ) (c : Cursor) where
     unfolding in_extern
     in_extern_comes = on_skipping c.at (λ p k. extern_inside_comes p (either_ends (edition_at c) s p) k)
 
-  matcher_comes : (inner place p : ℕ) → c.at ≤ p → stage inner ≡ stage c.place → stage place ≡ stage c.place → Comes c (matcher c s inner place p)
+  matcher_comes : (inner place : Place) (p : ℕ) → c.at ≤ p → stage inner ≡ stage c.place → stage place ≡ stage c.place → Comes c (matcher c s inner place p)
   unfolding matcher
   matcher_comes inner place p l h k =
       on_cond (stands_at extern_word s p) (λ _. extern_at_comes inner h p) (λ _. line_to_comes place p (semicolon-ends (edition_at c) s p) l k)
 
   -- ---- a body or a list opens
-  opening_at_comes : (place : ℕ) → ((q : ℕ) → Comes c (Go Body (moved c place q))) → Comes c (opening_at c s place)
+  opening_at_comes : (place : Place) → ((q : ℕ) → Comes c (stepped Body (moved c place q))) → Comes c (opening_at c s place)
   unfolding opening_at
   opening_at_comes place f = on_skipping c.at (λ p _. on_expecting opening_brace p (f (p + 1)))
 
@@ -189,7 +190,7 @@ module _ (s : List ℕ) (c : Cursor) where
     sole_end_comes p = on_skipping p (λ q _. on_expecting semicolon q (on_skipping (q + 1) (λ e _. on_ending e)))
 
   -- ---- bodies
-  inside_body_comes : (inner p : ℕ) → c.at ≤ p → stage inner ≡ stage c.place → Comes c (inside_body c s inner p)
+  inside_body_comes : (inner : Place) (p : ℕ) → c.at ≤ p → stage inner ≡ stage c.place → Comes c (inside_body c s inner p)
   unfolding inside_body
   inside_body_comes inner p k h =
       on_cond (stands_at global_word s p) (λ _. goes refl)
@@ -202,14 +203,14 @@ module _ (s : List ℕ) (c : Cursor) where
       on_cond (eqb (get_or s p 0) closing_brace) (λ _. sole_end_comes h (p + 1)) (λ _. inside_body_comes in_sole_extern p k (sym h))
 
   module _ (h : stage c.place ≡ is_open) where
-    parent_to_comes : (p : ℕ) → c.at < p → (f : Found) → first_from (is semicolon) s p ≡ f → Comes c (parent_to (in_section c 0) p f)
+    parent_to_comes : (p : ℕ) → c.at < p → (f : Option ℕ) → first_from (is semicolon) s p ≡ f → Comes c (parent_to (in_section c 0) p f)
     unfolding parent_to
-    parent_to_comes p k (Here q) e =
+    parent_to_comes p k (Some q) e =
         let w = first_within e in
         let o : Closes c p (q - p) (moved (in_section c 0) at_node (q + 1)) =
         record { before = h; from = k; to = omega (arith, w.onward); behind = refl } in
         goes o
-    parent_to_comes p k Nowhere e = refused
+    parent_to_comes p k None e = refused
 
     node_end_comes : (p : ℕ) → c.at < p → Comes c (node_end c s p)
     unfolding node_end parent_at
@@ -221,60 +222,36 @@ module _ (s : List ℕ) (c : Cursor) where
         on_cond (eqb (get_or s p 0) closing_brace) (λ _. node_end_comes (p + 1) (omega arith)) (λ _. inside_body_comes in_body_extern p k (sym h))
 
   -- ---- the step at each place
-  at_place : {place : ℕ} → eqb c.place place ≡ true → c.place ≡ place
-  at_place e = eqb-true _ _ e
+  step_comes : (x : Place) → c.place ≡ x → of_symbol x ≡ false → Comes c (step_at s c x)
+  unfolding step_at start_script go_node go_body go_sole go_list
+  step_comes place.AtScript z m = on_within script_limit (on_skipping c.at (λ p k. script_at_comes (rw z) p k))
+  step_comes place.AtNode z m = on_skipping c.at (λ p k. node_at_comes (rw z) p k)
+  step_comes place.AtBody z m = opening_at_comes in_body (λ q. goes (of_node (rw z) refl))
+  step_comes place.InBody z m = on_skipping c.at (λ p k. body_at_comes (rw z) p k)
+  step_comes place.InBodyExtern z m = in_extern_comes in_body (rw z)
+  step_comes place.InSole z m = on_skipping c.at (λ p k. sole_at_comes (rw z) p k)
+  step_comes place.InSoleExtern z m = in_extern_comes in_sole (rw z)
+  step_comes place.AtList z m = on_within script_limit (opening_at_comes in_list (λ q. goes (of_none (rw z) refl)))
+  step_comes place.InList z m = on_skipping c.at (λ p k. list_at_comes (rw z) p k)
+  step_comes place.InListExtern z m = in_extern_comes in_list (rw z)
+  step_comes place.AtSymbol z m = absurd (true≢false m)
+  step_comes place.InSymbolExtern z m = absurd (true≢false m)
+  step_comes place.AtBare z m = absurd (true≢false m)
+  step_comes place.InBareExtern z m = absurd (true≢false m)
+  step_comes place.BehindSymbol z m = absurd (true≢false m)
 
-  next_script_comes : c.place < at_list → Comes c (next_script s c)
-  unfolding next_script start_script go_node go_body go_sole
-  next_script_comes l =
-      on_cond (eqb c.place at_script) (λ e. on_within script_limit (on_skipping c.at (λ p k. script_at_comes (rw (at_place e)) p k)))
-      (λ f0. on_cond (eqb c.place at_node) (λ e. on_skipping c.at (λ p k. node_at_comes (rw (at_place e)) p k))
-      (λ f1. on_cond (eqb c.place at_body) (λ e. opening_at_comes in_body (λ q. goes (of_node (rw (at_place e)) refl)))
-      (λ f2. on_cond (eqb c.place in_body) (λ e. on_skipping c.at (λ p k. body_at_comes (rw (at_place e)) p k))
-      (λ f3. on_cond (eqb c.place in_body_extern) (λ e. in_extern_comes in_body (rw (at_place e)))
-      (λ f4. on_cond (eqb c.place in_sole) (λ e. on_skipping c.at (λ p k. sole_at_comes (rw (at_place e)) p k))
-      (λ f5.
-      let z : c.place ≡ in_sole_extern = last f0 f1 f2 f3 f4 f5 in
-      in_extern_comes in_sole (rw z)))))))
-    where
-      last : eqb c.place at_script ≡ false → eqb c.place at_node ≡ false → eqb c.place at_body ≡ false
-          → eqb c.place in_body ≡ false → eqb c.place in_body_extern ≡ false → eqb c.place in_sole ≡ false
-          → c.place ≡ in_sole_extern
-      last f0 f1 f2 f3 f4 f5 =
-          omega (
-            arith,
-            eqb-false c.place 0 f0,
-            eqb-false c.place 1 f1,
-            eqb-false c.place 2 f2,
-            eqb-false c.place 3 f3,
-            eqb-false c.place 4 f4,
-            eqb-false c.place 5 f5,
-          )
-
-  next_list_comes : at_list ≤ c.place → c.place < at_symbol → Comes c (next_list s c)
-  unfolding next_list go_list
-  next_list_comes l m =
-      on_cond (eqb c.place at_list)
-      (λ e. on_within script_limit (opening_at_comes in_list (λ q. goes (of_none (rw (at_place e)) refl))))
-      (λ f0. on_cond (eqb c.place in_list) (λ e. on_skipping c.at (λ p k. list_at_comes (rw (at_place e)) p k))
-      (λ f1.
-      let z : c.place ≡ in_list_extern = omega (arith, eqb-false c.place 7 f0, eqb-false c.place 8 f1) in
-      in_extern_comes in_list (rw z)))
-
-  next_comes : c.place < at_symbol → Comes c (next s c)
+  next_comes : of_symbol c.place ≡ false → Comes c (next s c)
   unfolding next
-  next_comes m =
-      on_cond (ltb c.place at_list) (λ e. next_script_comes (ltb-true _ _ e))
-      (λ f. on_cond (ltb c.place at_symbol) (λ _. next_list_comes (ltb-false _ _ f) m) (λ g. absurd (omega (arith, ltb-false c.place at_symbol g))))
+  next_comes m = step_comes c.place refl m
 
-  pub next_spans : {e : Event} {d : Cursor} → c.place < at_symbol → next s c ≡ Go e d → Spans c e d
+  pub next_spans : {e : Event} {d : Cursor} → of_symbol c.place ≡ false → next s c ≡ stepped e d → Spans c e d
   next_spans {e} {d} m h = go (rw h at (next_comes m))
     where
-      go : Comes c (Go e d) → Spans c e d
+      go : Comes c (stepped e d) → Spans c e d
       go (goes o) = o
 
-  pub next_ends : c.place < at_symbol → next s c ≡ End → stage c.place ≡ outside
+  pub next_ends : of_symbol c.place ≡ false → next s c ≡ finished → stage c.place ≡ outside
   next_ends m h = go (rw h at (next_comes m))
     where
-      go : Comes c End → stage c.place ≡ outside
+      go : Comes c finished → stage c.place ≡ outside
       go (done o) = o

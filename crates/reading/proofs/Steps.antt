@@ -7,33 +7,30 @@ use mathlib.Core.Path.{◌≡◌, refl}
 use mathlib.Core.List.{List}
 use mathlib.Core.Bool.{Bool, true, false, cond, true≢false}
 use native.Mathlib.Omega.{arith}
-use borrow.Author.Tests.{eqb-true, ne_eqb, ltb-true}
+use borrow.Author.Tests.{ltb-true}
 use lib.Dec.{eqb, ltb}
 use lib.ListN.{length, get_or}
 use Rattle.numbers.specs.Limits.{script_limit, token_limit}
-use Rattle.numbers.specs.Refusals.{too_long}
+use Rattle.numbers.specs.declared.Refusal.{Refusal}
+use Rattle.numbers.specs.declared.Refusal.TheVariants as no
+use Rattle.numbers.specs.Saying.{number}
 use Rattle.numbers.specs.Signs.{closing_brace, opening_brace, semicolon}
-use Rattle.linker_script.specs.declared.Found.{Found}
-use Rattle.linker_script.specs.declared.Found.TheVariants.{Here, Nowhere}
-use Rattle.linker_script.specs.declared.Skipped.{Skipped}
-use Rattle.linker_script.specs.declared.Skipped.TheVariants.{At, Open}
+use Rattle.std.specs.Prelude.{Option, Some, None, Ok, Err}
 use Rattle.linker_script.specs.Finding.{first_from, is}
 use Rattle.linker_script.proofs.Searches.{first_within}
 use Rattle.linker_script.proofs.Skipping.{skip-ended}
 use Rattle.linker_script.proofs.Unclosed.{unclosed-within}
-use Rattle.reading_tokens.specs.declared.TokenEnd.{TokenEnd}
-use Rattle.reading_tokens.specs.declared.TokenEnd.TheVariants.{To}
-use Rattle.reading_tokens.specs.declared.TokenEnd.TheVariants as token
-use Rattle.reading_tokens.specs.Tokens.{stands_at, name_end, bare_end, bare_skip}
+use Rattle.linker_script.specs.Skip.{Skipped}
+use Rattle.reading_tokens.specs.Tokens.{TokenEnd, stands_at, name_end, bare_end, bare_skip}
+use Rattle.reading_cursors.specs.declared.places.Place.TheVariants as place
+use Rattle.reading_cursors.specs.declared.places.Place.{Place}
 use Rattle.reading_cursors.specs.declared.Cursor.{Cursor}
 use Rattle.reading_cursors.specs.declared.Event.{Event}
-use Rattle.reading_cursors.specs.declared.Step.{Step}
-use Rattle.reading_cursors.specs.declared.Step.TheVariants.{Go, End, Refused}
-use Rattle.reading_cursors.specs.Moves.{edition_at, in_section, skip_at, on_skip, skipping, expecting, ending}
+use Rattle.reading_cursors.specs.Moves.{Step, stepped, finished, refused_at, edition_at, in_section, skip_at, on_skip, skipping, expecting, ending}
 use Rattle.reading_matchers.specs.Matchers.{extern_word, cxx_word, c_word, close_word, line_to, extern_open, extern_at, extern_inside, in_extern, in_bare, matcher, bare_line, bare_matcher}
-use Rattle.reading_cursors.specs.Places.{at_script, at_node, at_body, in_body, in_body_extern, in_sole, in_sole_extern, at_list, in_list, in_list_extern, at_symbol, in_symbol_extern, at_bare, in_bare_extern, behind_symbol}
+use Rattle.reading_cursors.specs.Places.{in_body, in_body_extern, in_sole, in_sole_extern, in_list, in_list_extern, in_symbol_extern, in_bare_extern, behind_symbol, is_behind}
 use Rattle.reading_bodies.specs.Bodies.{global_word, local_word, name_to, node_at, script_at, parent_to, parent_at, node_end, sole_end, inside_body, body_at, sole_at, list_at}
-use Rattle.reading.specs.Scripts.{opening_at, within, start_script, go_node, go_body, go_sole, go_list, next_script, next_list, next_symbol, next}
+use Rattle.reading.specs.Scripts.{opening_at, within, start_script, go_node, go_body, go_sole, go_list, step_at, next}
 use Rattle.reading.specs.Rules.{symbol_start, Over, script, list, symbol, bare}
 use Rattle.reading.specs.Standing.{Fresh}
 use Rattle.reading.proofs.Bounds.{byte_stands, word_stands, name-within, Past, past_semicolon-within, of_grammar, Ends, ends, refuses, semicolon-ends, either_ends, bare-extern-ends, bare_skip-within, bare-refuses}
@@ -45,17 +42,17 @@ pub record Onward (s : List ℕ) (c d : Cursor) : Type 0 where
   pub within : d.at ≤ length s + 1
   pub begun : symbol_start d.place ≡ false
   -- past the text it stands only where nothing more is read
-  pub inside : eqb d.place behind_symbol ≡ false → d.at ≤ length s
+  pub inside : is_behind d.place ≡ false → d.at ≤ length s
 
--- a refusal with the number n at the place p
-pub data Refusal (s : List ℕ) (c : Cursor) : ℕ → ℕ → Type 0 where
-  long : Over s c.place → Refusal s c too_long 0
-  grammar : {n p : ℕ} → of_grammar n ≡ true → (c.at ≤ length s → p ≤ length s) → Refusal s c n p
+-- a refusal n at the place p
+pub data Reason (s : List ℕ) (c : Cursor) : Refusal → ℕ → Type 0 where
+  long : Over s c.place → Reason s c no.TooLong 0
+  grammar : {n : Refusal} {p : ℕ} → of_grammar (number n) ≡ true → (c.at ≤ length s → p ≤ length s) → Reason s c n p
 
 pub data Fits (s : List ℕ) (c : Cursor) : Step → Type 0 where
-  goes : {e : Event} {d : Cursor} → (Fresh c → Onward s c d) → Fits s c (Go e d)
-  done : Fits s c End
-  refused : {n p : ℕ} → Refusal s c n p → Fits s c (Refused n p)
+  goes : {e : Event} {d : Cursor} → (Fresh c → Onward s c d) → Fits s c (stepped e d)
+  done : Fits s c finished
+  refused : {n : Refusal} {p : ℕ} → Reason s c n p → Fits s c (refused_at n p)
 
 -- a place that the step from c has come to
 record Reached (s : List ℕ) (c : Cursor) (p : ℕ) : Type 0 where
@@ -73,11 +70,11 @@ module _ (s : List ℕ) (c : Cursor) where
   further r h k = record { ahead = λ f. omega (arith, r.ahead f); inside = λ l. k (r.inside l) }
 
   -- ---- how a step goes on
-  refuse : {n p : ℕ} → of_grammar n ≡ true → Reached s c p → Fits s c (Refused n p)
+  refuse : {n : Refusal} {p : ℕ} → of_grammar (number n) ≡ true → Reached s c p → Fits s c (refused_at n p)
   refuse h r = refused (grammar h r.inside)
 
   go_on : {e : Event} {d : Cursor} {p : ℕ} → Reached s c p → p < d.at → d.at ≤ length s → symbol_start d.place ≡ false
-      → Fits s c (Go e d)
+      → Fits s c (stepped e d)
   go_on {d = d} r h k b = goes {d = d} (λ f. record { onward = omega (arith, r.ahead f); within = omega arith; begun = b; inside = λ _. k })
 
   on_cond : (t : Bool) {a b : Step} → (t ≡ true → Fits s c a) → (t ≡ false → Fits s c b) → Fits s c (cond t a b)
@@ -88,10 +85,10 @@ module _ (s : List ℕ) (c : Cursor) where
   on_skipping {p} {on} r f = go (skip_at c s p) refl
     where
       go : (k : Skipped) → skip_at c s p ≡ k → Fits s c (on_skip k on)
-      go (At q) e =
+      go (Ok q) e =
           let w : Past s p q = record { onward = (skip-ended e).onward; within = (skip-ended e).within } in
           f q w (further r w.onward w.within)
-      go (Open q) e = refused (grammar {p = q} refl (λ h. omega (arith, unclosed-within (edition_at c) s p q (r.inside h) e)))
+      go (Err q) e = refused (grammar {p = q} refl (λ h. omega (arith, unclosed-within (edition_at c) s p q (r.inside h) e)))
 
   on_expecting : (b : ℕ) {p : ℕ} {a : Step} → 0 < b → Reached s c p → (p < length s → Fits s c a) → Fits s c (expecting b s p (λ _. a))
   on_expecting b {p} h r f = on_cond (eqb (get_or s p 0) b) (λ e. f (byte_stands s p b h e)) (λ _. refuse refl r)
@@ -104,7 +101,7 @@ module _ (s : List ℕ) (c : Cursor) where
 
   -- ---- matchers
   -- p is reached, and the reading then stands at `place`, which starts none
-  module _ (place : ℕ) {p : ℕ} (b : symbol_start place ≡ false) (r : Reached s c p) where
+  module _ (place : Place) {p : ℕ} (b : symbol_start place ≡ false) (r : Reached s c p) where
     line_to-fits : {e : TokenEnd} → Ends s p e → Fits s c (line_to c s place p e)
     unfolding line_to
     line_to-fits (ends h k) =
@@ -122,7 +119,7 @@ module _ (s : List ℕ) (c : Cursor) where
   behind : {p : ℕ} (n : ℕ) → Reached s c p → p + n ≤ length s → Reached s c (p + n)
   behind n r h = further r (omega arith) (λ _. h)
 
-  module _ (place : ℕ) {p : ℕ} (b : symbol_start place ≡ false) (r : Reached s c p) where
+  module _ (place : Place) {p : ℕ} (b : symbol_start place ≡ false) (r : Reached s c p) where
     -- the word of a language stands behind `extern `
     language-fits : (w : List ℕ) (n language : ℕ) → 0 < length w → n ≡ 7 + length w → stands_at w s (p + 7) ≡ true
         → Fits s c (extern_open c s place language (p + n))
@@ -146,7 +143,7 @@ module _ (s : List ℕ) (c : Cursor) where
         (λ _. on_cond (stands_at extern_word s p) (λ _. refuse refl r)
         (λ _. line_to-fits c.place i r h))
 
-  module _ (place : ℕ) (b : symbol_start place ≡ false) (i : symbol_start c.place ≡ false) where
+  module _ (place : Place) (b : symbol_start place ≡ false) (i : symbol_start c.place ≡ false) where
     in_extern-fits : Fits s c (in_extern c s place)
     unfolding in_extern
     in_extern-fits = on_skipping here (λ p _ r. extern_inside-fits place b r i (either_ends (edition_at c) s p))
@@ -155,7 +152,7 @@ module _ (s : List ℕ) (c : Cursor) where
     unfolding in_bare
     in_bare-fits = on_skipping here (λ p _ r. extern_inside-fits place b r i (bare-extern-ends (edition_at c) s p))
 
-  module _ (inner place : ℕ) (a : symbol_start inner ≡ false) (b : symbol_start place ≡ false) where
+  module _ (inner place : Place) (a : symbol_start inner ≡ false) (b : symbol_start place ≡ false) where
     matcher-fits : {p : ℕ} → Reached s c p → Fits s c (matcher c s inner place p)
     unfolding matcher
     matcher-fits {p} r =
@@ -164,7 +161,7 @@ module _ (s : List ℕ) (c : Cursor) where
     module _ (r : Reached s c 0) (z : place ≡ behind_symbol) where
       bare_line-fits : (e : TokenEnd) → bare_end (edition_at c) s ≡ e → Fits s c (bare_line c s place e)
       unfolding bare_line
-      bare_line-fits (To q) _ =
+      bare_line-fits (Ok q) _ =
           on_skipping (further {q = bare_skip (edition_at c) s} r (omega arith) (λ _. bare_skip-within (edition_at c) s)) (λ _ _ _.
           goes (λ f. record {
             onward = omega (arith, r.ahead f);
@@ -172,7 +169,7 @@ module _ (s : List ℕ) (c : Cursor) where
             begun = b;
             inside = λ h. absurd (true≢false (rw z at h));
           }))
-      bare_line-fits (token.Refused n) e = refuse (bare-refuses (edition_at c) s n e) r
+      bare_line-fits (Err n) e = refuse (bare-refuses (edition_at c) s n e) r
 
       bare_matcher-fits : Fits s c (bare_matcher c s inner place)
       unfolding bare_matcher
@@ -198,12 +195,12 @@ module _ (s : List ℕ) (c : Cursor) where
         (λ e. go_on r (omega arith) (omega (arith, byte_stands s p opening_brace (omega arith) e)) refl)
         (λ _. node_at-fits)
 
-    parent_to-fits : (d : Cursor) → (f : Found) → first_from (is semicolon) s p ≡ f → Fits s c (parent_to d p f)
+    parent_to-fits : (d : Cursor) → (f : Option ℕ) → first_from (is semicolon) s p ≡ f → Fits s c (parent_to d p f)
     unfolding parent_to
-    parent_to-fits d (Here q) e =
+    parent_to-fits d (Some q) e =
         let h = first_within e in
         go_on r (omega (arith, h.onward)) (omega (arith, h.within)) refl
-    parent_to-fits d Nowhere e = refuse refl r
+    parent_to-fits d None e = refuse refl r
 
   module _ {p : ℕ} (r : Reached s c p) where
     node_end-fits : Fits s c (node_end c s p)
@@ -216,14 +213,14 @@ module _ (s : List ℕ) (c : Cursor) where
         on_skipping r (λ _ _ t. on_expecting semicolon (omega arith) t (λ h.
         on_skipping (further t (omega arith) (λ _. omega arith)) (λ _ _ u. on_ending u)))
 
-  opening_at-fits : (place : ℕ) → symbol_start place ≡ false → Fits s c (opening_at c s place)
+  opening_at-fits : (place : Place) → symbol_start place ≡ false → Fits s c (opening_at c s place)
   unfolding opening_at
   opening_at-fits place b =
       on_skipping here (λ _ _ r. on_expecting opening_brace (omega arith) r (λ h. go_on r (omega arith) (omega arith) b))
 
   -- ---- bodies and lists
   module _ (i : symbol_start c.place ≡ false) {p : ℕ} (r : Reached s c p) where
-    inside_body-fits : (inner : ℕ) → symbol_start inner ≡ false → Fits s c (inside_body c s inner p)
+    inside_body-fits : (inner : Place) → symbol_start inner ≡ false → Fits s c (inside_body c s inner p)
     unfolding inside_body
     inside_body-fits inner a =
         on_cond (stands_at global_word s p) (λ e. go_on r (omega arith) (word_stands global_word s p (omega arith) e) i)
@@ -253,43 +250,26 @@ module _ (s : List ℕ) (c : Cursor) where
         (λ _. matcher-fits in_list_extern in_list refl refl r)
 
   -- ---- the step at each place
-  at_place : (place : ℕ) {a b : Step} → (c.place ≡ place → Fits s c a) → Fits s c b → Fits s c (cond (eqb c.place place) a b)
-  at_place place f g = on_cond (eqb c.place place) (λ e. f (eqb-true c.place place e)) (λ _. g)
-
-  module _ (i : symbol_start c.place ≡ false) where
-    next_script-fits : Fits s c (next_script s c)
-    unfolding next_script start_script go_node go_body go_sole
-    next_script-fits =
-        at_place at_script (λ z. on_within script_limit (λ h. rw z (script h)) (on_skipping here (λ _ _ r. script_at-fits r)))
-        (at_place at_node (λ _. on_skipping here (λ _ _ r. node_at-fits r))
-        (at_place at_body (λ _. opening_at-fits in_body refl)
-        (at_place in_body (λ _. on_skipping here (λ _ _ r. body_at-fits i r))
-        (at_place in_body_extern (λ _. in_extern-fits in_body refl i)
-        (at_place in_sole (λ _. on_skipping here (λ _ _ r. sole_at-fits i r))
-        (in_extern-fits in_sole refl i))))))
-
-    next_list-fits : Fits s c (next_list s c)
-    unfolding next_list go_list
-    next_list-fits =
-        at_place at_list (λ z. on_within script_limit (λ h. rw z (list h)) (opening_at-fits in_list refl))
-        (at_place in_list (λ _. on_skipping here (λ _ _ r. list_at-fits i r))
-        (in_extern-fits in_list refl i))
-
-  next_symbol-fits : Fits s c (next_symbol s c)
-  unfolding next_symbol
-  next_symbol-fits =
-      at_place at_symbol (λ z. on_within token_limit (λ h. rw z (symbol h)) (matcher-fits in_symbol_extern behind_symbol refl refl (first (rw z))))
-      (at_place in_symbol_extern (λ z. in_extern-fits behind_symbol refl (rw z))
-      (at_place at_bare (λ z. on_within token_limit (λ h. rw z (bare h)) (bare_matcher-fits in_bare_extern behind_symbol refl refl (first (rw z)) refl))
-      (at_place in_bare_extern (λ z. in_bare-fits behind_symbol refl (rw z))
-      done)))
-
-  begun_before : c.place < at_symbol → symbol_start c.place ≡ false
-  begun_before h = rw (ne_eqb c.place at_symbol (λ z. omega arith), ne_eqb c.place at_bare (λ z. omega arith))
+  step-fits : (x : Place) → c.place ≡ x → Fits s c (step_at s c x)
+  unfolding step_at start_script go_node go_body go_sole go_list
+  step-fits place.AtScript z = on_within script_limit (λ h. rw z (script h)) (on_skipping here (λ _ _ r. script_at-fits r))
+  step-fits place.AtNode z = on_skipping here (λ _ _ r. node_at-fits r)
+  step-fits place.AtBody z = opening_at-fits in_body refl
+  step-fits place.InBody z = on_skipping here (λ _ _ r. body_at-fits (rw z) r)
+  step-fits place.InBodyExtern z = in_extern-fits in_body refl (rw z)
+  step-fits place.InSole z = on_skipping here (λ _ _ r. sole_at-fits (rw z) r)
+  step-fits place.InSoleExtern z = in_extern-fits in_sole refl (rw z)
+  step-fits place.AtList z = on_within script_limit (λ h. rw z (list h)) (opening_at-fits in_list refl)
+  step-fits place.InList z = on_skipping here (λ _ _ r. list_at-fits (rw z) r)
+  step-fits place.InListExtern z = in_extern-fits in_list refl (rw z)
+  step-fits place.AtSymbol z =
+      on_within token_limit (λ h. rw z (symbol h)) (matcher-fits in_symbol_extern behind_symbol refl refl (first (rw z)))
+  step-fits place.InSymbolExtern z = in_extern-fits behind_symbol refl (rw z)
+  step-fits place.AtBare z =
+      on_within token_limit (λ h. rw z (bare h)) (bare_matcher-fits in_bare_extern behind_symbol refl refl (first (rw z)) refl)
+  step-fits place.InBareExtern z = in_bare-fits behind_symbol refl (rw z)
+  step-fits place.BehindSymbol z = done
 
   pub next_fits : Fits s c (next s c)
   unfolding next
-  next_fits =
-      on_cond (ltb c.place at_list) (λ e. next_script-fits (begun_before (omega (arith, ltb-true c.place at_list e))))
-      (λ _. on_cond (ltb c.place at_symbol) (λ e. next_list-fits (begun_before (ltb-true c.place at_symbol e)))
-      (λ _. next_symbol-fits))
+  next_fits = step-fits c.place refl

@@ -16,25 +16,23 @@ use Rattle.numbers.specs.Limits.{script_limit}
 use Rattle.numbers.specs.Signs.{asterisk, closing_brace, hash, opening_brace, semicolon}
 use Rattle.lists.specs.Each.{every}
 use Rattle.lists.proofs.Tests.{both, neither}
-use Rattle.linker_script.specs.declared.Found.TheVariants.{Here}
-use Rattle.linker_script.specs.declared.Skipped.TheVariants.{At}
+use Rattle.std.specs.Prelude.{Some, Ok}
 use Rattle.linker_script.specs.Finding.{first_from, first_in, is}
 use Rattle.linker_script.specs.Skip.{blank, move, skip, skip_past, skips}
 use Rattle.reading_tokens.specs.Tokens.{name_in, named}
 use Rattle.reading_cursors.specs.declared.Cursor.{Cursor}
 use Rattle.reading_cursors.specs.declared.Event.{Event}
 use Rattle.reading_cursors.specs.declared.Event.TheVariants.{Node, Body, Parent}
-use Rattle.reading_cursors.specs.declared.Step.TheVariants.{Go, End}
-use Rattle.reading_cursors.specs.Moves.{edition_at, in_section, moved, start}
+use Rattle.reading_cursors.specs.Moves.{stepped, finished, edition_at, in_section, moved, start}
 use Rattle.reading_cursors.specs.Places.{at_script, at_node, at_body, in_body}
 use Rattle.reading_bodies.specs.Bodies.{name_to, node_at, script_at, parent_to, parent_at, node_end, body_at}
-use Rattle.reading.specs.Scripts.{opening_at, start_script, go_node, go_body, next_script, next}
+use Rattle.reading.specs.Scripts.{opening_at, start_script, go_node, go_body, step_at, next}
 use Rattle.reading.specs.Events.{Reading, accepted, and_then, ends, reading, reading_from}
 use Rattle.reading.specs.Standing.{Standing}
 use Rattle.reading.proofs.Onward.{next_stands, reading_step, start_stands}
 
 -- ---- a skip stops where it takes nothing
-pub skip-stays : (e : Edition) (p : ℕ) (l : List ℕ) → skips l 0 ≡ false → skip_past e 0 p l ≡ At p
+pub skip-stays : (e : Edition) (p : ℕ) (l : List ℕ) → skips l 0 ≡ false → skip_past e 0 p l ≡ Ok p
 unfolding skip_past move
 skip-stays e p [] h = refl
 skip-stays e p (b ∷ l) h =
@@ -57,7 +55,7 @@ name-ends p (x ∷ t) b l h e =
     rw (a.0, name-ends (p + 1) t b l a.1 e) (omega arith)
 
 module _ (free : ℕ → Bool) (none : (b : ℕ) → free b ≡ true → eqb b semicolon ≡ false) where
-  text-ends : (p : ℕ) (u l : List ℕ) → every free u ≡ true → first_in (is semicolon) p (u ++ semicolon ∷ l) ≡ Here (p + length u)
+  text-ends : (p : ℕ) (u l : List ℕ) → every free u ≡ true → first_in (is semicolon) p (u ++ semicolon ∷ l) ≡ Some (p + length u)
   unfolding every first_in
   text-ends p [] l h = rw add-zero
   text-ends p (x ∷ u) l h =
@@ -73,7 +71,7 @@ module _ (s : List ℕ) where
   pub first_byte : (p b : ℕ) (l : List ℕ) → drop p s ≡ b ∷ l → get_or s p 0 ≡ b
   first_byte p b l e = ap (λ (k : ℕ). get_or s k 0) (sym (add-zero p)) ∙ sym (get_or-drop p s 0 0) ∙ ap (λ (m : List ℕ). get_or m 0 0) e
 
-  pub skip_here : (x : Edition) (p : ℕ) → skips (drop p s) 0 ≡ false → skip x s p ≡ At p
+  pub skip_here : (x : Edition) (p : ℕ) → skips (drop p s) 0 ≡ false → skip x s p ≡ Ok p
   unfolding skip
   skip_here x p h = skip-stays x p (drop p s) h
 
@@ -82,29 +80,29 @@ module _ (s : List ℕ) where
     -- a node is looked for, at the start of a script and behind another node
     node_first : c.place ≡ at_script → length s ≤ script_limit → skips (drop c.at s) 0 ≡ false → (get_or s c.at 0 ≡ opening_brace → ⊥)
         → next s c ≡ node_at c s c.at
-    unfolding next next_script start_script script_at
+    unfolding next step_at start_script script_at
     node_first z h k f =
         rw (z, le-ltb script_limit (length s) h, skip_here (edition_at c) c.at k, ne_eqb (get_or s c.at 0) opening_brace f)
 
     node_next : c.place ≡ at_node → skips (drop c.at s) 0 ≡ false → next s c ≡ node_at c s c.at
-    unfolding next next_script go_node
+    unfolding next step_at go_node
     node_next z k = rw (z, skip_here (edition_at c) c.at k)
 
     name-step : (t l : List ℕ) → drop c.at s ≡ t ++ opening_brace ∷ l → 0 < length t → every named t ≡ true
-        → node_at c s c.at ≡ Go (Node c.at (length t)) (moved c at_body (c.at + length t))
+        → node_at c s c.at ≡ stepped (Node c.at (length t)) (moved c at_body (c.at + length t))
     unfolding node_at name_to named
     name-step t l e h k =
         let i : c.at < length s = omega (arith, length-drop c.at s, ap length e ∙ length-append t (opening_brace ∷ l)) in
         let z : c.at + length t - c.at ≡ length t = omega arith in
         rw (ne_eqb c.at (length s) (λ q. omega arith), e, name-ends c.at t opening_brace l k refl, lt-ltb c.at (c.at + length t) (omega arith), z)
 
-    body-step : (l : List ℕ) → c.place ≡ at_body → drop c.at s ≡ opening_brace ∷ l → next s c ≡ Go Body (moved c in_body (c.at + 1))
-    unfolding next next_script opening_at blank
+    body-step : (l : List ℕ) → c.place ≡ at_body → drop c.at s ≡ opening_brace ∷ l → next s c ≡ stepped Body (moved c in_body (c.at + 1))
+    unfolding next step_at opening_at blank
     body-step l z e =
         let k : skips (drop c.at s) 0 ≡ false = rw e in
         rw (z, skip_here (edition_at c) c.at k, first_byte c.at opening_brace l e)
 
-    end_step : c.place ≡ at_node → c.at ≡ length s → next s c ≡ End
+    end_step : c.place ≡ at_node → c.at ≡ length s → next s c ≡ finished
     unfolding node_at blank
     end_step z e =
         let d : drop c.at s ≡ [] = drop_of_length-le s {i = c.at} (omega arith) in
@@ -113,8 +111,8 @@ module _ (s : List ℕ) where
 
     module _ (free : ℕ → Bool) (none : (b : ℕ) → free b ≡ true → eqb b semicolon ≡ false) where
       parent-step : (u l : List ℕ) → c.place ≡ in_body → drop c.at s ≡ closing_brace ∷ (u ++ semicolon ∷ l) → skips u 0 ≡ false → every free u ≡ true
-          → next s c ≡ Go (Parent (c.at + 1) (length u)) (moved (in_section c 0) at_node (c.at + 1 + length u + 1))
-      unfolding next next_script go_body body_at node_end parent_at parent_to first_from blank
+          → next s c ≡ stepped (Parent (c.at + 1) (length u)) (moved (in_section c 0) at_node (c.at + 1 + length u + 1))
+      unfolding next step_at go_body body_at node_end parent_at parent_to first_from blank
       parent-step u l z e h f =
           let k : skips (drop c.at s) 0 ≡ false = rw e in
           let d : drop (c.at + 1) s ≡ u ++ semicolon ∷ l = drop_behind c.at (closing_brace ∷ []) (u ++ semicolon ∷ l) e in
@@ -138,7 +136,7 @@ pub record Whole (s : List ℕ) (r : Reading) (p : ℕ) (t u : List ℕ) : Type 
   pub at : behind.at ≡ p + length t + length u + 3
   pub reads : r ≡ and_then (Node p (length t)) (and_then Body (and_then (Parent (p + length t + 2) (length u)) (reading_from s behind)))
 
-pub event_reads : {s : List ℕ} {c d : Cursor} {e : Event} → Standing s c → next s c ≡ Go e d → reading_from s c ≡ and_then e (reading_from s d)
+pub event_reads : {s : List ℕ} {c d : Cursor} {e : Event} → Standing s c → next s c ≡ stepped e d → reading_from s c ≡ and_then e (reading_from s d)
 event_reads k h = reading_step k ∙ rw h
 
 -- a name, and a text that stands before a `;`, by a test `free` that no `;` passes
@@ -158,9 +156,9 @@ module _ (free : ℕ → Bool) (none : (b : ℕ) → free b ≡ true → eqb b s
       let c₃ : Cursor = moved (in_section c₂ 0) at_node (c₂.at + 1 + length u + 1) in
       let d₁ : drop c₁.at s ≡ opening_brace ∷ closing_brace ∷ (u ++ semicolon ∷ l) = drop_behind s c.at t _ e in
       let d₂ : drop c₂.at s ≡ closing_brace ∷ (u ++ semicolon ∷ l) = drop_behind s c₁.at (opening_brace ∷ []) _ d₁ in
-      let n₀ : next s c ≡ Go (Node c.at (length t)) c₁ = n ∙ name-step s c t _ e some bytes in
-      let n₁ : next s c₁ ≡ Go Body c₂ = body-step s c₁ _ refl d₁ in
-      let n₂ : next s c₂ ≡ Go (Parent (c₂.at + 1) (length u)) c₃ = parent-step s c₂ free none u l refl d₂ plain-text text in
+      let n₀ : next s c ≡ stepped (Node c.at (length t)) c₁ = n ∙ name-step s c t _ e some bytes in
+      let n₁ : next s c₁ ≡ stepped Body c₂ = body-step s c₁ _ refl d₁ in
+      let n₂ : next s c₂ ≡ stepped (Parent (c₂.at + 1) (length u)) c₃ = parent-step s c₂ free none u l refl d₂ plain-text text in
       let k₁ = next_stands k n₀ in
       let k₂ = next_stands k₁ n₁ in
       let z : c₂.at + 1 ≡ c.at + length t + 2 = omega arith in

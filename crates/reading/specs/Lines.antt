@@ -1,8 +1,10 @@
 -- The tokens of the lines that a reading gives, and that they stand in the text one behind the other. proofs/Lines.antt proves it. Assumes nothing.
-use Rattle.std.specs.Prelude.{ℕ, ◌+◌, ◌<◌, ◌≤◌, List, [], ◌∷◌, length}
+use Rattle.std.specs.Prelude.{ℕ, ◌+◌, ◌<◌, ◌≤◌, ◌≡◌, List, [], ◌∷◌, false, length}
 use Rattle.reading_cursors.specs.declared.Event.{Event}
 use Rattle.reading_cursors.specs.declared.Event.TheVariants.{Node, Body, Section, Extern, Closed, Line, Parent}
-use Rattle.reading_cursors.specs.Places.{at_symbol}
+use Rattle.numbers.specs.declared.Edition.{Edition}
+use Rattle.reading_cursors.specs.declared.places.Place.{Place}
+use Rattle.reading_cursors.specs.Places.{of_symbol}
 use Rattle.reading.specs.Events.{reading}
 
 -- a line's token: the section and language that it is read in, where it starts in the text, and how many bytes it has without its trailing blanks
@@ -30,4 +32,4 @@ pub data InOrder (s : List ℕ) : ℕ → List Token → Type 0 where
 
 -- those of a script and of an export list are so; a text of `add_symbol` may be one token without a byte
 abbrev pub TokensInOrder : Type 0
-TokensInOrder = (edition place : ℕ) (s : List ℕ) → place < at_symbol → InOrder s 0 (tokens (reading edition place s).events)
+TokensInOrder = (edition : Edition) (place : Place) (s : List ℕ) → of_symbol place ≡ false → InOrder s 0 (tokens (reading edition place s).events)

@@ -1,15 +1,16 @@
 -- The rules of 01's 'Reading', and where a step of a reading comes to each, byte by byte: a second account of `next`, by which specs/Refusing.antt says when
 -- it refuses. Assumes nothing.
-use Rattle.std.specs.Prelude.{ℕ, ◌+◌, ◌<◌, ◌≤◌, ◌≡◌, List, ◌++◌, Bool, true, false, cond, ◌&&◌, ◌||◌, eqb, length, get_or}
+use Rattle.std.specs.Prelude.{ℕ, ◌+◌, ◌<◌, ◌≤◌, ◌≡◌, List, ◌++◌, Bool, true, false, cond, ◌&&◌, length, get_or, Some}
 use Rattle.numbers.specs.declared.Edition.{Edition}
 use Rattle.numbers.specs.Limits.{script_limit, token_limit}
 use Rattle.numbers.specs.Signs.{asterisk, closing_brace, hash, line_feed, opening_brace, semicolon, slash}
-use Rattle.linker_script.specs.declared.Found.TheVariants.{Here}
 use Rattle.linker_script.specs.Finding.{closes, first_from, found_any, is}
 use Rattle.linker_script.specs.Parts.{behind}
 use Rattle.linker_script.specs.Skip.{blank, comment_end, skips}
 use Rattle.reading_tokens.specs.Tokens.{brace_next, named, stands_at}
 use Rattle.reading_cursors.specs.declared.Cursor.{Cursor}
+use Rattle.reading_cursors.specs.declared.places.Place.{Place}
+use Rattle.reading_cursors.specs.declared.places.Place.TheVariants as place
 use Rattle.reading_cursors.specs.Moves.{edition_at}
 use Rattle.reading_matchers.specs.Matchers.{extern_word, cxx_word, c_word, close_word}
 use Rattle.reading_cursors.specs.Places.{at_script, at_node, at_body, in_body, in_body_extern, in_sole, in_sole_extern}
@@ -21,8 +22,8 @@ use Rattle.reading_bodies.specs.Bodies.{global_word, local_word}
 abbrev pub Byte : ℕ → List ℕ → ℕ → Type 0
 Byte b s p = get_or s p 0 ≡ b
 
-abbrev pub None : ℕ → List ℕ → ℕ → Type 0
-None b s p = (q : ℕ) → p ≤ q → Byte b s q → ⊥
+abbrev pub NoByte : ℕ → List ℕ → ℕ → Type 0
+NoByte b s p = (q : ℕ) → p ≤ q → Byte b s q → ⊥
 
 abbrev pub NoPair : ℕ → ℕ → List ℕ → ℕ → Type 0
 NoPair a b s p = (q : ℕ) → p ≤ q → Byte a s q → Byte b s (q + 1) → ⊥
@@ -78,7 +79,7 @@ pub data Rule : Type 0 where
   no_more : Rule
 
 -- the rule that is due at each place of the grammar; `add_symbol` reads "with no skip before it", and nothing is due behind its matcher
-pub data Due : ℕ → Rule → Type 0 where
+pub data Due : Place → Rule → Type 0 where
   due_script : Due at_script (skip_to script_start)
   due_node : Due at_node (skip_to node)
   due_opening : Due at_body (skip_to opening)
@@ -95,14 +96,16 @@ pub data Due : ℕ → Rule → Type 0 where
   due_bare_block : Due in_bare_extern (skip_to (block bare_extern_token))
 
 -- where it is due, at such a place of the grammar and the place p of the text: a text of `add_symbol` is read from its first byte, wherever the cursor stands
-abbrev pub symbol_start : ℕ → Bool
-symbol_start place = eqb place at_symbol || eqb place at_bare
+abbrev pub symbol_start : Place → Bool
+symbol_start place.AtSymbol = true
+symbol_start place.AtBare = true
+symbol_start p = false
 
-abbrev pub due_at : ℕ → ℕ → ℕ
+abbrev pub due_at : Place → ℕ → ℕ
 due_at place p = cond (symbol_start place) 0 p
 
 -- "script, text … over its limit", at the places where a reading starts: of such a text nothing is read
-pub data Over (s : List ℕ) : ℕ → Type 0 where
+pub data Over (s : List ℕ) : Place → Type 0 where
   script : script_limit < length s → Over s at_script
   list : script_limit < length s → Over s at_list
   symbol : token_limit < length s → Over s at_symbol
@@ -113,10 +116,10 @@ pub data Comes (s : List ℕ) (c : Cursor) : Rule → ℕ → Type 0 where
   starts : {r : Rule} → (Over s c.place → ⊥) → Due c.place r → Comes s c r (due_at c.place c.at)
   -- "Skip: spaces, tabs, CR, LF; `#` up to LF, …; `/*` up to the first `*/` that starts at least one byte after the `/`."
   past_blank : {r : Rule} {p : ℕ} → Comes s c (skip_to r) p → blank (get_or s p 0) ≡ true → Comes s c (skip_to r) (p + 1)
-  past_line : {r : Rule} {p q : ℕ} → Comes s c (skip_to r) p → Byte hash s p → first_from (is line_feed) s (p + 1) ≡ Here q
+  past_line : {r : Rule} {p q : ℕ} → Comes s c (skip_to r) p → Byte hash s p → first_from (is line_feed) s (p + 1) ≡ Some q
       → Comes s c (skip_to r) (q + 1)
   past_comment : {r : Rule} {p q : ℕ} → Comes s c (skip_to r) p → Byte slash s p → Byte asterisk s (p + 1)
-      → comment_end (edition_at c) s p ≡ Here q → Comes s c (skip_to r) (q + 2)
+      → comment_end (edition_at c) s p ≡ Some q → Comes s c (skip_to r) (q + 2)
   skipped : {r : Rule} {p : ℕ} → Comes s c (skip_to r) p → skips s p ≡ false → Comes s c r p
   -- "If `{` follows: … Otherwise …"
   to_nodes : {p : ℕ} → Comes s c script_start p → (Byte opening_brace s p → ⊥) → Comes s c node p
@@ -139,4 +142,4 @@ pub data Comes (s : List ℕ) (c : Cursor) : Rule → ℕ → Type 0 where
   of_matcher : {k : Token} {p : ℕ} → Comes s c (matcher k) p → NoWord extern_word s p → Comes s c (token k) p
   of_block : {k : Token} {p : ℕ} → Comes s c (block k) p → NoWord close_word s p → NoWord extern_word s p → Comes s c (token k) p
   -- "where there is none it is all the text, empty too, and the skip after it starts at the text's first byte"
-  all_text : {p : ℕ} → Comes s c (token bare_token) p → None closing_brace s p → Comes s c (skip_to no_more) 0
+  all_text : {p : ℕ} → Comes s c (token bare_token) p → NoByte closing_brace s p → Comes s c (skip_to no_more) 0

@@ -1,26 +1,25 @@
 -- Scripts, export lists and texts of `add_symbol`, as 01 has them under 'Reading': the step of a reading at each of its places.
 -- Assumes nothing.
-use Rattle.std.specs.Prelude.{ℕ, List, cond, eqb, ltb}
+use Rattle.std.specs.Prelude.{ℕ, List, cond}
 use Rattle.numbers.specs.Limits.{over, script_limit, token_limit}
-use Rattle.numbers.specs.Refusals.{too_long}
+use Rattle.numbers.specs.declared.Refusal.TheVariants as no
 use Rattle.numbers.specs.Signs.{opening_brace}
 use Rattle.reading_cursors.specs.declared.Cursor.{Cursor}
 use Rattle.reading_cursors.specs.declared.Event.TheVariants.{Body}
-use Rattle.reading_cursors.specs.declared.Step.{Step}
-use Rattle.reading_cursors.specs.declared.Step.TheVariants.{Go, End, Refused}
-use Rattle.reading_cursors.specs.Moves.{moved, skipping, expecting}
+use Rattle.reading_cursors.specs.declared.places.Place.{Place}
+use Rattle.reading_cursors.specs.declared.places.Place.TheVariants as place
+use Rattle.reading_cursors.specs.Moves.{Step, stepped, finished, refused_at, moved, skipping, expecting}
 use Rattle.reading_matchers.specs.Matchers.{matcher, bare_matcher, in_extern, in_bare}
-use Rattle.reading_cursors.specs.Places.{at_script, at_node, at_body, in_body, in_body_extern, in_sole}
-use Rattle.reading_cursors.specs.Places.{at_list, in_list, at_symbol, in_symbol_extern, at_bare, in_bare_extern, behind_symbol}
+use Rattle.reading_cursors.specs.Places.{in_body, in_sole, in_list, in_symbol_extern, in_bare_extern, behind_symbol}
 use Rattle.reading_bodies.specs.Bodies.{node_at, script_at, body_at, sole_at, list_at}
 
 -- a body or a list opens: "skip, `{`"
-unfoldable pub opening_at : Cursor → List ℕ → ℕ → Step
-opening_at c s place = skipping c s c.at (λ p. expecting opening_brace s p (λ q. Go Body (moved c place q)))
+unfoldable pub opening_at : Cursor → List ℕ → Place → Step
+opening_at c s place = skipping c s c.at (λ p. expecting opening_brace s p (λ q. stepped Body (moved c place q)))
 
 -- ---- "script, text … over its limit"
 abbrev pub within : ℕ → List ℕ → Step → Step
-within limit s r = cond (over limit s) (Refused too_long 0) r
+within limit s r = cond (over limit s) (refused_at no.TooLong 0) r
 
 -- ---- a step, at each place of a reading
 unfoldable pub start_script : List ℕ → Cursor → Step
@@ -38,31 +37,23 @@ go_sole s c = skipping c s c.at (λ p. sole_at c s p)
 unfoldable pub go_list : List ℕ → Cursor → Step
 go_list s c = skipping c s c.at (λ p. list_at c s p)
 
-unfoldable pub next_script : List ℕ → Cursor → Step
-next_script s c =
-    cond (eqb c.place at_script) (start_script s c)
-    (cond (eqb c.place at_node) (go_node s c)
-    (cond (eqb c.place at_body) (opening_at c s in_body)
-    (cond (eqb c.place in_body) (go_body s c)
-    (cond (eqb c.place in_body_extern) (in_extern c s in_body)
-    (cond (eqb c.place in_sole) (go_sole s c)
-    (in_extern c s in_sole))))))
-
-unfoldable pub next_list : List ℕ → Cursor → Step
-next_list s c =
-    cond (eqb c.place at_list) (within script_limit s (opening_at c s in_list))
-    (cond (eqb c.place in_list) (go_list s c)
-    (in_extern c s in_list))
-
 -- "`add_symbol` reads one matcher with no skip before it and ignores what is left."
-unfoldable pub next_symbol : List ℕ → Cursor → Step
-next_symbol s c =
-    cond (eqb c.place at_symbol) (within token_limit s (matcher c s in_symbol_extern behind_symbol 0))
-    (cond (eqb c.place in_symbol_extern) (in_extern c s behind_symbol)
-    (cond (eqb c.place at_bare) (within token_limit s (bare_matcher c s in_bare_extern behind_symbol))
-    (cond (eqb c.place in_bare_extern) (in_bare c s behind_symbol)
-    End)))
+unfoldable pub step_at : List ℕ → Cursor → Place → Step
+step_at s c place.AtScript = start_script s c
+step_at s c place.AtNode = go_node s c
+step_at s c place.AtBody = opening_at c s in_body
+step_at s c place.InBody = go_body s c
+step_at s c place.InBodyExtern = in_extern c s in_body
+step_at s c place.InSole = go_sole s c
+step_at s c place.InSoleExtern = in_extern c s in_sole
+step_at s c place.AtList = within script_limit s (opening_at c s in_list)
+step_at s c place.InList = go_list s c
+step_at s c place.InListExtern = in_extern c s in_list
+step_at s c place.AtSymbol = within token_limit s (matcher c s in_symbol_extern behind_symbol 0)
+step_at s c place.InSymbolExtern = in_extern c s behind_symbol
+step_at s c place.AtBare = within token_limit s (bare_matcher c s in_bare_extern behind_symbol)
+step_at s c place.InBareExtern = in_bare c s behind_symbol
+step_at s c place.BehindSymbol = finished
 
--- at a place of the grammar that there is not, nothing is read
 unfoldable pub next : List ℕ → Cursor → Step
-next s c = cond (ltb c.place at_list) (next_script s c) (cond (ltb c.place at_symbol) (next_list s c) (next_symbol s c))
+next s c = step_at s c c.place

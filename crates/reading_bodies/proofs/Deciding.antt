@@ -9,19 +9,17 @@ use mir.Syntax.{w64}
 use mir.Val.{Fits}
 use lib.Dec.{eqb}
 use lib.ListN.{length, get_or}
-use Rattle.numbers.specs.Refusals.{unreadable}
+use Rattle.numbers.specs.declared.Refusal.TheVariants as no
 use Rattle.numbers.specs.Signs.{semicolon}
-use Rattle.linker_script.specs.declared.Found.{Found}
-use Rattle.linker_script.specs.declared.Found.TheVariants.{Here, Nowhere}
+use Rattle.std.specs.Prelude.{Option, Some, None}
 use Rattle.linker_script.specs.Finding.{first_from, is}
 use Rattle.linker_script.proofs.Searches.{First, first_within}
 use Rattle.reading_tokens.specs.Tokens.{name_end}
 use Rattle.reading_cursors.specs.declared.Cursor.{Cursor}
 use Rattle.reading_cursors.specs.declared.Event.{Event}
 use Rattle.reading_cursors.specs.declared.Event.TheVariants.{Parent, Section}
-use Rattle.reading_cursors.specs.declared.Step.{Step}
-use Rattle.reading_cursors.specs.declared.Step.TheVariants.{Go, Refused}
-use Rattle.reading_cursors.specs.Moves.{moved, in_section}
+use Rattle.reading_cursors.specs.declared.places.Place.{Place}
+use Rattle.reading_cursors.specs.Moves.{Step, stepped, refused_at, moved, in_section}
 use Rattle.reading_matchers.proofs.Stepping.{steps}
 use Rattle.reading_cursors.specs.Places.{at_node}
 use Rattle.reading_bodies.specs.Bodies.{name_to, parent_to, parent_at}
@@ -43,12 +41,12 @@ module _ (s : List ℕ) (p x b : ℕ) (e : x ≡ get_or s p 0) where
   byte_not k = rw (← e) (ne_eqb x b k)
 
 -- ---- the cursor d that was made
-pub goes : (a : Event) (c d : Cursor) → d ≡ c → Go a d ≡ Go a c
+pub goes : (a : Event) (c d : Cursor) → d ≡ c → stepped a d ≡ stepped a c
 goes a c d e = rw e
 
 -- m is c in another section
 module _ (c m : Cursor) (n : ℕ) (e : m ≡ in_section c n) where
-  pub goes-section : (d : Cursor) (place p : ℕ) → d ≡ moved m place p → Go (Section n) d ≡ Go (Section n) (moved (in_section c n) place p)
+  pub goes-section : (d : Cursor) (place : Place) (p : ℕ) → d ≡ moved m place p → stepped (Section n) d ≡ stepped (Section n) (moved (in_section c n) place p)
   goes-section d place p q = rw (q, e)
 
   pub parent-section : (s : List ℕ) (p : ℕ) (r : Step) → r ≡ parent_at m s p → r ≡ parent_at (in_section c n) s p
@@ -59,13 +57,13 @@ pub name-ends : (c : Cursor) (s : List ℕ) (p q : ℕ) (r : Step) → r ≡ nam
 name-ends c s p q r a e = rw (← e) a
 
 -- ---- the parent text from p on; f is what `find` answers
-module _ (c : Cursor) (s : List ℕ) (p : ℕ) (f : Found) (e : f ≡ first_from (is semicolon) s p) where
-  pub no_parent : f ≡ Nowhere → Refused unreadable p ≡ parent_at c s p
+module _ (c : Cursor) (s : List ℕ) (p : ℕ) (f : Option ℕ) (e : f ≡ first_from (is semicolon) s p) where
+  pub no_parent : f ≡ None → (r : Step) → r ≡ refused_at no.Unreadable p → r ≡ parent_at c s p
   unfolding parent_at parent_to
-  no_parent k = rw (← e, k)
+  no_parent k r a = rw (← e, k) a
 
-  module _ (q : ℕ) (k : f ≡ Here q) where
-    pub parent-goes : (d : Cursor) → d ≡ moved c at_node (q + 1) → Go (Parent p (q - p)) d ≡ parent_at c s p
+  module _ (q : ℕ) (k : f ≡ Some q) where
+    pub parent-goes : (d : Cursor) → d ≡ moved c at_node (q + 1) → stepped (Parent p (q - p)) d ≡ parent_at c s p
     unfolding parent_at parent_to
     parent-goes d m = rw (← e, k, m)
 

@@ -1,19 +1,16 @@
 -- Bodies, and what a script or a list has beside them, as 01 has them under 'Reading': the step of a reading behind a skip, at the place p.
 -- Assumes nothing.
-use Rattle.std.specs.Prelude.{ℕ, ◌+◌, ◌-◌, List, [], ◌∷◌, cond, eqb, ltb, length, get_or}
+use Rattle.std.specs.Prelude.{ℕ, ◌+◌, ◌-◌, List, [], ◌∷◌, cond, eqb, ltb, length, get_or, Option, Some, None}
 use Rattle.numbers.specs.Marks.{global, local}
-use Rattle.numbers.specs.Refusals.{unreadable}
+use Rattle.numbers.specs.declared.Refusal.TheVariants as no
 use Rattle.numbers.specs.Signs.{closing_brace, opening_brace, semicolon}
-use Rattle.linker_script.specs.declared.Found.{Found}
-use Rattle.linker_script.specs.declared.Found.TheVariants.{Here, Nowhere}
 use Rattle.linker_script.specs.Finding.{first_from, is}
 use Rattle.linker_script.specs.Parts.{behind}
 use Rattle.reading_tokens.specs.Tokens.{stands_at, name_end}
 use Rattle.reading_cursors.specs.declared.Cursor.{Cursor}
 use Rattle.reading_cursors.specs.declared.Event.TheVariants.{Node, Body, Section, Parent}
-use Rattle.reading_cursors.specs.declared.Step.{Step}
-use Rattle.reading_cursors.specs.declared.Step.TheVariants.{Go, End, Refused}
-use Rattle.reading_cursors.specs.Moves.{moved, in_section, skipping, expecting, ending}
+use Rattle.reading_cursors.specs.declared.places.Place.{Place}
+use Rattle.reading_cursors.specs.Moves.{Step, stepped, finished, refused_at, moved, in_section, skipping, expecting, ending}
 use Rattle.reading_matchers.specs.Matchers.{close_word, matcher}
 use Rattle.reading_cursors.specs.Places.{at_node, at_body, in_body_extern, in_sole, in_sole_extern, in_list, in_list_extern}
 
@@ -28,19 +25,19 @@ local_word = 108 ∷ 111 ∷ 99 ∷ 97 ∷ 108 ∷ 58 ∷ []
 -- skip, body, parent text up to `;` (raw, trailing blanks kept), `;`, skip."
 -- "a name": it starts at p and ends at q
 unfoldable pub name_to : Cursor → ℕ → ℕ → Step
-name_to c p q = cond (ltb p q) (Go (Node p (q - p)) (moved c at_body q)) (Refused unreadable p)
+name_to c p q = cond (ltb p q) (stepped (Node p (q - p)) (moved c at_body q)) (refused_at no.Unreadable p)
 
 -- "until the end"
 unfoldable pub node_at : Cursor → List ℕ → ℕ → Step
-node_at c s p = cond (eqb p (length s)) End (name_to c p (name_end s p))
+node_at c s p = cond (eqb p (length s)) finished (name_to c p (name_end s p))
 
 unfoldable pub script_at : Cursor → List ℕ → ℕ → Step
-script_at c s p = cond (eqb (get_or s p 0) opening_brace) (Go Body (moved c in_sole (p + 1))) (node_at c s p)
+script_at c s p = cond (eqb (get_or s p 0) opening_brace) (stepped Body (moved c in_sole (p + 1))) (node_at c s p)
 
 -- "parent text up to `;`": from p on
-unfoldable pub parent_to : Cursor → ℕ → Found → Step
-parent_to c p (Here q) = Go (Parent p (q - p)) (moved c at_node (q + 1))
-parent_to c p Nowhere = Refused unreadable p
+unfoldable pub parent_to : Cursor → ℕ → Option ℕ → Step
+parent_to c p (Some q) = stepped (Parent p (q - p)) (moved c at_node (q + 1))
+parent_to c p None = refused_at no.Unreadable p
 
 unfoldable pub parent_at : Cursor → List ℕ → ℕ → Step
 parent_at c s p = parent_to c p (first_from (is semicolon) s p)
@@ -58,10 +55,10 @@ sole_end c s p = skipping c s p (λ q. expecting semicolon s q (λ r. end_behind
 
 -- ---- "Body: `{`, then repeatedly skip; `}` ends it and skips; `global:` and `local:` set the section (global at first); else a matcher."
 -- at the place p, where no `}` stands; an extern block goes on at `inner`
-unfoldable pub inside_body : Cursor → List ℕ → ℕ → ℕ → Step
+unfoldable pub inside_body : Cursor → List ℕ → Place → ℕ → Step
 inside_body c s inner p =
-    cond (stands_at global_word s p) (Go (Section global) (moved (in_section c global) c.place (behind global_word p)))
-    (cond (stands_at local_word s p) (Go (Section local) (moved (in_section c local) c.place (behind local_word p)))
+    cond (stands_at global_word s p) (stepped (Section global) (moved (in_section c global) c.place (behind global_word p)))
+    (cond (stands_at local_word s p) (stepped (Section local) (moved (in_section c local) c.place (behind local_word p)))
     (matcher c s inner c.place p))
 
 unfoldable pub body_at : Cursor → List ℕ → ℕ → Step

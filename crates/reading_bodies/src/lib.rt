@@ -6,13 +6,11 @@ ghost use Rattle.std.specs.Prelude.{◌≡◌};
 ghost use Rattle.reading_bodies.specs.Bodies.{end_behind, name_to, node_at, script_at, parent_at};
 ghost use Rattle.reading_bodies.specs.Bodies.{node_end, sole_end, inside_body, body_at, sole_at, list_at};
 
+use linker_script::byte_at;
 use linker_script::searching::find;
-use linker_script::{Found, Skipped, byte_at};
-use numbers::{UNCLOSED, UNREADABLE};
-use reading_cursors::places::{
-    AT_BODY, AT_NODE, IN_BODY_EXTERN, IN_LIST, IN_LIST_EXTERN, IN_SOLE, IN_SOLE_EXTERN,
-};
-use reading_cursors::{Cursor, Event, Step, move_to, skip_at, with_section};
+use numbers::Refusal;
+use reading_cursors::places::Place;
+use reading_cursors::{Cursor, Event, Step, move_to, refuse, skip_at, with_section};
 use reading_matchers::parse_matcher;
 use reading_tokens::{parse_token, try_take};
 
@@ -20,15 +18,14 @@ use reading_tokens::{parse_token, try_take};
 fn name_to(c: Cursor, p: usize, q: usize) -> Step
     ensures { result ≡ name_to c p q }
 {
-    if p < q {
-        let event = Event::Node {
-            start: p,
-            len: q - p,
-        };
-        let next = move_to(c, AT_BODY, q);
-        return Step::Go(event, next);
+    if q <= p {
+        return refuse(Refusal::Unreadable, p);
     }
-    Step::Refused(UNREADABLE, p)
+    let event = Event::Node {
+        start: p,
+        len: q - p,
+    };
+    Ok(Some((event, move_to(c, Place::AtBody, q))))
 }
 
 // Between nodes: the end, or a name.
@@ -36,18 +33,16 @@ pub fn node_at(c: Cursor, s: &[u8], p: usize) -> Step
     ensures { result ≡ node_at c s.now p }
 {
     if p == s.len() {
-        return Step::End;
+        return Ok(None);
     }
-    let q = parse_token(s, p);
-    name_to(c, p, q)
+    name_to(c, p, parse_token(s, p))
 }
 
 pub fn script_at(c: Cursor, s: &[u8], p: usize) -> Step
     ensures { result ≡ script_at c s.now p }
 {
     if byte_at(s, p) == b'{' {
-        let next = move_to(c, IN_SOLE, p + 1);
-        return Step::Go(Event::Body, next);
+        return Ok(Some((Event::Body, move_to(c, Place::InSole, p + 1))));
     }
     node_at(c, s, p)
 }
@@ -56,76 +51,59 @@ pub fn script_at(c: Cursor, s: &[u8], p: usize) -> Step
 fn parent_at(c: Cursor, s: &[u8], p: usize) -> Step
     ensures { result ≡ parent_at c s.now p }
 {
-    match find(s, b';', p) {
-        Found::Nowhere => Step::Refused(UNREADABLE, p),
-        Found::Here(q) => {
-            let event = Event::Parent {
-                start: p,
-                len: q - p,
-            };
-            let next = move_to(c, AT_NODE, q + 1);
-            Step::Go(event, next)
-        }
-    }
+    let Some(q) = find(s, b';', p) else {
+        return refuse(Refusal::Unreadable, p);
+    };
+    let event = Event::Parent {
+        start: p,
+        len: q - p,
+    };
+    Ok(Some((event, move_to(c, Place::AtNode, q + 1))))
 }
 
 // Behind the `}` of a named node's body.
 fn node_end(c: Cursor, s: &[u8], p: usize) -> Step
     ensures { result ≡ node_end c s.now p }
 {
-    match skip_at(c, s, p) {
-        Skipped::Open(o) => Step::Refused(UNCLOSED, o),
-        Skipped::At(q) => {
-            let next = with_section(c, 0);
-            parent_at(next, s, q)
-        }
-    }
+    let q = skip_at(c, s, p)?;
+    parent_at(with_section(c, 0), s, q)
 }
 
 // Behind the last `;` of a script or a list: skip, end.
 fn end_behind(c: Cursor, s: &[u8], p: usize) -> Step
     ensures { result ≡ end_behind c s.now p }
 {
-    match skip_at(c, s, p) {
-        Skipped::Open(o) => Step::Refused(UNCLOSED, o),
-        Skipped::At(q) => {
-            if q == s.len() {
-                return Step::End;
-            }
-            Step::Refused(UNREADABLE, q)
-        }
+    let q = skip_at(c, s, p)?;
+    if q == s.len() {
+        return Ok(None);
     }
+    refuse(Refusal::Unreadable, q)
 }
 
 // Behind the `}` of the one body of a script.
 fn sole_end(c: Cursor, s: &[u8], p: usize) -> Step
     ensures { result ≡ sole_end c s.now p }
 {
-    match skip_at(c, s, p) {
-        Skipped::Open(o) => Step::Refused(UNCLOSED, o),
-        Skipped::At(q) => {
-            if byte_at(s, q) != b';' {
-                return Step::Refused(UNREADABLE, q);
-            }
-            end_behind(c, s, q + 1)
-        }
+    let q = skip_at(c, s, p)?;
+    if byte_at(s, q) == b';' {
+        return end_behind(c, s, q + 1);
     }
+    refuse(Refusal::Unreadable, q)
 }
 
 // In a body, not at its `}`.
-fn inside_body(c: Cursor, s: &[u8], inner: u32, p: usize) -> Step
+fn inside_body(c: Cursor, s: &[u8], inner: Place, p: usize) -> Step
     ensures { result ≡ inside_body c s.now inner p }
 {
-    let here = c.place;
     if try_take(s, b"global:", p) {
-        let next = move_to(with_section(c, 0), here, p + 7);
-        return Step::Go(Event::Section(0), next);
+        let next = move_to(with_section(c, 0), c.place, p + 7);
+        return Ok(Some((Event::Section(0), next)));
     }
     if try_take(s, b"local:", p) {
-        let next = move_to(with_section(c, 1), here, p + 6);
-        return Step::Go(Event::Section(1), next);
+        let next = move_to(with_section(c, 1), c.place, p + 6);
+        return Ok(Some((Event::Section(1), next)));
     }
-    parse_matcher(c, s, inner, here, p)
+    parse_matcher(c, s, inner, c.place, p)
 }
 
 pub fn body_at(c: Cursor, s: &[u8], p: usize) -> Step
@@ -134,7 +112,7 @@ pub fn body_at(c: Cursor, s: &[u8], p: usize) -> Step
     if byte_at(s, p) == b'}' {
         return node_end(c, s, p + 1);
     }
-    inside_body(c, s, IN_BODY_EXTERN, p)
+    inside_body(c, s, Place::InBodyExtern, p)
 }
 
 pub fn sole_at(c: Cursor, s: &[u8], p: usize) -> Step
@@ -143,7 +121,7 @@ pub fn sole_at(c: Cursor, s: &[u8], p: usize) -> Step
     if byte_at(s, p) == b'}' {
         return sole_end(c, s, p + 1);
     }
-    inside_body(c, s, IN_SOLE_EXTERN, p)
+    inside_body(c, s, Place::InSoleExtern, p)
 }
 
 pub fn list_at(c: Cursor, s: &[u8], p: usize) -> Step
@@ -152,5 +130,5 @@ pub fn list_at(c: Cursor, s: &[u8], p: usize) -> Step
     if try_take(s, b"};", p) {
         return end_behind(c, s, p + 2);
     }
-    parse_matcher(c, s, IN_LIST_EXTERN, IN_LIST, p)
+    parse_matcher(c, s, Place::InListExtern, Place::InList, p)
 }

@@ -1,25 +1,25 @@
 // Where a reading stands, what a step of it answers, a cursor's moves, and the places of the grammar (`places`). Definitions: specs/Moves.antt and
-// specs/Places.antt. `move_to`, `with_section` and `with_language` are leaves of the reader. Fields are copied, so that each function is covered.
+// specs/Places.antt. `move_to`, `with_section` and `with_language` are leaves of the reader.
 #![tactic(auto)]
 
 ghost use Rattle.std.specs.Prelude.{◌≡◌};
-ghost use Rattle.reading_cursors.specs.Moves.{in_language, in_section, moved, skip_at, start};
+ghost use Rattle.reading_cursors.specs.Moves.{in_language, in_section, moved, or_unclosed, refused_at, skip_at, start};
 
-use linker_script::Skipped;
+use crate::places::Place;
 use linker_script::comments::skip_comments_and_whitespace;
-use numbers::edition_by;
+use numbers::{Edition, Refusal};
 
 pub mod places;
 
-// Where a reading stands: the place in the text, the place in the grammar (specs/Places.antt), the section and language that a line there gets, and the
-// number of the edition in which it is read.
+// Where a reading stands: the place in the text, the place in the grammar, the section and language that a line there gets, and the edition in which it is
+// read.
 #[derive(Clone, Copy)]
 pub struct Cursor {
     pub at: usize,
-    pub place: u32,
+    pub place: Place,
     pub section: u32,
     pub language: u32,
-    pub edition: u32,
+    pub edition: Edition,
 }
 
 #[derive(Clone, Copy)]
@@ -53,16 +53,18 @@ pub enum Event {
     },
 }
 
-#[derive(Clone, Copy)]
-pub enum Step {
-    Go(Event, Cursor),
-    End,
-    // The number, and the place at which the rule began that failed.
-    Refused(u32, usize),
+// Why a text is refused, and the place at which the rule began that failed.
+#[derive(Clone, Copy, Debug, PartialEq, Eq)]
+pub struct RefusedAt {
+    pub refusal: Refusal,
+    pub place: usize,
 }
 
-// A reading starts at the text's first byte, at a place of the grammar (specs/Places.antt).
-pub fn start_at(edition: u32, place: u32) -> Cursor
+// A step of a reading: an event and the cursor behind it, or the end.
+pub type Step = Result<Option<(Event, Cursor)>, RefusedAt>;
+
+// A reading starts at the text's first byte, at a place of the grammar.
+pub fn start_at(edition: Edition, place: Place) -> Cursor
     ensures { result ≡ start edition place }
 {
     Cursor {
@@ -74,45 +76,36 @@ pub fn start_at(edition: u32, place: u32) -> Cursor
     }
 }
 
-pub fn move_to(c: Cursor, place: u32, at: usize) -> Cursor
+pub fn move_to(c: Cursor, place: Place, at: usize) -> Cursor
     ensures { result ≡ moved c place at }
 {
-    Cursor {
-        at,
-        place,
-        section: c.section,
-        language: c.language,
-        edition: c.edition,
-    }
+    Cursor { at, place, ..c }
 }
 
 pub fn with_section(c: Cursor, section: u32) -> Cursor
     ensures { result ≡ in_section c section }
 {
-    Cursor {
-        at: c.at,
-        place: c.place,
-        section,
-        language: c.language,
-        edition: c.edition,
-    }
+    Cursor { section, ..c }
 }
 
 pub fn with_language(c: Cursor, language: u32) -> Cursor
     ensures { result ≡ in_language c language }
 {
-    Cursor {
-        at: c.at,
-        place: c.place,
-        section: c.section,
-        language,
-        edition: c.edition,
-    }
+    Cursor { language, ..c }
+}
+
+pub fn refuse(refusal: Refusal, place: usize) -> Step
+    ensures { result ≡ refused_at refusal place }
+{
+    Err(RefusedAt { refusal, place })
 }
 
 // A skip from a place on, in the cursor's edition.
-pub fn skip_at(c: Cursor, s: &[u8], at: usize) -> Skipped
-    ensures { result ≡ skip_at c s.now at }
+pub fn skip_at(c: Cursor, s: &[u8], at: usize) -> Result<usize, RefusedAt>
+    ensures { result ≡ or_unclosed (skip_at c s.now at) }
 {
-    skip_comments_and_whitespace(edition_by(c.edition), s, at)
+    skip_comments_and_whitespace(c.edition, s, at).map_err(|place| RefusedAt {
+        refusal: Refusal::Unclosed,
+        place,
+    })
 }

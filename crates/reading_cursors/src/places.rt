@@ -1,30 +1,51 @@
 // The places of the grammar at which a reading can stand (specs/Places.antt).
-pub const AT_SCRIPT: u32 = 0;
+ghost use Rattle.std.specs.Prelude.{◌≡◌};
+ghost use Rattle.reading_cursors.specs.Places.{place_by};
 
-pub const AT_NODE: u32 = 1;
+#[derive(Clone, Copy, Debug, PartialEq, Eq)]
+pub enum Place {
+    // A version script: at its start; between nodes; behind a node's name; in a named node's body, and in an extern block there; in the one body of a script
+    // without names, and in an extern block there.
+    AtScript,
+    AtNode,
+    AtBody,
+    InBody,
+    InBodyExtern,
+    InSole,
+    InSoleExtern,
+    // An export list: at its start; in it, and in an extern block there.
+    AtList,
+    InList,
+    InListExtern,
+    // A text of `add_symbol`: at its start, and in an extern block there; the same without semicolon; behind its matcher.
+    AtSymbol,
+    InSymbolExtern,
+    AtBare,
+    InBareExtern,
+    BehindSymbol,
+}
 
-pub const AT_BODY: u32 = 2;
+// The place that a number says; nothing more is read at a number that says no other.
+impl From<u32> for Place {
+    ghost from_gives = { λ n p. p ≡ place_by n };
 
-pub const IN_BODY: u32 = 3;
-
-pub const IN_BODY_EXTERN: u32 = 4;
-
-pub const IN_SOLE: u32 = 5;
-
-pub const IN_SOLE_EXTERN: u32 = 6;
-
-pub const AT_LIST: u32 = 7;
-
-pub const IN_LIST: u32 = 8;
-
-pub const IN_LIST_EXTERN: u32 = 9;
-
-pub const AT_SYMBOL: u32 = 10;
-
-pub const IN_SYMBOL_EXTERN: u32 = 11;
-
-pub const AT_BARE: u32 = 12;
-
-pub const IN_BARE_EXTERN: u32 = 13;
-
-pub const BEHIND_SYMBOL: u32 = 14;
+    fn from(number: u32) -> Place {
+        match number {
+            0 => Place::AtScript,
+            1 => Place::AtNode,
+            2 => Place::AtBody,
+            3 => Place::InBody,
+            4 => Place::InBodyExtern,
+            5 => Place::InSole,
+            6 => Place::InSoleExtern,
+            7 => Place::AtList,
+            8 => Place::InList,
+            9 => Place::InListExtern,
+            10 => Place::AtSymbol,
+            11 => Place::InSymbolExtern,
+            12 => Place::AtBare,
+            13 => Place::InBareExtern,
+            _ => Place::BehindSymbol,
+        }
+    }
+}

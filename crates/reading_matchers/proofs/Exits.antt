@@ -1,24 +1,20 @@
 -- What the functions of src/lib.rt answer of a token, by what they learned of its end, and where they leave the reading. Assumes nothing.
 use Prim.Native.Nat.{ℕ, ◌+◌}
-use mathlib.Core.Path.{◌≡◌}
+use mathlib.Core.Path.{◌≡◌, sym, ◌∙◌}
 use mathlib.Core.List.{List}
+use native.Mathlib.Omega.{arith}
 use borrow.Author.Tests.{eq-eqb, ne_eqb}
 use lib.ListN.{length, get_or}
-use Rattle.numbers.specs.declared.Edition.{Edition}
-use Rattle.numbers.specs.Refusals.{unclosed}
+use Rattle.std.specs.Prelude.{Result, Ok, Err}
 use Rattle.numbers.specs.Signs.{semicolon}
-use Rattle.linker_script.specs.declared.Skipped.{Skipped}
-use Rattle.linker_script.specs.declared.Skipped.TheVariants.{At, Open}
-use Rattle.reading_tokens.specs.declared.TokenEnd.{TokenEnd}
-use Rattle.reading_tokens.specs.declared.TokenEnd.TheVariants.{To}
-use Rattle.reading_tokens.specs.declared.TokenEnd.TheVariants as token
-use Rattle.reading_tokens.specs.Tokens.{to_semicolon, to_either, bare_extern_end, bare_end, bare_skip}
+use Rattle.reading_tokens.specs.Tokens.{TokenEnd, to_semicolon, to_either, bare_extern_end, bare_end, bare_skip}
 use Rattle.reading_cursors.specs.declared.Cursor.{Cursor}
+use Rattle.reading_cursors.specs.declared.places.Place.{Place}
 use Rattle.reading_cursors.specs.declared.Event.{Event}
-use Rattle.reading_cursors.specs.declared.Step.{Step}
-use Rattle.reading_cursors.specs.declared.Step.TheVariants.{Go, Refused}
-use Rattle.reading_cursors.specs.Moves.{edition_at, moved, in_language, skip_at}
-use Rattle.reading_matchers.specs.Matchers.{past_semicolon, line, line_to, extern_inside, bare_line}
+use Rattle.reading_cursors.specs.declared.RefusedAt.{RefusedAt}
+use Rattle.reading_cursors.specs.Moves.{Step, stepped, edition_at, moved, in_language, or_unclosed, skip_at}
+use Rattle.reading_matchers.proofs.Stepping.{skip-open, skip-goes}
+use Rattle.reading_matchers.specs.Matchers.{past_semicolon, line, line_to, token_end, extern_inside, bare_line}
 
 -- ---- "take a `;` if there": x is the byte at p
 module _ (s : List ℕ) (p x : ℕ) (e : x ≡ get_or s p 0) where
@@ -29,55 +25,71 @@ module _ (s : List ℕ) (p x : ℕ) (e : x ≡ get_or s p 0) where
   semicolon_not_there k = rw (← e, ne_eqb x semicolon k)
 
 -- ---- a token at p with the end x
-module _ (c : Cursor) (s : List ℕ) (place p : ℕ) (x : TokenEnd) where
-  pub line_refused : (n : ℕ) → x ≡ token.Refused n → Refused n p ≡ line_to c s place p x
-  unfolding line_to
-  line_refused n k = rw k
+-- g is what `token_end` answers
+ended : (p q : ℕ) (x : TokenEnd) → token_end p x ≡ Ok q → x ≡ Ok q
+ended p q (Ok n) h = let z : n ≡ q = cc in rw z
+ended p q (Err n) h = let z : ◌≡◌ {A = ℕ} 0 1 = cc in absurd (omega arith)
 
-  module _ (q : ℕ) (k : x ≡ To q) (f : Skipped) (e : f ≡ skip_at c s q) where
-    pub line-open : (o : ℕ) → f ≡ Open o → Refused unclosed o ≡ line_to c s place p x
+module _ (c : Cursor) (s : List ℕ) (place : Place) (p : ℕ) (x : TokenEnd) (g : Result ℕ RefusedAt) (j : g ≡ token_end p x) where
+  pub line_refused : (o : RefusedAt) → g ≡ Err o → Err o ≡ line_to c s place p x
+  unfolding line_to
+  line_refused o k = go x (sym j ∙ k)
+    where
+      go : (y : TokenEnd) → token_end p y ≡ Err o → Err o ≡ line_to c s place p y
+      go (Ok q) h = let z : ◌≡◌ {A = ℕ} 0 1 = cc in absurd (omega arith)
+      go (Err n) h = let z : o ≡ record { refusal = n; place = p } = cc in rw z
+
+  module _ (q : ℕ) (i : g ≡ Ok q) (f : Result ℕ RefusedAt) (e : f ≡ or_unclosed (skip_at c s q)) where
+    token_ends : x ≡ Ok q
+    token_ends = ended p q x (sym j ∙ i)
+
+    pub line-open : (o : RefusedAt) → f ≡ Err o → Err o ≡ line_to c s place p x
     unfolding line_to
-    line-open o h = rw (k, ← e, h)
+    line-open o h = rw token_ends (skip-open c s q _ f e o h)
 
     pub line-goes :
-        (r : ℕ) → f ≡ At r → (l : Event) → l ≡ line c s p q → (m : ℕ) → m ≡ past_semicolon s r → (d : Cursor) → d ≡ moved c place m → Go l d ≡ line_to c s place p x
+        (r : ℕ) → f ≡ Ok r → (l : Event) → l ≡ line c s p q → (m : ℕ) → m ≡ past_semicolon s r → (d : Cursor) → d ≡ moved c place m → stepped l d ≡ line_to c s place p x
     unfolding line_to
-    line-goes r h l a m b d g = rw (k, ← e, h, a, g, b)
+    line-goes r h l a m b d g = rw token_ends (skip-goes c s q _ f e r h (stepped l d) (rw (a, g, b)))
 
 -- the token of a text without semicolon; b is where the skip starts
-module _ (c : Cursor) (s : List ℕ) (place : ℕ) (x : TokenEnd) where
-  pub bare-refused : (n : ℕ) → x ≡ token.Refused n → Refused n 0 ≡ bare_line c s place x
+module _ (c : Cursor) (s : List ℕ) (place : Place) (x : TokenEnd) (v : Result ℕ RefusedAt) (j : v ≡ token_end 0 x) where
+  pub bare-refused : (o : RefusedAt) → v ≡ Err o → Err o ≡ bare_line c s place x
   unfolding bare_line
-  bare-refused n k = rw k
+  bare-refused o k = go x (sym j ∙ k)
+    where
+      go : (y : TokenEnd) → token_end 0 y ≡ Err o → Err o ≡ bare_line c s place y
+      go (Ok q) h = let z : ◌≡◌ {A = ℕ} 0 1 = cc in absurd (omega arith)
+      go (Err n) h = let z : o ≡ record { refusal = n; place = 0 } = cc in rw z
 
-  module _ (q : ℕ) (k : x ≡ To q) (y : Edition) (z : y ≡ edition_at c) (b : ℕ) (g : b ≡ bare_skip y s) (f : Skipped) (e : f ≡ skip_at c s b) where
-    starts : b ≡ bare_skip (edition_at c) s
-    starts = rw (← z) g
+  module _ (q : ℕ) (i : v ≡ Ok q) (b : ℕ) (g : b ≡ bare_skip (edition_at c) s) (f : Result ℕ RefusedAt) (e : f ≡ or_unclosed (skip_at c s b)) where
+    bare_ends : x ≡ Ok q
+    bare_ends = ended 0 q x (sym j ∙ i)
 
-    pub bare-open : (o : ℕ) → f ≡ Open o → Refused unclosed o ≡ bare_line c s place x
+    pub bare-open : (o : RefusedAt) → f ≡ Err o → Err o ≡ bare_line c s place x
     unfolding bare_line
-    bare-open o h = rw (k, ← starts, ← e, h)
+    bare-open o h = rw (bare_ends, ← g) (skip-open c s b _ f e o h)
 
-    pub bare-goes : (r : ℕ) → f ≡ At r → (l : Event) → l ≡ line c s 0 q → (d : Cursor) → d ≡ moved c place (length s + 1) → Go l d ≡ bare_line c s place x
+    pub bare-goes : (r : ℕ) → f ≡ Ok r → (l : Event) → l ≡ line c s 0 q → (d : Cursor) → d ≡ moved c place (length s + 1) → stepped l d ≡ bare_line c s place x
     unfolding bare_line
-    bare-goes r h l a d m = rw (k, ← starts, ← e, h, a, m)
+    bare-goes r h l a d m = rw (bare_ends, ← g) (skip-goes c s b _ f e r h (stepped l d) (rw (a, m)))
 
--- ---- where x is the end that a function answers, in the edition y that is the cursor's
-module _ (c : Cursor) (s : List ℕ) (place : ℕ) (x : TokenEnd) (r : Step) (y : Edition) (z : y ≡ edition_at c) where
+-- ---- where x is the end that a function answers
+module _ (c : Cursor) (s : List ℕ) (place : Place) (x : TokenEnd) (r : Step) where
   module _ (p : ℕ) where
-    pub line_with : r ≡ line_to c s place p x → x ≡ to_semicolon y s p → r ≡ line_to c s place p (to_semicolon (edition_at c) s p)
-    line_with a e = rw (← z, ← e) a
+    pub line_with : r ≡ line_to c s place p x → x ≡ to_semicolon (edition_at c) s p → r ≡ line_to c s place p (to_semicolon (edition_at c) s p)
+    line_with a e = rw (← e) a
 
     module _ (a : r ≡ extern_inside c s place p x) where
-      pub inside_with : x ≡ to_either y s p → r ≡ extern_inside c s place p (to_either (edition_at c) s p)
-      inside_with e = rw (← z, ← e) a
+      pub inside_with : x ≡ to_either (edition_at c) s p → r ≡ extern_inside c s place p (to_either (edition_at c) s p)
+      inside_with e = rw (← e) a
 
-      pub inside_bare_with : x ≡ bare_extern_end y s p → r ≡ extern_inside c s place p (bare_extern_end (edition_at c) s p)
-      inside_bare_with e = rw (← z, ← e) a
+      pub inside_bare_with : x ≡ bare_extern_end (edition_at c) s p → r ≡ extern_inside c s place p (bare_extern_end (edition_at c) s p)
+      inside_bare_with e = rw (← e) a
 
-  pub bare_with : r ≡ bare_line c s place x → x ≡ bare_end y s → r ≡ bare_line c s place (bare_end (edition_at c) s)
-  bare_with a e = rw (← z, ← e) a
+  pub bare_with : r ≡ bare_line c s place x → x ≡ bare_end (edition_at c) s → r ≡ bare_line c s place (bare_end (edition_at c) s)
+  bare_with a e = rw (← e) a
 
 -- ---- where the next cursor n is made in two moves
-pub go-in_language : (e : Event) (c d n : Cursor) (language place p : ℕ) → n ≡ moved d place p → d ≡ in_language c language → Go e n ≡ Go e (moved (in_language c language) place p)
+pub go-in_language : (e : Event) (c d n : Cursor) (language : ℕ) (place : Place) (p : ℕ) → n ≡ moved d place p → d ≡ in_language c language → stepped e n ≡ stepped e (moved (in_language c language) place p)
 go-in_language e c d n language place p a b = rw (a, b)

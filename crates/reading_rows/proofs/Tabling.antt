@@ -1,6 +1,6 @@
 -- The events of a reading as rows, one more at a turn, and what is told where it ends. Assumes nothing.
 use Prim.Native.Nat.{ℕ, ◌+◌, ◌*◌, ◌-◌, ◌/◌, ◌<◌, ◌≤◌}
-use mathlib.Core.Path.{◌≡◌, refl, sym, ◌∙◌}
+use mathlib.Core.Path.{◌≡◌, refl, sym, ◌∙◌, ap}
 use mathlib.Core.List.{List, [], ◌∷◌, ◌++◌, append_assoc, append-nil}
 use mathlib.Core.Bool.{Bool, true, false, cond}
 use native.Mathlib.Omega.{arith}
@@ -14,12 +14,14 @@ use Rattle.numbers.specs.Limits.{script_limit}
 use Rattle.numbers.specs.Refusals.{no_room, too_long}
 use Rattle.lists.specs.Front.{front}
 use Rattle.lists.proofs.FrontLaws.{front-nil, front-run}
+use Rattle.numbers.specs.Saying.{number}
+use Rattle.std.specs.Prelude.{Option, Some, None, Ok, Err}
+use Rattle.reading_cursors.specs.declared.places.Place.{Place}
 use Rattle.reading_cursors.specs.declared.Cursor.{Cursor}
 use Rattle.reading_cursors.specs.declared.Event.{Event}
 use Rattle.reading_cursors.specs.declared.Event.TheVariants.{Node, Body, Section, Extern, Closed, Line, Parent}
-use Rattle.reading_cursors.specs.declared.Step.{Step}
-use Rattle.reading_cursors.specs.declared.Step.TheVariants.{Go, End, Refused}
-use Rattle.reading_cursors.specs.Moves.{start}
+use Rattle.reading_cursors.specs.declared.RefusedAt.{RefusedAt}
+use Rattle.reading_cursors.specs.Moves.{Step, stepped, finished, start}
 use Rattle.reading.specs.Scripts.{next}
 use Rattle.reading.specs.Events.{Outcome, accepted, refused, ends, on_step, reading_from, reading}
 use Rattle.reading.proofs.Refusals.{standing-refuses}
@@ -64,7 +66,7 @@ pub row_put : (l l' : List ℕ) (i : ℕ) (e f : Event) → e ≡ f → l' ≡ s
 row_put l l' i e f h q = rw h q
 
 -- ---- l is d with the rows of the events before c at its front, which are n numbers
-pub record Tabled (place : ℕ) (s d l : List ℕ) (n : ℕ) (c : Cursor) : Type 0 where
+pub record Tabled (place : Place) (s d l : List ℕ) (n : ℕ) (c : Cursor) : Type 0 where
   pub done : List Event
   pub count : n ≡ 5 * length done
   pub fits : n ≤ length d
@@ -75,7 +77,7 @@ pub record Tabled (place : ℕ) (s d l : List ℕ) (n : ℕ) (c : Cursor) : Type
   pub events : (reading reld place s).events ≡ done ++ (reading_from s c).events
   pub outcome : (reading reld place s).outcome ≡ (reading_from s c).outcome
 
-pub tabled_start : (place : ℕ) (s d : List ℕ) (c : Cursor) → c ≡ start reld place → Tabled place s d d 0 c
+pub tabled_start : (place : Place) (s d : List ℕ) (c : Cursor) → c ≡ start reld place → Tabled place s d d 0 c
 unfolding event_rows reading
 tabled_start place s d c e = record {
   done = [];
@@ -90,7 +92,7 @@ tabled_start place s d c e = record {
 }
 
 -- t is what `step` answers
-module _ {place : ℕ} {s d l : List ℕ} {n : ℕ} {c : Cursor} (z : Tabled place s d l n c) {t : Step} (a : t ≡ next s c) where
+module _ {place : Place} {s d l : List ℕ} {n : ℕ} {c : Cursor} (z : Tabled place s d l n c) {t : Step} (a : t ≡ next s c) where
   step : reading_from s c ≡ on_step t (λ x. reading_from s x)
   step = rw a (reading_step z.stands)
 
@@ -112,36 +114,43 @@ module _ {place : ℕ} {s d l : List ℕ} {n : ℕ} {c : Cursor} (z : Tabled pla
     unfolding rows_fitting
     all_rows = rw (all, take_all (length d / 5) z.done room-enough) z.list
 
-  module _ (h : t ≡ End) where
+  module _ {f : Option (Event × Cursor)} (i : t ≡ Ok f) (j : f ≡ None) where
+    ended : t ≡ finished
+    ended = i ∙ ap Ok j
+
     pub end_told : 256 * (n / 5) ≡ reading_told (reading reld place s) (length d / 5)
     unfolding outcome_told
-    end_told = all_told accepted (step ∙ rw h)
+    end_told = all_told accepted (step ∙ rw ended)
 
     pub end_rows : l ≡ front (rows_fitting place s (length d / 5)) d
-    end_rows = all_rows accepted (step ∙ rw h)
+    end_rows = all_rows accepted (step ∙ rw ended)
 
     pub end_fits : length s ≤ script_limit → Fits w64 (256 * (n / 5))
     end_fits m = omega (arith, z.count, z.few, z.stands.within)
 
-  module _ {x p : ℕ} (h : t ≡ Refused x p) where
-    pub refused-told : x + 256 * p ≡ reading_told (reading reld place s) (length d / 5)
+  -- x is what `number` answers
+  module _ {r : RefusedAt} (h : t ≡ Err r) {x : ℕ} (y : x ≡ number r.refusal) where
+    pub refused-told : x + 256 * r.place ≡ reading_told (reading reld place s) (length d / 5)
     unfolding outcome_told
-    refused-told = all_told (refused x p) (step ∙ rw h)
+    refused-told = rw y (all_told (refused (number r.refusal) r.place) (step ∙ rw h))
 
     pub refused-rows : l ≡ front (rows_fitting place s (length d / 5)) d
-    refused-rows = all_rows (refused x p) (step ∙ rw h)
+    refused-rows = all_rows (refused (number r.refusal) r.place) (step ∙ rw h)
 
     module _ (m : length s ≤ script_limit) where
-      bounds : (x ≤ 4) × (p ≤ length s)
-      bounds = standing-refuses z.stands (sym a ∙ h)
+      bounds : (number r.refusal ≤ 4) × (r.place ≤ length s)
+      bounds = standing-refuses z.stands {n = r.refusal} {p = r.place} (sym a ∙ h)
 
-      pub place-fits : Fits w64 (256 * p)
+      pub place-fits : Fits w64 (256 * r.place)
       place-fits = omega (arith, bounds)
 
-      pub refused-fits : Fits w64 (x + 256 * p)
-      refused-fits = omega (arith, bounds)
+      pub refused-fits : Fits w64 (x + 256 * r.place)
+      refused-fits = omega (arith, bounds, y)
 
-  module _ {e : Event} {k : Cursor} (h : t ≡ Go e k) where
+  module _ {f : Option (Event × Cursor)} (i : t ≡ Ok f) {e : Event} {k : Cursor} (j : f ≡ Some (e, k)) where
+    h : t ≡ stepped e k
+    h = i ∙ ap Ok j
+
     goes : (reading reld place s).events ≡ z.done ++ (e ∷ (reading_from s k).events)
     goes = z.events ∙ rw (step, h)
 
@@ -163,7 +172,7 @@ module _ {place : ℕ} {s d l : List ℕ} {n : ℕ} {c : Cursor} (z : Tabled pla
     -- one row more
     pub tabled_more : 5 ≤ length l - n → (l' : List ℕ) → l' ≡ sets l n (row e) → Tabled place s d l' (n + 5) k
     tabled_more r l' q =
-        let y : next s c ≡ Go e k = sym a ∙ h in
+        let y : next s c ≡ stepped e k = sym a ∙ h in
         let m : n ≡ length (event_rows z.done) = z.count ∙ sym (length-rows z.done) in
         let w : length (event_rows z.done) + length (row e) ≤ length d = omega (arith, m, length-row e, z.long, z.fits) in
         record {
@@ -193,7 +202,7 @@ module _ (source : ℕ) (s d : List ℕ) where
     over-rows = rw (lt-ltb script_limit (length s) h)
 
   -- p is what `source_place` answers
-  module _ (h : length s ≤ script_limit) (p : ℕ) (e : p ≡ place_of source) where
+  module _ (h : length s ≤ script_limit) (p : Place) (e : p ≡ place_of source) where
     pub within-told : (r : ℕ) → r ≡ reading_told (reading reld p s) (length d / 5) → r ≡ events_told source s (length d)
     unfolding events_told
     within-told r q = rw (le-ltb script_limit (length s) h, ← e) q

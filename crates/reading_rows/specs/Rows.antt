@@ -4,6 +4,7 @@ use Rattle.numbers.specs.Editions.{reld}
 use Rattle.numbers.specs.Limits.{over, script_limit}
 use Rattle.numbers.specs.Refusals.{no_room, too_long}
 use Rattle.lists.specs.Front.{front}
+use Rattle.reading_cursors.specs.declared.places.Place.{Place}
 use Rattle.reading_cursors.specs.declared.Event.{Event}
 use Rattle.reading_cursors.specs.declared.Event.TheVariants.{Node, Body, Section, Extern, Closed, Line, Parent}
 use Rattle.reading_cursors.specs.Places.{at_script, at_list, at_symbol, at_bare}
@@ -24,7 +25,7 @@ event_rows [] = []
 event_rows (e ∷ es) = row e ++ event_rows es
 
 -- 0 a version script, 1 an export list, 2 a text of `add_symbol`, any other one without semicolon
-unfoldable pub place_of : ℕ → ℕ
+unfoldable pub place_of : ℕ → Place
 place_of source = cond (eqb source 0) at_script (cond (eqb source 1) at_list (cond (eqb source 2) at_symbol at_bare))
 
 -- a refusal's number with 256 times its place, or 256 times the number of events; too few rows, `room` of them, are refused 8
@@ -40,7 +41,7 @@ unfoldable pub events_told : ℕ → List ℕ → ℕ → ℕ
 events_told source s room = cond (over script_limit s) too_long (reading_told (reading reld (place_of source) s) (room / 5))
 
 -- the rows that fit, of `room` rows, stand at the front of the buffer
-unfoldable pub rows_fitting : ℕ → List ℕ → ℕ → List ℕ
+unfoldable pub rows_fitting : Place → List ℕ → ℕ → List ℕ
 rows_fitting place s room = event_rows (take room (reading reld place s).events)
 
 unfoldable pub events_rows : ℕ → List ℕ → List ℕ → List ℕ

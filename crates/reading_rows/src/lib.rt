@@ -10,24 +10,20 @@ ghost use Rattle.reading.specs.Events.{reading};
 ghost use Rattle.reading_rows.specs.Rows.{events_rows, events_told, place_of, row, rows_fitting, reading_told};
 
 use linker_script::last_close;
-use numbers::{NO_ROOM, RELD, SCRIPT_LIMIT, TOO_LONG};
+use numbers::{Edition, NO_ROOM, SCRIPT_LIMIT, TOO_LONG};
 use reader::step;
-use reading_cursors::places::{AT_BARE, AT_LIST, AT_SCRIPT, AT_SYMBOL};
-use reading_cursors::{Event, Step, start_at};
+use reading_cursors::places::Place;
+use reading_cursors::{Event, start_at};
 
-fn source_place(source: u32) -> u32
+fn source_place(source: u32) -> Place
     ensures { result ≡ place_of source }
 {
-    if source == 0 {
-        return AT_SCRIPT;
+    match source {
+        0 => Place::AtScript,
+        1 => Place::AtList,
+        2 => Place::AtSymbol,
+        _ => Place::AtBare,
     }
-    if source == 1 {
-        return AT_LIST;
-    }
-    if source == 2 {
-        return AT_SYMBOL;
-    }
-    AT_BARE
 }
 
 fn put_numbers(rows: &mut [u64], at: usize, kind: u64, a: u64, b: u64, c: u64, d: u64)
@@ -72,23 +68,23 @@ fn put_row(rows: &mut [u64], at: usize, e: Event)
 }
 
 // The events of a text within the largest limit, as rows.
-fn write_events(place: u32, text: &[u8], rows: &mut [u64]) -> u64
+fn write_events(place: Place, text: &[u8], rows: &mut [u64]) -> u64
     requires { length text.now ≤ script_limit }
     ensures { (result ≡ reading_told (reading reld place text.now) (length rows.old / 5))
         × (rows.new ≡ front (rows_fitting place text.now (length rows.old / 5)) rows.old) }
 {
     let last = last_close(text);
-    let mut c = start_at(RELD, place);
+    let mut c = start_at(Edition::Reld, place);
     let mut n = 0;
     loop {
         match step(text, last, c) {
-            Step::End => {
+            Ok(None) => {
                 return 256 * ((n / 5) as u64);
             }
-            Step::Refused(no, p) => {
-                return (no as u64) + 256 * (p as u64);
+            Err(no) => {
+                return no.refusal.number() as u64 + 256 * (no.place as u64);
             }
-            Step::Go(e, d) => {
+            Ok(Some((e, d))) => {
                 if rows.len() - n < 5 {
                     return NO_ROOM as u64;
                 }

@@ -12,16 +12,15 @@ use lib.ListN.{get_or}
 use Rattle.numbers.specs.declared.Edition.{Edition}
 use Rattle.numbers.specs.Signs.{closing_brace, semicolon}
 use Rattle.lists.proofs.Tests.{both, fails}
-use Rattle.linker_script.specs.declared.Found.{Found}
-use Rattle.linker_script.specs.declared.Found.TheVariants.{Here, Nowhere}
+use Rattle.std.specs.Prelude.{Option, Some, None}
 use Rattle.linker_script.specs.Finding.{closes, first_from, is, last_close}
 use Rattle.linker_script.proofs.Searches.{First, first_within, last_close_none, last_close_some}
 use Rattle.reading_tokens.specs.Tokens.{to_semicolon, to_brace, to_either, bare_extern_end}
 
 -- whether the first `;` from the place p on is that of a `};`, or there is none
-abbrev pub brace_before : List ℕ → ℕ → Found → Bool
-brace_before s p (Here q) = ltb p q && eqb (get_or s (q - 1) 0) closing_brace
-brace_before s p Nowhere = true
+abbrev pub brace_before : List ℕ → ℕ → Option ℕ → Bool
+brace_before s p (Some q) = ltb p q && eqb (get_or s (q - 1) 0) closing_brace
+brace_before s p None = true
 
 -- the first `};` from p on stands at c, and the first `;` at q: no `;` stands before the `};` exactly where q has a `}` before it
 module _ {s : List ℕ} {p c q : ℕ} (close : First closes s p c) (end : First (is semicolon) s p q) where
@@ -35,7 +34,7 @@ module _ {s : List ℕ} {p c q : ℕ} (close : First closes s p c) (end : First 
   not_past h = true≢false (sym (eq-eqb (get_or s (c + 1) 0) semicolon closing.1) ∙ end.before (c + 1) (omega (arith, close.onward)) h)
 
   -- nor is a `}` before q that of a `};` before c
-  not_before : q ≤ c → brace_before s p (Here q) ≡ true → ⊥
+  not_before : q ≤ c → brace_before s p (Some q) ≡ true → ⊥
   not_before h b =
       let a = both (ltb p q) (eqb (get_or s (q - 1) 0) closing_brace) b in
       let l = ltb-true p q a.0 in
@@ -43,10 +42,10 @@ module _ {s : List ℕ} {p c q : ℕ} (close : First closes s p c) (end : First 
       let n = close.before (q - 1) (omega arith) (omega arith) in
       true≢false (sym (rw (z, a.1) end.holds) ∙ n)
 
-  same_end : brace_before s p (Here q) ≡ ltb c q
+  same_end : brace_before s p (Some q) ≡ ltb c q
   same_end = go (dec_lt c q)
     where
-      go : Dec (c < q) → brace_before s p (Here q) ≡ ltb c q
+      go : Dec (c < q) → brace_before s p (Some q) ≡ ltb c q
       go (yes h) =
           let z : q - 1 ≡ c = omega (arith, not_past) in
           let l : p < q = omega (arith, close.onward) in
@@ -65,13 +64,13 @@ module _ (x : Edition) (s : List ℕ) (p : ℕ) where
 
   module _ (h : p < last_close s) where
     -- c is the first `};` from p on, and f the first `;`
-    by_semicolon : (c : ℕ) → first_from closes s p ≡ Here c → (f : Found) → first_from (is semicolon) s p ≡ f
+    by_semicolon : (c : ℕ) → first_from closes s p ≡ Some c → (f : Option ℕ) → first_from (is semicolon) s p ≡ f
         → to_either x s p ≡ cond (brace_before s p f) (to_brace x s p) (to_semicolon x s p)
     unfolding to_either
-    by_semicolon c e (Here q) g = rw (e, g, same_end (first_within e) (first_within g))
-    by_semicolon c e Nowhere g = rw (e, g)
+    by_semicolon c e (Some q) g = rw (e, g, same_end (first_within e) (first_within g))
+    by_semicolon c e None g = rw (e, g)
 
-    pub either_left : (f : Found) → first_from (is semicolon) s p ≡ f → to_either x s p ≡ cond (brace_before s p f) (to_brace x s p) (to_semicolon x s p)
+    pub either_left : (f : Option ℕ) → first_from (is semicolon) s p ≡ f → to_either x s p ≡ cond (brace_before s p f) (to_brace x s p) (to_semicolon x s p)
     either_left f g =
         let c = last_close_some s p h in
         by_semicolon c.0 c.1 f g

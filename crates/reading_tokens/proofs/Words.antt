@@ -1,36 +1,48 @@
 -- Whether a word stands at a place, where a name ends, and how long a token is without its blanks. Assumes nothing.
 use Prim.Native.Nat.{ℕ, suc, ◌+◌, ◌-◌, ◌<◌, ◌≤◌}
-use mathlib.Core.Path.{◌≡◌, sym, ap, ◌∙◌}
+use mathlib.Core.Path.{◌≡◌, refl, sym, ap, ◌∙◌}
 use mathlib.Core.List.{List, [], ◌∷◌}
 use mathlib.Core.Bool.{Bool, true, false, not, ◌&&◌}
+use native.Mathlib.Decide.{dec_le}
+use native.Mathlib.Nat.{le_refl}
 use native.Mathlib.Omega.{arith}
-use borrow.Author.Tests.{eq-eqb, ne_eqb, not-true, not-false}
+use borrow.Author.Tests.{eq-eqb, ne_eqb, eqb-true, eqb-false, not-true, not-false}
 use lib.Dec.{eqb}
 use lib.ListN.{length, get_or, take, drop, length-drop, drop_of_length-le}
 use lib.Seq.{length-take-le, take_all, take-nil}
+use Rattle.std.specs.List.{starts_with}
+use Rattle.std.specs.Prelude.{max, min}
+use Rattle.std.proofs.Math.Nat.{max-eq_left, max-eq_right, min-eq_left, min-eq_right}
 use Rattle.linker_script.specs.Trim.{trim_end}
 use Rattle.linker_script.proofs.Searches.{drop_next}
 use Rattle.reading_tokens.specs.Tokens.{begins, stands_at, named, name_in, name_end, trimmed}
 
--- ---- the loop of `try_take`: what is left of the word and of the text decides
-module _ (w s : List ℕ) (at i j : ℕ) (inv : stands_at w s at ≡ begins (drop i w) (drop j s)) where
-  pub word_ends : length w ≤ i → true ≡ stands_at w s at
-  unfolding begins
-  word_ends h = sym (inv ∙ rw (drop_of_length-le w h))
+-- ---- a word that the text from a place on starts with
+same_byte : (x b : ℕ) → eqb x b ≡ eqb b x
+same_byte x b = go (eqb b x) refl
+  where
+    go : (v : Bool) → eqb b x ≡ v → eqb x b ≡ v
+    go true e = eq-eqb x b (sym (eqb-true b x e))
+    go false e = ne_eqb x b (λ z. eqb-false b x e (sym z))
 
-  module _ (h : i < length w) where
-    pub text-ends : length s ≤ j → false ≡ stands_at w s at
-    unfolding begins
-    text-ends k = sym (inv ∙ rw (drop_next w i h, drop_of_length-le s k))
+starts-begins : (w l : List ℕ) → starts_with eqb l w ≡ begins w l
+unfolding begins
+starts-begins [] l = refl
+starts-begins (x ∷ w) [] = refl
+starts-begins (x ∷ w) (b ∷ l) = rw (same_byte x b, starts-begins w l)
 
-    module _ (k : j < length s) where
-      pub byte_differs : (get_or s j 0 ≡ get_or w i 0 → ⊥) → false ≡ stands_at w s at
-      unfolding begins
-      byte_differs n = sym (inv ∙ rw (drop_next w i h, drop_next s j k, ne_eqb (get_or s j 0) (get_or w i 0) n))
-
-      pub byte_same : get_or s j 0 ≡ get_or w i 0 → stands_at w s at ≡ begins (drop (i + 1) w) (drop (j + 1) s)
-      unfolding begins
-      byte_same e = inv ∙ rw (drop_next w i h, drop_next s j k, eq-eqb (get_or s j 0) (get_or w i 0) e)
+-- m is the place that is no further than the text's end
+pub starts-there : (w s : List ℕ) (at m : ℕ) → m ≡ min at (length s) → starts_with eqb (take (length s - m) (drop m s)) w ≡ stands_at w s at
+starts-there w s at m e =
+    let a : length (drop m s) ≤ length s - m = rw length-drop (omega arith) in
+    rw (take_all (length s - m) (drop m s) a) (starts-begins w (drop m s) ∙ ap (begins w) (go (dec_le at (length s))))
+  where
+    go : Dec (at ≤ length s) → drop m s ≡ drop at s
+    go (yes h) = rw (e, min-eq_left h)
+    go (no h) =
+        let b : length s ≤ at = omega arith in
+        let z : m ≡ length s = e ∙ min-eq_right b in
+        rw (z, drop_of_length-le s (le_refl (length s)), drop_of_length-le s b)
 
 -- a word that stands at a place lies within the text
 begins-few : (w l : List ℕ) → begins w l ≡ true → length w ≤ length l
@@ -48,9 +60,17 @@ stands-within w s p h e = omega (arith, begins-few w (drop p s) e, length-drop p
 
 -- ---- the loop of `parse_token`: the name from i on decides
 module _ (s : List ℕ) (at i : ℕ) (inv : name_end s at ≡ name_end s i) where
-  pub name_all : length s ≤ i → i ≡ name_end s at
+  -- m is the place of the text's end, or the one behind it from which the name was asked
+  pub name_all : length s ≤ i → (at ≤ length s → i ≤ length s) → (m : ℕ) → m ≡ max at (length s) → m ≡ name_end s at
   unfolding name_in
-  name_all h = sym (inv ∙ rw (drop_of_length-le s h))
+  name_all h k m e = go (dec_le (length s) at)
+    where
+      go : Dec (length s ≤ at) → m ≡ name_end s at
+      go (yes b) = rw (drop_of_length-le s b) (e ∙ max-eq_left b)
+      go (no b) =
+          let a : at ≤ length s = omega arith in
+          let z : i ≡ length s = omega (arith, k a) in
+          e ∙ max-eq_right a ∙ sym (inv ∙ rw (drop_of_length-le s h, z))
 
   module _ (h : i < length s) (v : Bool) (e : v ≡ named (get_or s i 0)) where
     pub name_stops : not v ≡ true → i ≡ name_end s at

@@ -1,13 +1,15 @@
 -- The exits of the functions that say why, and what a callee asks. The Bool that is named x is whether the buffers hold a book, and the code asked whether
 -- they do not; y says whether a version is wanted of an export list. Assumes nothing.
 use Prim.Native.Nat.{ℕ, ◌≤◌}
-use mathlib.Core.Path.{◌≡◌, refl, sym, ap, ◌∙◌}
+use mathlib.Core.Path.{◌≡◌}
 use mathlib.Core.List.{List}
 use mathlib.Core.Bool.{Bool, true, false, not}
 use borrow.Author.Tests.{eq-eqb, ne_eqb}
 use lib.ListN.{length}
 use Rattle.numbers.specs.Limits.{line_limit, name_limit, node_limit}
-use Rattle.numbers.specs.Refusals.{no_book, wrong_kind}
+use Rattle.std.specs.Prelude.{Option, Some, None, Result, Ok, Err, ⊤}
+use Rattle.numbers.specs.declared.Refusal.{Refusal}
+use Rattle.numbers.specs.declared.Refusal.TheVariants as no
 use Rattle.lists.proofs.Tests.{both}
 use Rattle.packing.specs.Tables.{packs, things}
 use Rattle.book.specs.declared.Counts.{Counts}
@@ -20,16 +22,11 @@ use Rattle.book.proofs.Views.{laid-packs}
 use Rattle.ranking.specs.Matching.{name_of}
 use Rattle.ranking.specs.Names.{name_refusal}
 use Rattle.ranking.specs.Walk.{deciding, deciding_among}
-use Rattle.lookups.specs.declared.answers.Version.{Version}
-use Rattle.lookups.specs.Lookups.{long_wanted, wanted_of, wanted_version}
+use Rattle.lookups.specs.declared.index.VersionIndex.{VersionIndex}
+use Rattle.lookups.specs.Lookups.{long_wanted, wanted_version}
 use Rattle.lookups.proofs.Asked.{asks_decider}
 use Rattle.reasons.specs.declared.Why.{Why}
-use Rattle.reasons.specs.declared.Why.TheVariants as why
 use Rattle.reasons.specs.Why.{barred, is_wanted, line_told, rust_deciding, wanted_told, why_asked, why_of}
-
-wanted_is : (has : Bool) (v : List ℕ) → is_wanted (wanted_of has v) ≡ has
-wanted_is true v = refl
-wanted_is false v = refl
 
 few_lines : (c : Counts) (b : Buffers) → holds c b ≡ true → c.lines ≤ line_limit
 unfolding holds
@@ -40,9 +37,9 @@ pub asks-rust : (c : Counts) (n m l p j : List ℕ) → holds c (five n m l p j)
     → (packs line_form (line_ok (frame_of c)) c.lines c.pool l p ≡ true) × (c.lines ≤ line_limit)
 asks-rust c n m l p j b = ((held-book c (five n m l p j) b).lines, few_lines c (five n m l p j) b)
 
-module _ (c : Counts) (n m l p j raw demangled : List ℕ) (has : Bool) (v : List ℕ) where
+module _ (c : Counts) (n m l p j raw demangled : List ℕ) (v : Option (List ℕ)) where
   pub why-no_book : (x : Bool) → x ≡ holds c (five n m l p j) → not x ≡ true
-      → why.Refused no_book ≡ why_asked (view c (five n m l p j)) (name_of raw demangled) (wanted_of has v)
+      → Err no.NoBook ≡ why_asked (view c (five n m l p j)) (name_of raw demangled) v
   unfolding why_asked
   why-no_book x e h = rw (asked_none c (five n m l p j) x e h)
 
@@ -50,40 +47,38 @@ module _ (c : Counts) (n m l p j raw demangled : List ℕ) (has : Bool) (v : Lis
     held : Held c (five n m l p j)
     held = held-book c (five n m l p j) b
 
-    module _ (y : Bool) (e : y ≡ barred c.kind has) where
-      barring : barred c.kind (is_wanted (wanted_of has v)) ≡ y
-      barring = ap (barred c.kind) (wanted_is has v) ∙ sym e
-
-      pub why-barred : y ≡ true → why.Refused wrong_kind ≡ why_asked (view c (five n m l p j)) (name_of raw demangled) (wanted_of has v)
+    module _ (y : Bool) (e : y ≡ barred c.kind (is_wanted v)) where
+      pub why-barred : y ≡ true → Err no.WrongKind ≡ why_asked (view c (five n m l p j)) (name_of raw demangled) v
       unfolding why_asked book_of
-      why-barred t = rw (held.viewed, barring, t)
+      why-barred t = rw (held.viewed, ← e, t)
 
-      module _ (t : y ≡ false) (long : Bool) (u : long ≡ long_wanted (wanted_of has v)) (no : ℕ) (f : no ≡ name_refusal (name_of raw demangled) long) where
-        pub why-no_name : (no ≡ 0 → ⊥) → why.Refused no ≡ why_asked (view c (five n m l p j)) (name_of raw demangled) (wanted_of has v)
+      -- r is what the names were asked
+      module _ (t : y ≡ false) (long : Bool) (u : long ≡ long_wanted v) (r : Result ⊤ Refusal) (f : r ≡ name_refusal (name_of raw demangled) long) where
+        pub why-no_name : (z : Refusal) → r ≡ Err z → Err z ≡ why_asked (view c (five n m l p j)) (name_of raw demangled) v
         unfolding why_asked book_of
-        why-no_name g = rw (held.viewed, barring, t, ← u, ← f, ne_eqb _ _ g)
+        why-no_name z g = rw (held.viewed, ← e, t, ← u, ← f, g)
 
-        module _ (g : no ≡ 0) where
+        module _ (x : ⊤) (g : r ≡ Ok x) where
           -- what the search by the ranking asks
           pub asks-ranked : (packs line_form (line_ok (frame_of c)) c.lines c.pool l p ≡ true) × (c.nodes ≤ node_limit)
               × (length raw ≤ name_limit) × (length demangled ≤ name_limit) × (c.lines ≤ line_limit)
           asks-ranked =
-              let a = asks_decider c n m l p j raw demangled b long no f g in
+              let a = asks_decider c n m l p j raw demangled b long r f x g in
               (a.0, a.1, a.2, a.3, few_lines c (five n m l p j) b)
 
-          pub why-rust : c.kind ≡ rust → (r : Why) → r ≡ line_told (things line_form c.lines l p) (rust_deciding raw (things line_form c.lines l p))
-              → r ≡ why_asked (view c (five n m l p j)) (name_of raw demangled) (wanted_of has v)
+          pub why-rust : c.kind ≡ rust → (a : Why) → a ≡ line_told (things line_form c.lines l p) (rust_deciding raw (things line_form c.lines l p))
+              → Ok a ≡ why_asked (view c (five n m l p j)) (name_of raw demangled) v
           unfolding why_asked why_of book_of
-          why-rust q r z = rw (held.viewed, barring, t, ← u, ← f, eq-eqb _ _ g, eq-eqb _ _ q) z
+          why-rust q a z = rw (held.viewed, ← e, t, ← u, ← f, g, eq-eqb _ _ q, z)
 
           module _ (q : c.kind ≡ rust → ⊥) where
-            pub why-wanted : has ≡ true → (w : Version) → w ≡ wanted_version (things node_form c.nodes n m) v → (r : Why) → r ≡ wanted_told w
-                → r ≡ why_asked (view c (five n m l p j)) (name_of raw demangled) (wanted_of has v)
+            pub why-wanted : (t : List ℕ) → v ≡ Some t → (w : Result VersionIndex Refusal) → w ≡ wanted_version (things node_form c.nodes n m) t
+                → wanted_told w ≡ why_asked (view c (five n m l p j)) (name_of raw demangled) v
             unfolding why_asked why_of book_of
-            why-wanted k w z r i = rw (held.viewed, barring, t, ← u, ← f, eq-eqb _ _ g, ne_eqb _ _ q, k, ← z) i
+            why-wanted k h w z = rw (held.viewed, ← e, t, ← u, ← f, g, ne_eqb _ _ q, h, z)
 
-            pub why-ranked : has ≡ false → (r : Why)
-                → r ≡ line_told (things line_form c.lines l p) (deciding_among (frame_of c) (name_of raw demangled) (things line_form c.lines l p))
-                → r ≡ why_asked (view c (five n m l p j)) (name_of raw demangled) (wanted_of has v)
+            pub why-ranked : v ≡ None → (a : Why)
+                → a ≡ line_told (things line_form c.lines l p) (deciding_among (frame_of c) (name_of raw demangled) (things line_form c.lines l p))
+                → Ok a ≡ why_asked (view c (five n m l p j)) (name_of raw demangled) v
             unfolding why_asked why_of deciding book_of
-            why-ranked k r z = rw (held.viewed, barring, t, ← u, ← f, eq-eqb _ _ g, ne_eqb _ _ q, k, held.count) z
+            why-ranked k a z = rw (held.viewed, ← e, t, ← u, ← f, g, ne_eqb _ _ q, k, held.count, z)

@@ -5,7 +5,7 @@ use mathlib.Core.Path.{◌≡◌, refl, sym, ap, subst, ◌∙◌}
 use mathlib.Core.List.{List}
 use mathlib.Core.Bool.{Bool, true, false, false≢true}
 use mathlib.Core.Logic.{◌↔◌, ◌⊎◌, inl, inr}
-use mathlib.Core.Option.{Option, some, none}
+use Rattle.std.specs.Prelude.{Option, Some, None}
 use native.Mathlib.Decide.{dec_lt}
 use native.Mathlib.Omega.{arith}
 use lib.ListN.{length}
@@ -34,32 +34,32 @@ module _ (t : Line → Bool) (ls : List Line) where
       go (no h) (yes k) = clash j g.passes (f.before j k)
       go (no h) (no k) = omega arith
 
-  is_first : (o : Option ℕ) → Looked t ls 0 o → (i : ℕ) → o ≡ some i → First t ls i
+  is_first : (o : Option ℕ) → Looked t ls 0 o → (i : ℕ) → o ≡ Some i → First t ls i
   is_first o (found j f) i e =
       let q : 0 + j ≡ i = cc in
       let k : j ≡ i = omega arith in
       subst (First t ls) k f
   is_first o (missing f) i e = let z : ◌≡◌ {A = ℕ} 0 1 = cc in absurd (omega arith)
 
-  first_is : (o : Option ℕ) → Looked t ls 0 o → (i : ℕ) → First t ls i → o ≡ some i
+  first_is : (o : Option ℕ) → Looked t ls 0 o → (i : ℕ) → First t ls i → o ≡ Some i
   first_is o (found j f) i g =
       let q : j ≡ i = first_once j i f g in
       let k : 0 + j ≡ i = omega arith in
-      ap some k
+      ap Some k
   first_is o (missing f) i g = clash i g.passes (f i g.there)
 
-  is_none : (o : Option ℕ) → Looked t ls 0 o → o ≡ none → NonePasses
+  is_none : (o : Option ℕ) → Looked t ls 0 o → o ≡ None → NonePasses
   is_none o (found j f) e = let z : ◌≡◌ {A = ℕ} 0 1 = cc in absurd (omega arith)
   is_none o (missing f) e = f
 
-  none_is : (o : Option ℕ) → Looked t ls 0 o → NonePasses → o ≡ none
+  none_is : (o : Option ℕ) → Looked t ls 0 o → NonePasses → o ≡ None
   none_is o (found j f) g = clash j f.passes (g j f.there)
   none_is o (missing f) g = refl
 
-  pub first_exactly : (i : ℕ) → (first_line t 0 ls ≡ some i) ↔ First t ls i
+  pub first_exactly : (i : ℕ) → (first_line t 0 ls ≡ Some i) ↔ First t ls i
   first_exactly i = (is_first _ (looked t 0 ls) i, first_is _ (looked t 0 ls) i)
 
-  pub first_nothing : (first_line t 0 ls ≡ none) ↔ NonePasses
+  pub first_nothing : (first_line t 0 ls ≡ None) ↔ NonePasses
   first_nothing = (is_none _ (looked t 0 ls), none_is _ (looked t 0 ls))
 
 -- ---- the Rust kind: "the first listed line equal to the name, else the first general local All line"
@@ -67,21 +67,21 @@ module _ (w : Book) (t : List ℕ) where
   abbrev named : ℕ → Type 0
   named i = FirstListed w t i ⊎ FirstStar w t i
 
-  rust-names : (o : Option ℕ) → first_line (listed_as t) 0 w.lines ≡ o → (i : ℕ) → or_else o (first_line bare_star 0 w.lines) ≡ some i → named i
-  rust-names (some j) e i f =
+  rust-names : (o : Option ℕ) → first_line (listed_as t) 0 w.lines ≡ o → (i : ℕ) → or_else o (first_line bare_star 0 w.lines) ≡ Some i → named i
+  rust-names (Some j) e i f =
       let g = (first_exactly (listed_as t) w.lines i).0 (e ∙ f) in
       inl (record { there = g.there; equal = g.passes; first = g.before })
-  rust-names none e i f =
+  rust-names None e i f =
       let g = (first_exactly bare_star w.lines i).0 f in
       inr (record { unlisted = (first_nothing (listed_as t) w.lines).0 e; there = g.there; star = g.passes; first = g.before })
 
-  rust-named : (i : ℕ) → named i → rust_deciding t w.lines ≡ some i
+  rust-named : (i : ℕ) → named i → rust_deciding t w.lines ≡ Some i
   unfolding rust_deciding
   rust-named i (inl f) = rw ((first_exactly (listed_as t) w.lines i).1 (record { there = f.there; passes = f.equal; before = f.first }))
   rust-named i (inr f) =
       rw ((first_nothing (listed_as t) w.lines).1 f.unlisted)
       ((first_exactly bare_star w.lines i).1 (record { there = f.there; passes = f.star; before = f.first }))
 
-  pub rust_exactly : (i : ℕ) → (rust_deciding t w.lines ≡ some i) ↔ named i
+  pub rust_exactly : (i : ℕ) → (rust_deciding t w.lines ≡ Some i) ↔ named i
   unfolding rust_deciding
   rust_exactly i = (rust-names _ refl i, rust-named i)

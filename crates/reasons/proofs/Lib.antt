@@ -1,4 +1,3 @@
-pub mod Firsts
 pub mod Tellings
 pub mod AskedWhy
 pub mod FirstLines

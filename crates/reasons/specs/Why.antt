@@ -1,16 +1,16 @@
 -- Request 03, "Why this version?": from a book and a name "the deciding line's number, class, node, section, language and offset, or that no line matches".
 -- Assumes nothing.
-use Rattle.std.specs.Prelude.{ℕ, List, [], ◌∷◌, Bool, true, false, cond, ◌&&◌, eqb}
-use Rattle.std.proofs.Math.Option.{Option, some, none}
-use Rattle.numbers.specs.Refusals.{no_book, wrong_kind}
+use Rattle.std.specs.Prelude.{ℕ, List, [], ◌∷◌, Bool, true, false, cond, ◌&&◌, eqb, Option, Some, None, Result, Ok, Err}
+use Rattle.std.specs.Result.{result_and}
+use Rattle.numbers.specs.declared.Refusal.{Refusal}
+use Rattle.numbers.specs.declared.Refusal.TheVariants as no
 use Rattle.book.specs.Books.{Line, Book, export, rust}
 use Rattle.book.specs.Edits.{line_at}
 use Rattle.book.specs.Sanity.{bare_star}
 use Rattle.ranking.specs.Matching.{Name}
 use Rattle.ranking.specs.Names.{name_refusal}
 use Rattle.ranking.specs.Walk.{deciding, first_line, or_else}
-use Rattle.lookups.specs.declared.answers.Version.{Version}
-use Rattle.lookups.specs.declared.answers.Version.TheVariants as version
+use Rattle.lookups.specs.declared.index.VersionIndex.{VersionIndex}
 use Rattle.lookups.specs.Lookups.{listed_as, long_wanted, wanted_version}
 use Rattle.reasons.specs.declared.Reason.{Reason}
 use Rattle.reasons.specs.declared.Why.{Why}
@@ -22,52 +22,44 @@ reason i x = record { line = i; class = x.class; node = x.node; section = x.sect
 
 -- "or that no line matches"
 abbrev pub line_told : List Line → Option ℕ → Why
-line_told ls (some i) = why.Line (reason i (line_at ls i))
-line_told ls none = why.NoLine
+line_told ls (Some i) = why.Line (reason i (line_at ls i))
+line_told ls None = why.NoLine
 
 -- ---- "For the Rust kind it names the first listed line equal to the name, else the first general local All line."
 unfoldable pub rust_deciding : List ℕ → List Line → Option ℕ
 rust_deciding t ls = or_else (first_line (listed_as t) 0 ls) (first_line bare_star 0 ls)
 
--- ---- "It says "wanted version" when the `@` part decided": where the lookup answers it, an empty one too; an unknown one is refused there (10). A wanted
--- version is never without an index, so that case does not occur
-abbrev pub wanted_told : Version → Why
-wanted_told (version.Index i) = why.Wanted
-wanted_told version.Unversioned = why.Wanted
-wanted_told (version.Refused n) = why.Refused n
+-- what is answered, or why there is no answer
+abbrev pub WhyAnswer : Type 0
+WhyAnswer = Result Why Refusal
+
+-- ---- "It says "wanted version" when the `@` part decided": where the lookup answers it, an empty one too; an unknown one is refused there (10)
+abbrev pub wanted_told : Result VersionIndex Refusal → WhyAnswer
+wanted_told (Ok i) = Ok why.Wanted
+wanted_told (Err e) = Err e
 
 -- "The line must match the name and none ahead of it in 01's ranking may; at equal rank the lowest number is named": 01's walk gives this line
-abbrev pub by_wanted_told : Book → Name → Option (List ℕ) → Why
-by_wanted_told w n (some v) = wanted_told (wanted_version w.nodes v)
-by_wanted_told w n none = line_told w.lines (deciding n w)
+abbrev pub by_wanted_told : Book → Name → Option (List ℕ) → WhyAnswer
+by_wanted_told w n (Some v) = wanted_told (wanted_version w.nodes v)
+by_wanted_told w n None = Ok (line_told w.lines (deciding n w))
 
 -- of the Rust kind the `@` part decides nothing
-unfoldable pub why_of : Book → Name → Option (List ℕ) → Why
-why_of w n v = cond (eqb w.kind rust) (line_told w.lines (rust_deciding n.raw w.lines)) (by_wanted_told w n v)
+unfoldable pub why_of : Book → Name → Option (List ℕ) → WhyAnswer
+why_of w n v = cond (eqb w.kind rust) (Ok (line_told w.lines (rust_deciding n.raw w.lines))) (by_wanted_told w n v)
 
 -- ---- "Refusals: those of the lookup." "Order: 14, 13, … 1, 9, 10". Of an export list the lookup is membership, of which no version is wanted (13)
 abbrev pub is_wanted : Option (List ℕ) → Bool
-is_wanted (some v) = true
-is_wanted none = false
+is_wanted (Some v) = true
+is_wanted None = false
 
 abbrev pub barred : ℕ → Bool → Bool
 barred kind has = eqb kind export && has
 
-unfoldable pub why_asked : Option Book → Name → Option (List ℕ) → Why
-why_asked none n v = why.Refused no_book
-why_asked (some w) n v =
-    cond (barred w.kind (is_wanted v)) (why.Refused wrong_kind)
-    (cond (eqb (name_refusal n (long_wanted v)) 0) (why_of w n v)
-    (why.Refused (name_refusal n (long_wanted v))))
+unfoldable pub why_asked : Option Book → Name → Option (List ℕ) → WhyAnswer
+why_asked None n v = Err no.NoBook
+why_asked (Some w) n v = cond (barred w.kind (is_wanted v)) (Err no.WrongKind) (result_and (name_refusal n (long_wanted v)) (why_of w n v))
 
--- ---- the paper's number of these answers, 0 where they are done
-abbrev pub why_refusal : Why → ℕ
-why_refusal (why.Line r) = 0
-why_refusal why.NoLine = 0
-why_refusal why.Wanted = 0
-why_refusal (why.Refused n) = n
-
--- and what they tell, in seven numbers: what is answered (0 no line, 1 a line, 2 the wanted version), then line, class, node, section, language and offset,
+-- ---- the number of these answers is `refusal_of`; what they tell, in seven numbers: what is answered (0 no line, 1 a line, 2 the wanted version), then line, class, node, section, language and offset,
 -- zeros where no line is
 abbrev pub seven : ℕ → Reason → List ℕ
 seven what r = what ∷ r.line ∷ r.class ∷ r.node ∷ r.section ∷ r.language ∷ r.offset ∷ []
@@ -75,8 +67,8 @@ seven what r = what ∷ r.line ∷ r.class ∷ r.node ∷ r.section ∷ r.langua
 abbrev pub no_reason : Reason
 no_reason = record { line = 0; class = 0; node = 0; section = 0; language = 0; offset = 0 }
 
-abbrev pub why_numbers : Why → List ℕ
-why_numbers (why.Line r) = seven 1 r
-why_numbers why.NoLine = seven 0 no_reason
-why_numbers why.Wanted = seven 2 no_reason
-why_numbers (why.Refused n) = seven 0 no_reason
+abbrev pub why_numbers : WhyAnswer → List ℕ
+why_numbers (Ok (why.Line r)) = seven 1 r
+why_numbers (Ok why.NoLine) = seven 0 no_reason
+why_numbers (Ok why.Wanted) = seven 2 no_reason
+why_numbers (Err e) = seven 0 no_reason

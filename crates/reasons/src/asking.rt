@@ -1,98 +1,63 @@
 // Why a name has its version, is global or local, or is in an export list. Definitions: specs/Why.antt, from document 02, request 03. `why` asks first whether
 // the buffers hold a book (14); `why_in_book` is for callers who know it.
 ghost use Rattle.std.specs.Prelude.{◌≡◌, true};
+ghost use Rattle.book.specs.Lending.{view_of};
 ghost use Rattle.book.specs.Layout.{five};
 ghost use Rattle.book.specs.View.{holds, view};
-ghost use Rattle.lookups.specs.Lookups.{wanted_of};
+ghost use Rattle.lookups.specs.Lookups.{bytes_of};
 ghost use Rattle.ranking.specs.Matching.{name_of};
-ghost use Rattle.reasons.specs.Why.{barred, wanted_told, why_asked};
+ghost use Rattle.reasons.specs.Why.{barred, is_wanted, why_asked};
 
 use crate::Why;
 use crate::telling::{ranked_why, rust_why};
-use book::{Counts, EXPORT, RUST};
-use book_check::is_book;
-use lookups::answers::Version;
+use book::lent::Lent;
+use book::{EXPORT, RUST};
+use book_check::Held;
 use lookups::version_lookup::is_long;
 use lookups::wanted::wanted_version;
-use numbers::{NO_BOOK, WRONG_KIND};
+use numbers::Refusal;
 use ranking::names::name_refusal;
 
 // Whether a version is wanted of an export list.
-fn is_barred(kind: u32, has_wanted: bool) -> bool
-    ensures { result ≡ barred kind has_wanted }
+fn is_barred(kind: u32, wanted: Option<&[u8]>) -> bool
+    ensures { result ≡ barred kind (is_wanted (bytes_of wanted.entry)) }
 {
-    if kind == EXPORT {
-        return has_wanted;
-    }
-    false
+    kind == EXPORT && wanted.is_some()
 }
 
-// What is told where a version is wanted.
-fn wanted_why(v: Version) -> Why
-    ensures { result ≡ wanted_told v }
-{
-    match v {
-        Version::Refused(no) => Why::Refused(no),
-        Version::Unversioned => Why::Wanted,
-        Version::Index(_) => Why::Wanted,
-    }
-}
-
-// Why a name is answered as it is, in buffers that hold a book; `has_wanted` says that the version `wanted` is wanted.
+// Why a name is answered as it is, in buffers that hold a book, where that version is wanted or none.
 pub fn why_in_book(
-    c: Counts,
-    nodes: &[u32],
-    names: &[u8],
-    lines: &[u32],
-    pool: &[u8],
-    journal: &[u32],
+    book: Held,
     raw: &[u8],
     demangled: &[u8],
-    has_wanted: bool,
-    wanted: &[u8],
-) -> Why
-    requires { holds c (five nodes.now names.now lines.now pool.now journal.now) ≡ true }
+    wanted: Option<&[u8]>,
+) -> Result<Why, Refusal>
     ensures { result ≡ why_asked
-        (view c (five nodes.now names.now lines.now pool.now journal.now))
-        (name_of raw.now demangled.now) (wanted_of has_wanted wanted.now) }
+        (view_of book.entry.lent)
+        (name_of raw.now demangled.now) (bytes_of wanted.entry) }
 {
-    if is_barred(c.kind, has_wanted) {
-        return Why::Refused(WRONG_KIND);
+    let c = book.lent.counts;
+    if is_barred(c.kind, wanted) {
+        return Err(Refusal::WrongKind);
     }
-    let no = name_refusal(raw, demangled, is_long(has_wanted, wanted));
-    if no != 0 {
-        return Why::Refused(no);
-    }
+    name_refusal(raw, demangled, is_long(wanted))?;
     if c.kind == RUST {
-        return rust_why(c, lines, pool, raw);
+        return Ok(rust_why(c, book.lent.lines, book.lent.pool, raw));
     }
-    if has_wanted {
-        return wanted_why(wanted_version(c, nodes, names, wanted));
+    match wanted {
+        Some(wanted) => {
+            wanted_version(c, book.lent.nodes, book.lent.names, wanted)?;
+            Ok(Why::Wanted)
+        }
+        None => Ok(ranked_why(c, book.lent.lines, book.lent.pool, raw, demangled)),
     }
-    ranked_why(c, lines, pool, raw, demangled)
 }
 
-// Why a name is answered as it is; `has_wanted` says that the version `wanted` is wanted.
-pub fn why(
-    c: Counts,
-    nodes: &[u32],
-    names: &[u8],
-    lines: &[u32],
-    pool: &[u8],
-    journal: &[u32],
-    raw: &[u8],
-    demangled: &[u8],
-    has_wanted: bool,
-    wanted: &[u8],
-) -> Why
+// Why a name is answered as it is, where that version is wanted or none.
+pub fn why(book: Lent, raw: &[u8], demangled: &[u8], wanted: Option<&[u8]>) -> Result<Why, Refusal>
     ensures { result ≡ why_asked
-        (view c (five nodes.now names.now lines.now pool.now journal.now))
-        (name_of raw.now demangled.now) (wanted_of has_wanted wanted.now) }
+        (view_of book.entry)
+        (name_of raw.now demangled.now) (bytes_of wanted.entry) }
 {
-    if !is_book(c, nodes, names, lines, pool, journal) {
-        return Why::Refused(NO_BOOK);
-    }
-    why_in_book(
-        c, nodes, names, lines, pool, journal, raw, demangled, has_wanted, wanted,
-    )
+    why_in_book(Held::of(book)?, raw, demangled, wanted)
 }

@@ -7,7 +7,7 @@ pub mod asking;
 pub mod telling;
 
 // A line of a book: "number, class, node, section, language and offset".
-#[derive(Clone, Copy)]
+#[derive(Clone, Copy, Debug, PartialEq, Eq)]
 pub struct Reason {
     pub line: u32,
     pub class: u32,
@@ -17,11 +17,10 @@ pub struct Reason {
     pub offset: u32,
 }
 
-// The line that decides, that no line matches, that the wanted version decides, or the number that says no.
-#[derive(Clone, Copy)]
+// The line that decides, that no line matches, or that the wanted version decides.
+#[derive(Clone, Copy, Debug, PartialEq, Eq)]
 pub enum Why {
     Line(Reason),
     NoLine,
     Wanted,
-    Refused(u32),
 }

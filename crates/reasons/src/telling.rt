@@ -6,17 +6,14 @@ ghost use Rattle.book.specs.Books.{with_offset};
 ghost use Rattle.book.specs.Layout.{frame_of, line_form, line_of, line_width};
 ghost use Rattle.book.specs.Sanity.{bare_star, line_ok};
 ghost use Rattle.ranking.specs.Matching.{name_of};
-ghost use Rattle.ranking.specs.Walk.{decided, deciding_among, first_line};
-ghost use Rattle.lookups.specs.Lookups.{listed_as};
+ghost use Rattle.ranking.specs.Walk.{deciding_among, first_line};
 ghost use Rattle.reasons.specs.Why.{line_told, reason, rust_deciding};
 
 use crate::{Reason, Why};
 use book::codes::{class_of, language_of, section_of};
-use book::rows::line_bytes;
 use book::{Counts, LINE_WIDTH, frame_of};
-use numbers::{ALL_CLASS, GENERAL, GLOBAL, LOCAL};
-use packing::same_bytes;
-use ranking::Deciding;
+use book_check::lines::is_bare_star;
+use lookups::listing::first_listed;
 use ranking::finding::find_match;
 
 // What is told of line i, from its row.
@@ -37,54 +34,17 @@ fn line_reason(lines: &[u32], i: usize) -> Reason
     }
 }
 
-// The first global line, of n, that has the name's bytes.
-fn first_listed(c: Counts, lines: &[u32], pool: &[u8], name: &[u8]) -> Deciding
+// The number of the first general `*` among the locals.
+fn first_star(c: Counts, lines: &[u32], pool: &[u8]) -> Option<usize>
     requires { packs line_form (line_ok (frame_of c)) c.lines c.pool lines.now pool.now ≡ true }
-    ensures { result ≡ decided (first_line (listed_as name.now) 0 (things line_form c.lines lines.now pool.now)) }
+    ensures { result ≡ first_line bare_star 0 (things line_form c.lines lines.now pool.now) }
 {
-    let n = c.lines as usize;
-    let mut i = 0;
-    while i < n {
-        let number = i;
-        i += 1;
-        if section_of(lines[LINE_WIDTH * number + 1]) != GLOBAL {
-            continue;
-        }
-        if same_bytes(line_bytes(lines, pool, number), name) {
-            return Deciding::Line(number);
+    for i in 0..c.lines as usize {
+        if is_bare_star(lines[LINE_WIDTH * i + 1]) {
+            return Some(i);
         }
     }
-    Deciding::Nothing
-}
-
-// Whether a line with that code is a general local All line.
-fn is_bare_star(code: u32) -> bool
-    ensures { result ≡ bare_star (line_of 0 code []) }
-{
-    if class_of(code) != ALL_CLASS {
-        return false;
-    }
-    if section_of(code) != LOCAL {
-        return false;
-    }
-    language_of(code) == GENERAL
-}
-
-// The first such line.
-fn first_star(c: Counts, lines: &[u32], pool: &[u8]) -> Deciding
-    requires { packs line_form (line_ok (frame_of c)) c.lines c.pool lines.now pool.now ≡ true }
-    ensures { result ≡ decided (first_line bare_star 0 (things line_form c.lines lines.now pool.now)) }
-{
-    let n = c.lines as usize;
-    let mut i = 0;
-    while i < n {
-        let number = i;
-        i += 1;
-        if is_bare_star(lines[LINE_WIDTH * number + 1]) {
-            return Deciding::Line(number);
-        }
-    }
-    Deciding::Nothing
+    None
 }
 
 // The line that decides a name in a book of the Rust kind.
@@ -94,10 +54,10 @@ pub fn rust_why(c: Counts, lines: &[u32], pool: &[u8], name: &[u8]) -> Why
         (rust_deciding name.now (things line_form c.lines lines.now pool.now)) }
 {
     match first_listed(c, lines, pool, name) {
-        Deciding::Line(i) => Why::Line(line_reason(lines, i)),
-        Deciding::Nothing => match first_star(c, lines, pool) {
-            Deciding::Line(i) => Why::Line(line_reason(lines, i)),
-            Deciding::Nothing => Why::NoLine,
+        Some(i) => Why::Line(line_reason(lines, i)),
+        None => match first_star(c, lines, pool) {
+            Some(i) => Why::Line(line_reason(lines, i)),
+            None => Why::NoLine,
         },
     }
 }
@@ -119,7 +79,7 @@ pub fn ranked_why(c: Counts, lines: &[u32], pool: &[u8], raw: &[u8], demangled: 
         raw,
         demangled,
     ) {
-        Deciding::Nothing => Why::NoLine,
-        Deciding::Line(i) => Why::Line(line_reason(lines, i)),
+        None => Why::NoLine,
+        Some(i) => Why::Line(line_reason(lines, i)),
     }
 }

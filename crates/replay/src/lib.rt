@@ -2,76 +2,58 @@
 // lines, and what is printed. A program goes through the lines, answers each, and hands over whether the answer is the same. Definitions: specs/Walks.antt.
 #![tactic(auto)]
 
-ghost use Rattle.std.specs.Prelude.{◌+◌, ◌<◌, ◌≤◌, ◌≡◌, length, IfOk};
+ghost use Rattle.std.specs.Prelude.{◌+◌, ◌<◌, ◌≤◌, ◌≡◌, length, IfOk, IfSome};
 ghost use Rattle.replay.specs.Walks.{Further, Walks};
 
-use input::splitting::part_before;
+use input::splitting::{line_end, part_before};
 use linker_script::trim_ascii_end;
-use meanings::{front, line_end, read_input, say};
+use meanings::{front, read_input, say};
 use std::io::{Cursor, Print, Write};
 use std::rt::Files;
 use std::{fs, io};
 
-// The value of a hex digit, 16 for any other byte.
-pub fn hex_digit(b: u8) -> u8
-    ensures { result ≤ 16 }
+// The value of a hex digit of small letters.
+pub fn hex_digit(b: u8) -> Option<u8>
+    ensures { IfSome result (λ d. d < 16) }
 {
-    if b < b'0' {
-        return 16;
+    match b {
+        b'0'..=b'9' => Some(b - b'0'),
+        b'a'..=b'f' => Some(b - b'a' + 10),
+        _ => None,
     }
-    if b <= b'9' {
-        return b - b'0';
-    }
-    if b < b'a' {
-        return 16;
-    }
-    if b <= b'f' {
-        return b - b'a' + 10;
-    }
-    16
 }
 
 pub fn byte_or_zero(line: &[u8], at: usize) -> u8 {
-    if at < line.len() { line[at] } else { 0 }
+    line.get(at).copied().unwrap_or(0)
 }
 
-// The value of the decimal digit at a place; a number that nothing answers where there is none.
-pub fn digit(line: &[u8], at: usize) -> u64
-    ensures { result ≤ 255 }
+// The value of the decimal digit at a place.
+pub fn digit(line: &[u8], at: usize) -> Option<u64>
+    ensures { IfSome result (λ d. d < 10) }
 {
-    let b = byte_or_zero(line, at);
-    if b < b'0' {
-        return 255;
+    match byte_or_zero(line, at) {
+        b @ b'0'..=b'9' => Some(u64::from(b - b'0')),
+        _ => None,
     }
-    if b'9' < b {
-        return 255;
-    }
-    (b - b'0') as u64
 }
 
 // The longest field, in bytes.
-const FIELD: usize = 256;
+pub const FIELD: usize = 256;
 
-// A field's bytes, how many they are, and the place behind the blank that ends it.
-#[derive(Drop)]
-pub struct Field {
-    pub bytes: [u8; FIELD],
-    pub len: usize,
+// A field's bytes, and the place behind the blank that ends it.
+#[derive(Clone, Copy)]
+pub struct Field<'a> {
+    pub bytes: &'a [u8],
     pub next: usize,
 }
 
-// Two hex digits as a byte, 256 where they are not.
-fn pair(high: u8, low: u8) -> u32
-    requires { (high ≤ 16) × (low ≤ 16) }
-    ensures { result ≤ 256 }
+// The byte that two hex digits at a place are.
+fn pair(line: &[u8], at: usize) -> Option<u8>
+    requires { at ≤ 2000 }
 {
-    if high == 16 {
-        return 256;
-    }
-    if low == 16 {
-        return 256;
-    }
-    (high as u32) * 16 + (low as u32)
+    let high = hex_digit(byte_or_zero(line, at))?;
+    let low = hex_digit(byte_or_zero(line, at + 1))?;
+    Some(high * 16 + low)
 }
 
 // The place behind a field of n bytes; no bytes are one `-`.
@@ -85,29 +67,21 @@ fn behind(from: usize, n: usize) -> usize
     from + 2 * n + 1
 }
 
-pub fn read_field(line: &[u8], from: usize) -> Field
+// The field at a place of a line, its bytes in `room`.
+pub fn read_field<'a>(line: &[u8], from: usize, room: &'a mut [u8; FIELD]) -> Field<'a>
     requires { from ≤ 1000 }
     ensures { result.next ≤ from + 514 }
 {
-    let mut bytes = [0u8; FIELD];
     let mut n = 0;
-    while n < FIELD {
-        let high = hex_digit(byte_or_zero(line, from + 2 * n));
-        let low = hex_digit(byte_or_zero(line, from + 2 * n + 1));
-        let b = pair(high, low);
-        if 255 < b {
-            return Field {
-                bytes,
-                len: n,
-                next: behind(from, n),
-            };
-        }
-        bytes[n] = b as u8;
-        n += 1;
+    for i in 0..FIELD {
+        let Some(b) = pair(line, from + 2 * i) else {
+            break;
+        };
+        room[i] = b;
+        n = i + 1;
     }
     Field {
-        bytes,
-        len: n,
+        bytes: &room[..n],
         next: behind(from, n),
     }
 }
@@ -178,10 +152,8 @@ pub fn start(text: &[u8]) -> Walk
 
 // The line that begins at a place, no bytes behind the last one.
 pub fn line_at(text: &[u8], from: usize) -> &[u8] {
-    if text.len() < from {
-        return &text[0..0];
-    }
-    &text[from..line_end(text, from)]
+    let rest = &text[from.min(text.len())..];
+    &rest[..line_end(rest, 0)]
 }
 
 // Behind the next line.
@@ -192,8 +164,7 @@ pub fn passed(text: &[u8], w: Walk) -> Walk
     Walk {
         at: line_end(text, w.at) + 1,
         lines: w.lines + 1,
-        cases: w.cases,
-        different: w.different,
+        ..w
     }
 }
 
@@ -204,20 +175,27 @@ pub fn counted(to: &impl Print, w: Walk, same: bool) -> io::Result<Walk>
 {
     let cases = w.cases + 1;
     if same {
-        return Ok(Walk {
-            at: w.at,
-            lines: w.lines,
-            cases,
-            different: w.different,
-        });
+        return Ok(Walk { cases, ..w });
     }
     print_different(to, w.lines)?;
     Ok(Walk {
-        at: w.at,
-        lines: w.lines,
         cases,
         different: w.different + 1,
+        ..w
     })
+}
+
+// Each line is a case; `same` tells of one whether its answer is the same.
+pub fn replay_lines<F: Fn(&[u8]) -> bool>(to: &impl Print, text: &[u8], same: F) -> io::Result<Walk>
+    requires { F.IsAlwaysCallable same }
+    ensures { IfOk result (λ r. r.different ≤ r.cases) }
+{
+    let mut walk = start(text);
+    while walk.at < text.len() {
+        let is_same = same(line_at(text, walk.at));
+        walk = counted(to, passed(text, walk), is_same)?;
+    }
+    Ok(walk)
 }
 
 // How many cases are the same, and how many are not.

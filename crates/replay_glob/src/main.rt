@@ -6,36 +6,22 @@
 //     M stored name 0 or 1
 #![tactic(auto)]
 
-ghost use Rattle.std.specs.Prelude.{◌≤◌, IfOk};
+ghost use Rattle.std.specs.Prelude.{◌≤◌};
 
 use glob_match::exports::{
     glob_match_class, glob_match_matches, glob_match_store, glob_match_unescape,
 };
 use meanings::front;
-use replay::{
-    Walk, byte_or_zero, counted, digit, line_at, passed, print_counts, read_cases, read_field,
-    start,
-};
+use replay::{FIELD, byte_or_zero, digit, print_counts, read_cases, read_field, replay_lines};
 use std::io;
-use std::io::Print;
 
 // What an untouched byte of an output buffer holds.
 const GUARD: u8 = 0xA5;
 
-fn wanted(bytes: &[u8], i: usize) -> u8 {
-    if i < bytes.len() { bytes[i] } else { GUARD }
-}
-
 // Whether the bytes stand at the front of a buffer whose rest is as it was.
 fn stands(out: &[u8], bytes: &[u8]) -> bool {
-    let mut i = 0;
-    while i < out.len() {
-        if out[i] != wanted(bytes, i) {
-            return false;
-        }
-        i += 1;
-    }
-    bytes.len() <= out.len()
+    out.strip_prefix(bytes)
+        .is_some_and(|rest| rest.iter().all(|b| *b == GUARD))
 }
 
 fn same_unescaped(pattern: &[u8], want: &[u8]) -> bool {
@@ -64,56 +50,42 @@ fn same_token(token: &[u8], line: &[u8], at: usize) -> bool
     requires { at ≤ 516 }
 {
     if byte_or_zero(line, at) == b'!' {
-        return same_refused(token, digit(line, at + 2));
+        return digit(line, at + 2).is_some_and(|refusal| same_refused(token, refusal));
     }
-    let field = read_field(line, at + 2);
-    let bytes = field.bytes;
-    let n = field.len;
-    same_stored(token, digit(line, at), front(&bytes, n))
+    let mut room = [0u8; FIELD];
+    let want = read_field(line, at + 2, &mut room);
+    digit(line, at).is_some_and(|class| same_stored(token, class, want.bytes))
 }
 
 fn same_pattern(tag: u8, pattern: &[u8], line: &[u8], at: usize) -> bool
     requires { at ≤ 516 }
 {
-    let field = read_field(line, at);
-    let bytes = field.bytes;
-    let n = field.len;
-    let second = front(&bytes, n);
-    if tag == b'U' {
-        return same_unescaped(pattern, second);
+    let mut room = [0u8; FIELD];
+    let second = read_field(line, at, &mut room);
+    match tag {
+        b'U' => same_unescaped(pattern, second.bytes),
+        b'M' => is_answer(glob_match_matches(pattern, second.bytes), line, second.next),
+        _ => false,
     }
-    tag == b'M' && glob_match_matches(pattern, second) == 256 * digit(line, field.next)
+}
+
+// Whether a number that is told, without a refusal, is the digit at a place.
+fn is_answer(told: u64, line: &[u8], at: usize) -> bool {
+    told % 256 == 0 && digit(line, at) == Some(told / 256)
 }
 
 fn same_line(line: &[u8]) -> bool {
-    let tag = byte_or_zero(line, 0);
-    let field = read_field(line, 2);
-    let bytes = field.bytes;
-    let n = field.len;
-    let at = field.next;
-    let first = front(&bytes, n);
-    if tag == b'C' {
-        return glob_match_class(first) == 256 * digit(line, at);
+    let mut room = [0u8; FIELD];
+    let first = read_field(line, 2, &mut room);
+    match byte_or_zero(line, 0) {
+        b'C' => is_answer(glob_match_class(first.bytes), line, first.next),
+        b'S' => same_token(first.bytes, line, first.next),
+        tag => same_pattern(tag, first.bytes, line, first.next),
     }
-    if tag == b'S' {
-        return same_token(first, line, at);
-    }
-    same_pattern(tag, first, line, at)
-}
-
-fn replay(to: &impl Print, text: &[u8]) -> io::Result<Walk>
-    ensures { IfOk result (λ r. r.different ≤ r.cases) }
-{
-    let mut walk = start(text);
-    while walk.at < text.len() {
-        let same = same_line(line_at(text, walk.at));
-        walk = counted(to, passed(text, walk), same)?;
-    }
-    Ok(walk)
 }
 
 fn main(rt: HostRuntime) -> io::Result<()> {
     let mut text = [0u8; 262144];
     let n = read_cases(&rt, &rt.stderr(), &mut text)?;
-    print_counts(&rt, replay(&rt, front(&text, n))?)
+    print_counts(&rt, replay_lines(&rt, front(&text, n), same_line)?)
 }

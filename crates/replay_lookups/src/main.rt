@@ -13,18 +13,18 @@ ghost use Rattle.std.specs.Prelude.{◌≤◌, ◌<◌, length, IfOk};
 ghost use Rattle.replay.specs.Walks.{Further, Onward, Walks};
 
 use book::Counts;
+use book::lent::Lent;
 use book_opening::Opened;
-use counting::{Count, parent_count, version_count};
-use export_list::Membership;
+use counting::{parent_count, version_count};
 use export_list::lookups::contains;
 use lookups::answers::{Locality, Version};
 use lookups::locality_lookup::locality;
 use lookups::version_lookup::version_for_symbol;
 use meanings::front;
-use numbers::UNKNOWN_VERSION;
+use numbers::Refusal;
 use replay::{
-    Walk, byte_or_zero, counted, digit, line_at, passed, print_counts, read_cases, read_field,
-    start,
+    FIELD, Walk, byte_or_zero, counted, digit, line_at, passed, print_counts, read_cases,
+    read_field, start,
 };
 use std::io;
 use std::io::Print;
@@ -33,155 +33,93 @@ use std::io::Print;
 const OTHER: u8 = b'?';
 
 fn digit_of(n: u32) -> u8 {
-    if n < 10 {
-        return b'0' + (n as u8);
+    match n {
+        0..=9 => b'0' + (n as u8),
+        _ => OTHER,
     }
-    OTHER
 }
 
-fn count_answer(count: Count) -> u8 {
+fn count_answer(count: Result<u32, Refusal>) -> u8 {
     match count {
-        Count::Counted(n) => digit_of(n),
-        Count::Refused(_) => OTHER,
+        Ok(n) => digit_of(n),
+        Err(_) => OTHER,
     }
 }
 
 fn version_answer(version: Version) -> u8 {
     match version {
-        Version::Index(i) => digit_of(i.number()),
-        Version::Unversioned => b'0',
-        Version::Refused(no) => {
-            if no == UNKNOWN_VERSION {
-                return b'!';
-            }
-            OTHER
-        }
+        Ok(Some(i)) => digit_of(i.number()),
+        Ok(None) => b'0',
+        Err(Refusal::UnknownVersion) => b'!',
+        Err(_) => OTHER,
     }
 }
 
-fn locality_answer(locality: Locality) -> u8 {
+fn locality_answer(locality: Result<Option<Locality>, Refusal>) -> u8 {
     match locality {
-        Locality::Nothing => b'0',
-        Locality::Global => b'1',
-        Locality::Local => b'2',
-        Locality::Refused(_) => OTHER,
+        Ok(None) => b'0',
+        Ok(Some(Locality::Global)) => b'1',
+        Ok(Some(Locality::Local)) => b'2',
+        Err(_) => OTHER,
     }
 }
 
-fn membership_answer(membership: Membership) -> u8 {
+fn membership_answer(membership: Result<bool, Refusal>) -> u8 {
     match membership {
-        Membership::Without => b'0',
-        Membership::Within => b'1',
-        Membership::Refused(_) => OTHER,
+        Ok(false) => b'0',
+        Ok(true) => b'1',
+        Err(_) => OTHER,
     }
 }
 
 // Whether the line ends with the answer at this place.
 fn ends_with(line: &[u8], at: usize, answer: u8) -> bool {
-    if at < line.len() {
-        return line[at] == answer && line.len() - at == 1;
-    }
-    false
+    matches!(line.get(at..), Some([b]) if *b == answer)
 }
 
 // The answer to a question without a wanted version, by its letter.
-fn answer_to(
-    letter: u8,
-    c: Counts,
-    nodes: &[u32],
-    names: &[u8],
-    lines: &[u32],
-    pool: &[u8],
-    journal: &[u32],
-    raw: &[u8],
-    demangled: &[u8],
-) -> u8 {
+fn answer_to(letter: u8, book: Lent, raw: &[u8], demangled: &[u8]) -> u8 {
     if letter == b'V' {
-        return version_answer(version_for_symbol(
-            c, nodes, names, lines, pool, journal, raw, demangled, false, raw,
-        ));
+        return version_answer(version_for_symbol(book, raw, demangled, None));
     }
     if letter == b'L' {
-        return locality_answer(locality(c, nodes, names, lines, pool, journal, raw, demangled));
+        return locality_answer(locality(book, raw, demangled));
     }
     if letter == b'C' {
-        return membership_answer(contains(c, nodes, names, lines, pool, journal, raw, demangled));
+        return membership_answer(contains(book, raw, demangled));
     }
     OTHER
 }
 
 // Whether the answer with the wanted version, whose field begins at this place, is the same.
-fn same_wanted(
-    line: &[u8],
-    at: usize,
-    c: Counts,
-    nodes: &[u32],
-    names: &[u8],
-    lines: &[u32],
-    pool: &[u8],
-    journal: &[u32],
-    raw: &[u8],
-    demangled: &[u8],
-) -> bool {
+fn same_wanted(line: &[u8], at: usize, book: Lent, raw: &[u8], demangled: &[u8]) -> bool {
     if 1000 < at {
         return false;
     }
-    let field = read_field(line, at);
-    let bytes = field.bytes;
-    let n = field.len;
-    let next = field.next;
-    let wanted = front(&bytes, n);
-    let version = version_for_symbol(
-        c, nodes, names, lines, pool, journal, raw, demangled, true, wanted,
-    );
-    ends_with(line, next, version_answer(version))
+    let mut room = [0u8; FIELD];
+    let field = read_field(line, at, &mut room);
+    let wanted = field.bytes;
+    let version = version_for_symbol(book, raw, demangled, Some(wanted));
+    ends_with(line, field.next, version_answer(version))
 }
 
-fn same_question(
-    line: &[u8],
-    c: Counts,
-    nodes: &[u32],
-    names: &[u8],
-    lines: &[u32],
-    pool: &[u8],
-    journal: &[u32],
-) -> bool {
+fn same_question(line: &[u8], book: Lent) -> bool {
     let letter = byte_or_zero(line, 0);
-    let first = read_field(line, 2);
-    let first_bytes = first.bytes;
-    let first_len = first.len;
-    let raw = front(&first_bytes, first_len);
-    let second = read_field(line, first.next);
-    let second_bytes = second.bytes;
-    let second_len = second.len;
+    let mut first_room = [0u8; FIELD];
+    let mut second_room = [0u8; FIELD];
+    let first = read_field(line, 2, &mut first_room);
+    let second = read_field(line, first.next, &mut second_room);
+    let raw = first.bytes;
+    let demangled = second.bytes;
     let at = second.next;
-    let demangled = front(&second_bytes, second_len);
     if letter == b'W' {
-        return same_wanted(
-            line, at, c, nodes, names, lines, pool, journal, raw, demangled,
-        );
+        return same_wanted(line, at, book, raw, demangled);
     }
-    ends_with(
-        line,
-        at,
-        answer_to(
-            letter, c, nodes, names, lines, pool, journal, raw, demangled,
-        ),
-    )
+    ends_with(line, at, answer_to(letter, book, raw, demangled))
 }
 
 // The questions from a place on, up to the next text.
-fn ask_all(
-    to: &impl Print,
-    text: &[u8],
-    from: Walk,
-    c: Counts,
-    nodes: &[u32],
-    names: &[u8],
-    rows: &[u32],
-    pool: &[u8],
-    journal: &[u32],
-) -> io::Result<Walk>
+fn ask_all(to: &impl Print, text: &[u8], from: Walk, book: Lent) -> io::Result<Walk>
     requires { Walks (length text.now) from }
     ensures { IfOk result (λ r. Onward (length text.now) from.at r) }
 {
@@ -191,14 +129,14 @@ fn ask_all(
         if byte_or_zero(line, 0) == b'S' {
             return Ok(walk);
         }
-        let same = same_question(line, c, nodes, names, rows, pool, journal);
+        let same = same_question(line, book);
         walk = counted(to, passed(text, walk), same)?;
     }
     Ok(walk)
 }
 
 fn open(
-    source: u64,
+    is_script: bool,
     text: &[u8],
     nodes: &mut [u32],
     names: &mut [u8],
@@ -206,35 +144,25 @@ fn open(
     pool: &mut [u8],
     journal: &mut [u32],
 ) -> Opened {
-    if source == 0 {
+    if is_script {
         return version_script::open(text, nodes, names, lines, pool, journal);
     }
     export_list::open(text, nodes, names, lines, pool, journal)
 }
 
 // Whether a text's line ends with these counts, or, if it is an export list's, with the text.
-fn same_counts(line: &[u8], at: usize, source: u64, versions: u8, parents: u8) -> bool {
+fn same_counts(line: &[u8], at: usize, is_script: bool, versions: u8, parents: u8) -> bool {
     if line.len() < at {
-        return source != 0;
+        return !is_script;
     }
-    source == 0 && byte_or_zero(line, at) == versions && ends_with(&line[at..], 2, parents)
+    is_script && byte_or_zero(line, at) == versions && ends_with(&line[at..], 2, parents)
 }
 
 // Whether a line is one of a text that is opened, and ends with its counts.
-fn same_text(
-    line: &[u8],
-    at: usize,
-    source: u64,
-    c: Counts,
-    nodes: &[u32],
-    names: &[u8],
-    lines: &[u32],
-    pool: &[u8],
-    journal: &[u32],
-) -> bool {
-    let versions = count_answer(version_count(c, nodes, names, lines, pool, journal));
-    let parents = count_answer(parent_count(c, nodes, names, lines, pool, journal));
-    byte_or_zero(line, 0) == b'S' && same_counts(line, at, source, versions, parents)
+fn same_text(line: &[u8], at: usize, is_script: bool, book: Lent) -> bool {
+    let versions = count_answer(version_count(book));
+    let parents = count_answer(parent_count(book));
+    byte_or_zero(line, 0) == b'S' && same_counts(line, at, is_script, versions, parents)
 }
 
 // A text that is opened, and whether its counts are the same.
@@ -250,14 +178,14 @@ struct Book {
 }
 
 // The text of a line whose rest begins at this place.
-fn open_book(line: &[u8], at: usize, source: u64, text: &[u8]) -> Book {
+fn open_book(line: &[u8], at: usize, is_script: bool, text: &[u8]) -> Book {
     let mut nodes = [0u32; 30];
     let mut names = [0u8; 100];
     let mut rows = [0u32; 500];
     let mut pool = [0u8; 256];
     let mut journal = [0u32; 2];
     let opened = open(
-        source,
+        is_script,
         text,
         &mut nodes,
         &mut names,
@@ -268,7 +196,17 @@ fn open_book(line: &[u8], at: usize, source: u64, text: &[u8]) -> Book {
     let counts = opened.counts;
     let same = opened.refusal == 0
         && same_text(
-            line, at, source, counts, &nodes, &names, &rows, &pool, &journal,
+            line,
+            at,
+            is_script,
+            Lent {
+                counts,
+                nodes: &nodes,
+                names: &names,
+                lines: &rows,
+                pool: &pool,
+                journal: &journal,
+            },
         );
     Book {
         same,
@@ -282,11 +220,10 @@ fn open_book(line: &[u8], at: usize, source: u64, text: &[u8]) -> Book {
 }
 
 fn open_text(line: &[u8]) -> Book {
-    let source = digit(line, 2);
-    let field = read_field(line, 4);
-    let bytes = field.bytes;
-    let n = field.len;
-    open_book(line, field.next, source, front(&bytes, n))
+    let mut room = [0u8; FIELD];
+    let field = read_field(line, 4, &mut room);
+    let is_script = digit(line, 2) == Some(0);
+    open_book(line, field.next, is_script, field.bytes)
 }
 
 fn ask_book(to: &impl Print, text: &[u8], from: Walk, book: Book) -> io::Result<Walk>
@@ -298,17 +235,15 @@ fn ask_book(to: &impl Print, text: &[u8], from: Walk, book: Book) -> io::Result<
     let rows = book.rows;
     let pool = book.pool;
     let journal = book.journal;
-    ask_all(
-        to,
-        text,
-        from,
-        book.counts,
-        &nodes,
-        &names,
-        &rows,
-        &pool,
-        &journal,
-    )
+    let lent = Lent {
+        counts: book.counts,
+        nodes: &nodes,
+        names: &names,
+        lines: &rows,
+        pool: &pool,
+        journal: &journal,
+    };
+    ask_all(to, text, from, lent)
 }
 
 // A text, and the questions that are asked of it.

@@ -28,38 +28,36 @@ const SHOWN: usize = 400;
 
 // Stores a byte at a place, and answers the place behind it; past the end nothing is stored.
 fn put(out: &mut [u8], at: usize, b: u8) -> usize {
-    if at < out.len() {
-        out[at] = b;
-        return at + 1;
+    match out.get_mut(at) {
+        Some(place) => {
+            *place = b;
+            at + 1
+        }
+        None => at,
     }
-    at
 }
 
 // Stores once more what stands from `start` to `end`.
 fn put_again(out: &mut [u8], start: usize, end: usize, from: usize) -> usize {
     let mut at = from;
-    let mut i = start;
-    while i < end {
+    for i in start..end {
         let b = byte_or_zero(out, i);
         at = put(out, at, b);
-        i += 1;
     }
     at
 }
 
-// Stores what stands from `start` to `end` until it stands there so many times, or `out` is full. So each turn stores a byte or is the last.
+// Stores what stands from `start` to `end` until it stands there so many times, or `out` is full.
 fn repeat(out: &mut [u8], start: usize, end: usize, times: u64) -> usize {
     if end <= start {
         return end;
     }
     let mut at = end;
-    let mut k: u64 = 1;
-    while k < times {
+    for _ in 1..times {
         if out.len() <= at {
             break;
         }
         at = put_again(out, start, end, at);
-        k += 1;
     }
     at
 }
@@ -67,17 +65,11 @@ fn repeat(out: &mut [u8], start: usize, end: usize, times: u64) -> usize {
 // A number in decimal digits.
 fn number_at(line: &[u8], from: usize) -> u64 {
     let mut n: u64 = 0;
-    let mut at = from;
-    while at < line.len() {
-        let d = digit(line, at);
-        if 9 < d {
-            break;
+    for at in from..line.len() {
+        match digit(line, at) {
+            Some(d) if n <= MOST => n = n * 10 + d,
+            _ => break,
         }
-        if MOST < n {
-            break;
-        }
-        n = n * 10 + d;
-        at += 1;
     }
     n
 }
@@ -86,36 +78,28 @@ fn number_at(line: &[u8], from: usize) -> u64 {
 fn past_blank(line: &[u8], from: usize) -> usize
     ensures { length line.now - result ≤ length line.now - from }
 {
-    let mut at = from;
-    while at < line.len() {
+    for at in from..line.len() {
         if line[at] == b' ' {
             return at + 1;
         }
-        at += 1;
     }
     line.len()
 }
 
-// The byte that two hex digits are.
+// The byte that two hex digits are, of which another byte is 0.
 fn byte_of(high: u8, low: u8) -> u8 {
-    hex_digit(high) % 16 * 16 + hex_digit(low) % 16
+    hex_digit(high).unwrap_or(0) * 16 + hex_digit(low).unwrap_or(0)
 }
 
 // The byte that a letter behind `\` means.
 fn meant(b: u8) -> u8 {
-    if b == b'n' {
-        return b'\n';
+    match b {
+        b'n' => b'\n',
+        b'r' => b'\r',
+        b't' => b'\t',
+        b'f' => 12,
+        _ => b,
     }
-    if b == b'r' {
-        return b'\r';
-    }
-    if b == b't' {
-        return b'\t';
-    }
-    if b == b'f' {
-        return 12;
-    }
-    b
 }
 
 // A byte that is written behind `\`, and the place behind it.
@@ -175,20 +159,6 @@ fn expand(line: &[u8], out: &mut [u8]) -> usize {
     end
 }
 
-fn same_bytes(a: &[u8], b: &[u8]) -> bool {
-    if a.len() != b.len() {
-        return false;
-    }
-    let mut i = 0;
-    while i < a.len() {
-        if a[i] != byte_or_zero(b, i) {
-            return false;
-        }
-        i += 1;
-    }
-    true
-}
-
 // How many bytes an input's output is, in the room that verlist has.
 fn list(text: &[u8], out: &mut [u8]) -> usize {
     let mut nodes = [0u32; 3072];
@@ -222,7 +192,7 @@ fn list_case(input: &[u8], output: &[u8], out: &mut [u8]) -> usize {
 fn same_output(told: &[u8], output: &[u8]) -> bool {
     let mut expected = [0u8; ROOM];
     let n = expand(output, &mut expected);
-    byte_or_zero(output, 0) == b'>' && same_bytes(told, front(&expected, n))
+    byte_or_zero(output, 0) == b'>' && told == front(&expected, n)
 }
 
 // What came, where it differs.

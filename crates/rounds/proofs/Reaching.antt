@@ -4,7 +4,7 @@ use Prim.Native.Nat.{ℕ, ◌+◌, ◌≤◌}
 use mathlib.Core.Path.{◌≡◌, refl, sym, ap, subst, ◌∙◌}
 use mathlib.Core.List.{List, [], ◌∷◌, ◌++◌}
 use mathlib.Core.Bool.{Bool, true, false}
-use mathlib.Core.Option.{some}
+use Rattle.std.specs.Prelude.{Option, Some, None}
 use native.Mathlib.Omega.{arith}
 use borrow.Author.Tests.{eqb-true, le-leb}
 use lib.Dec.{eqb}
@@ -54,16 +54,16 @@ module _ (s : List ℕ) (b : Buffers) (w : Book) (k : eqb w.kind rust ≡ false)
   seated_call : (x : Lent) → Seated b w x → (q : Call) → Seated b w (lent_after x q)
   seated_call x t q = record { desk = _; held = held_after b w k t.desk x t.held q }
 
-  seated_step : (x : Lent) → Seated b w x → (l : List ℕ) (m : Command)
+  seated_step : (x : Lent) → Seated b w x → (l : List ℕ) (m : Option Command)
       → Seated b w (lent_step (step s x.counts x.buffers (view x.counts x.buffers) l m))
   unfolding step edit_step edit_asked question_step lent_after change
-  seated_step x t l (command.Edits (edit.Add node section language at)) = seated_call x t (adds node section language (drop at l))
-  seated_step x t l (command.Edits (edit.Strike line)) = seated_call x t (strikes line)
-  seated_step x t l (command.Edits edit.Undo) = seated_call x t undoes
-  seated_step x t l (command.Edits edit.Settle) = seated_call x t settles
-  seated_step x t l (command.Edits (edit.Symbol at bare)) = seated_call x t (adds_symbol (drop at l) bare)
-  seated_step x t l (command.Asks q) = t
-  seated_step x t l command.Unknown = t
+  seated_step x t l (Some (command.Edits (edit.Add node section language at))) = seated_call x t (adds node section language (drop at l))
+  seated_step x t l (Some (command.Edits (edit.Strike line))) = seated_call x t (strikes line)
+  seated_step x t l (Some (command.Edits edit.Undo)) = seated_call x t undoes
+  seated_step x t l (Some (command.Edits edit.Settle)) = seated_call x t settles
+  seated_step x t l (Some (command.Edits (edit.Symbol at bare))) = seated_call x t (adds_symbol (drop at l) bare)
+  seated_step x t l (Some (command.Asks q)) = t
+  seated_step x t l None = t
 
   seated_lines : (ls : List (List ℕ)) (x : Lent) → Seated b w x → Seated b w (lines_lent s x ls)
   unfolding lines_lent line_step
@@ -78,15 +78,15 @@ module _ (s : List ℕ) (b : Buffers) (w : Book) (k : eqb w.kind rust ≡ true) 
       let j = (both (kind_good w) _ (both (nodes_good w.nodes) _ v.sane).1).1 in
       rw e at j
 
-  stays : (l : List ℕ) (m : Command) → lent_step (step s (counts_of w) (laid_out b w) (some w) l m) ≡ lent_book b w
+  stays : (l : List ℕ) (m : Option Command) → lent_step (step s (counts_of w) (laid_out b w) (Some w) l m) ≡ lent_book b w
   unfolding step edit_step edit_asked question_step add_asked strike_asked undo_asked settle_asked settled symbol_asked after counts_after
-  stays l (command.Edits (edit.Add node section language at)) = rw k
-  stays l (command.Edits (edit.Strike line)) = rw k
-  stays l (command.Edits edit.Undo) = rw e
-  stays l (command.Edits edit.Settle) = rw (all_stand, laid_out_same (laid_out b w) b w (laid_out-rooms b w v.fits))
-  stays l (command.Edits (edit.Symbol at bare)) = let z : w.kind ≡ rust = eqb-true w.kind rust k in rw z
-  stays l (command.Asks q) = refl
-  stays l command.Unknown = refl
+  stays l (Some (command.Edits (edit.Add node section language at))) = rw k
+  stays l (Some (command.Edits (edit.Strike line))) = rw k
+  stays l (Some (command.Edits edit.Undo)) = rw e
+  stays l (Some (command.Edits edit.Settle)) = rw (all_stand, laid_out_same (laid_out b w) b w (laid_out-rooms b w v.fits))
+  stays l (Some (command.Edits (edit.Symbol at bare))) = let z : w.kind ≡ rust = eqb-true w.kind rust k in rw z
+  stays l (Some (command.Asks q)) = refl
+  stays l None = refl
 
   stays-line : (l : List ℕ) → line_lent s (lent_book b w) l ≡ lent_book b w
   unfolding line_step
@@ -100,7 +100,7 @@ module _ (s : List ℕ) (b : Buffers) (w : Book) (k : eqb w.kind rust ≡ true) 
 -- ---- either way there is a book, in buffers with the rooms of b
 record Holding (b : Buffers) (x : Lent) : Type 0 where
   book : Book
-  viewed : view x.counts x.buffers ≡ some book
+  viewed : view x.counts x.buffers ≡ Some book
   rooms : Rooms x.buffers b
 
 holding-lines : (how : How) (b : Buffers) (s : List ℕ) (w : Book) → Viewable b w → w.edits ≡ [] → (ls : List (List ℕ)) → Holding b (lines_lent s (lent_book b w) ls)

@@ -7,13 +7,13 @@ use Rattle.lists.specs.Front.{front}
 use Rattle.input.specs.Splitting.{input_limit, lines_in}
 use Rattle.book.specs.declared.Counts.{Counts}
 use Rattle.book.specs.Layout.{Buffers}
-use Rattle.desk_commands.specs.Parts.{line_end}
+use Rattle.input.specs.Splitting.{line_end}
 use Rattle.histories.specs.Histories.{Lent}
 use Rattle.desk.specs.declared.answering.Ran.{Ran}
 use Rattle.desk.specs.Desk.{line_leaves, line_printed, line_ran, line_step}
 use Rattle.rounds.specs.Rounds.{Reached, line_lent, lines_lent, printing_room}
 use Rattle.input.proofs.Cuts.{no_lines_from}
-use Rattle.desk_commands.proofs.Cuts.{lines_from}
+use Rattle.input.proofs.Ends.{lines_from}
 use Rattle.rounds.proofs.Reaching.{no_line_lacks_room, reached_on}
 
 -- a line that is run in the room for printing leaves what `line_lent` says

@@ -2,9 +2,9 @@
 use Prim.Native.Nat.{ℕ, ◌<◌, ◌≤◌}
 use mathlib.Core.Path.{◌≡◌, refl, sym, ◌∙◌}
 use mathlib.Core.List.{List, [], ◌++◌}
-use mathlib.Core.Bool.{Bool, true, false, not}
+use mathlib.Core.Bool.{Bool, true, false}
 use native.Mathlib.Omega.{arith}
-use borrow.Author.Tests.{le-leb, leb-true, lt-leb, not-false, not-true}
+use borrow.Author.Tests.{le-leb, leb-true, lt-leb}
 use lib.Dec.{leb}
 use lib.ListN.{length, take, drop}
 use lib.Seq.{take-length}
@@ -16,7 +16,9 @@ use Rattle.pattern.specs.Storing.{stored}
 use Rattle.classes.specs.declared.Class.{Class}
 use Rattle.classes.specs.declared.Class.TheVariants.{All}
 use Rattle.storing.specs.declared.Stored.{Stored}
-use Rattle.storing.specs.declared.Stored.TheVariants.{As, Refused}
+use Rattle.std.specs.Prelude.{Result, Ok, Err}
+use Rattle.numbers.specs.declared.Refusal.{Refusal}
+use Rattle.numbers.specs.declared.Refusal.TheVariants as no
 use Rattle.storing.specs.Keeping.{Keep, kept, keep_glob}
 use Rattle.storing.specs.Answers.{keep_answer, keep_buffer}
 use Rattle.storing.proofs.Keeping.{glob-refused, glob-kept}
@@ -24,7 +26,7 @@ use Rattle.storing.proofs.Keeping.{glob-refused, glob-kept}
 module _ (d : List ℕ) where
   -- the bytes b, which are n
   module _ (k : Class) (b : List ℕ) (n : ℕ) (e : n ≡ length b) where
-    pub full_answer : length d < n → Refused 8 ≡ keep_answer (kept k b) (length d)
+    pub full_answer : length d < n → Err no.NoRoom ≡ keep_answer (kept k b) (length d)
     unfolding keep_answer
     full_answer h = rw (lt-leb (length b) (length d) (omega arith))
 
@@ -32,7 +34,7 @@ module _ (d : List ℕ) where
     unfolding keep_buffer
     full_buffer h = rw (lt-leb (length b) (length d) (omega arith))
 
-    pub room_answer : n ≤ length d → As k n ≡ keep_answer (kept k b) (length d)
+    pub room_answer : n ≤ length d → Ok (record { class = k; size = n }) ≡ keep_answer (kept k b) (length d)
     unfolding keep_answer
     room_answer h = rw (le-leb (length b) (length d) (omega arith), e)
 
@@ -40,36 +42,36 @@ module _ (d : List ℕ) where
     unfolding keep_buffer
     room_buffer h d' f = rw (le-leb (length b) (length d) (omega arith)) f
 
-  -- a glob; n is what `pattern_refusal` answers
-  module _ (e : Edition) (k : Class) (t : List ℕ) (n : ℕ) (q : n ≡ refusal e (stored e t)) where
-    module _ (z : n ≡ 0 → ⊥) where
-      pub glob_refused_answer : Refused n ≡ keep_answer (keep_glob e k t) (length d)
+  -- a glob; o is what `pattern_refusal` answers
+  module _ (e : Edition) (k : Class) (t : List ℕ) (o : Result (Unit {0}) Refusal) (q : o ≡ refusal e (stored e t)) where
+    module _ (n : Refusal) (z : o ≡ Err n) where
+      pub glob_refused_answer : Err n ≡ keep_answer (keep_glob e k t) (length d)
       unfolding keep_answer
-      glob_refused_answer = rw (glob-refused e k t n q z)
+      glob_refused_answer = rw (glob-refused e k t o q n z)
 
       pub glob_refused_buffer : d ≡ keep_buffer (keep_glob e k t) d
       unfolding keep_buffer
-      glob_refused_buffer = rw (glob-refused e k t n q z)
+      glob_refused_buffer = rw (glob-refused e k t o q n z)
 
-    module _ (z : n ≡ 0) where
+    module _ (u : Unit {0}) (z : o ≡ Ok u) where
       taken : keep_glob e k t ≡ kept k (stored e t)
-      taken = glob-kept e k t n q z
+      taken = glob-kept e k t o q u z
 
       -- and r what `has_room` does
       module _ (r : Bool) (l : r ≡ leb (length (stored e t)) (length d)) where
-        pub glob_full_answer : not r ≡ true → Refused 8 ≡ keep_answer (keep_glob e k t) (length d)
+        pub glob_full_answer : r ≡ false → Err no.NoRoom ≡ keep_answer (keep_glob e k t) (length d)
         unfolding keep_answer
-        glob_full_answer h = rw (taken, ← l, not-true r h)
+        glob_full_answer h = rw (taken, ← l, h)
 
-        pub glob_full_buffer : not r ≡ true → d ≡ keep_buffer (keep_glob e k t) d
+        pub glob_full_buffer : r ≡ false → d ≡ keep_buffer (keep_glob e k t) d
         unfolding keep_buffer
-        glob_full_buffer h = rw (taken, ← l, not-true r h)
+        glob_full_buffer h = rw (taken, ← l, h)
 
-        module _ (h : not r ≡ false) where
+        module _ (h : r ≡ true) where
           pub glob_fits : length (stored e t) ≤ length d
-          glob_fits = leb-true (length (stored e t)) (length d) (sym l ∙ not-false r h)
+          glob_fits = leb-true (length (stored e t)) (length d) (sym l ∙ h)
 
-          pub glob_room_answer : (m : ℕ) → m ≡ length (stored e t) → As k m ≡ keep_answer (keep_glob e k t) (length d)
+          pub glob_room_answer : (m : ℕ) → m ≡ length (stored e t) → Ok (record { class = k; size = m }) ≡ keep_answer (keep_glob e k t) (length d)
           glob_room_answer m q = rw taken (room_answer k (stored e t) m q (omega (arith, q, glob_fits)))
 
           pub glob_room_buffer : (d' : List ℕ) → d' ≡ front (stored e t) d → d' ≡ keep_buffer (keep_glob e k t) d
@@ -77,7 +79,7 @@ module _ (d : List ℕ) where
 
   -- nothing is stored
   module _ (x : Keep) (q : x ≡ kept All []) where
-    pub all_answer : As All 0 ≡ keep_answer x (length d)
+    pub all_answer : Ok (record { class = All; size = 0 }) ≡ keep_answer x (length d)
     all_answer = rw q (room_answer All [] 0 refl (omega arith))
 
     pub all_buffer : d ≡ keep_buffer x d
@@ -85,7 +87,7 @@ module _ (d : List ℕ) where
 
   -- what is kept is said in two ways, x and y
   module _ (x y : Keep) where
-    pub same_answer : (r : Stored) → r ≡ keep_answer y (length d) → x ≡ y → r ≡ keep_answer x (length d)
+    pub same_answer : (r : Result Stored Refusal) → r ≡ keep_answer y (length d) → x ≡ y → r ≡ keep_answer x (length d)
     same_answer r a q = rw q a
 
     pub same_buffer : (d' : List ℕ) → d' ≡ keep_buffer y d → x ≡ y → d' ≡ keep_buffer x d

@@ -12,7 +12,9 @@ use lib.Dec.{eqb, ltb}
 use lib.ListN.{length, get_or, take, drop, length-take, length-drop, drop_of_length-le}
 use lib.Seq.{drop-cons, drop-drop}
 use Rattle.numbers.specs.Limits.{over, token_limit}
-use Rattle.numbers.specs.Refusals.{too_long}
+use Rattle.std.specs.Prelude.{Result, Ok, Err}
+use Rattle.numbers.specs.declared.Refusal.{Refusal}
+use Rattle.numbers.specs.declared.Refusal.TheVariants as no
 use Rattle.lists.specs.Pieces.{piece}
 use Rattle.lists.proofs.PiecesLaws.{pieces-cons, pieces_end, pieces-few}
 use Rattle.pattern.specs.Storing.{stored, stored_byte, negated, negated_from}
@@ -103,15 +105,15 @@ pub stored-few : (e : Edition) (s : List ℕ) → length (stored e s) ≤ length
 unfolding stored negated squeezed
 stored-few e s = omega (arith, squeezed-few e 0 false (negated_from false s), length-negated false s)
 
--- ---- a glob; n is what `pattern_refusal` answers
-module _ (e : Edition) (k : Class) (t : List ℕ) (n : ℕ) (q : n ≡ refusal e (stored e t)) where
-  pub glob-refused : (n ≡ 0 → ⊥) → keep_glob e k t ≡ refused n
+-- ---- a glob; r is what `pattern_refusal` answers
+module _ (e : Edition) (k : Class) (t : List ℕ) (r : Result (Unit {0}) Refusal) (q : r ≡ refusal e (stored e t)) where
+  pub glob-refused : (n : Refusal) → r ≡ Err n → keep_glob e k t ≡ refused n
   unfolding keep_glob keep_when
-  glob-refused h = rw (← q, ne_eqb n 0 h)
+  glob-refused n h = rw (← q, h)
 
-  pub glob-kept : n ≡ 0 → keep_glob e k t ≡ kept k (stored e t)
+  pub glob-kept : (u : Unit {0}) → r ≡ Ok u → keep_glob e k t ≡ kept k (stored e t)
   unfolding keep_glob keep_when
-  glob-kept h = rw (← q, eq-eqb n 0 h)
+  glob-kept u h = rw (← q, h)
 
 -- ---- without a look at quotes; b is what `is_lone_star` answers, and k what `analyze_glob_pattern` does
 module _ (e : Edition) (t : List ℕ) (b : Bool) (l : b ≡ lone_star t) where
@@ -146,7 +148,7 @@ module _ (e : Edition) (t : List ℕ) (b : Bool) (l : b ≡ lone_star t) where
 
 -- ---- the whole token; b is what `is_quoted` answers
 module _ (e : Edition) (t : List ℕ) where
-  pub keep-over : token_limit < length t → keep e t ≡ refused too_long
+  pub keep-over : token_limit < length t → keep e t ≡ refused no.TooLong
   unfolding keep
   keep-over h = rw (lt-ltb token_limit (length t) h)
 
@@ -177,11 +179,11 @@ unquoted-few t = simp (length-take, length-drop) (omega arith)
 
 glob-few : (e : Edition) (k : Class) (t : List ℕ) → length (bytes (keep_glob e k t)) ≤ length t
 unfolding keep_glob keep_when
-glob-few e k t = few (eqb (refusal e (stored e t)) 0)
+glob-few e k t = few (refusal e (stored e t))
   where
-    few : (x : Bool) → length (bytes (cond x (kept k (stored e t)) (refused (refusal e (stored e t))))) ≤ length t
-    few true = omega (arith, stored-few e t)
-    few false = omega arith
+    few : (x : Result (Unit {0}) Refusal) → length (bytes (keep_when x k (stored e t))) ≤ length t
+    few (Ok _) = omega (arith, stored-few e t)
+    few (Err n) = omega arith
 
 as_few : (e : Edition) (k : Class) (t : List ℕ) → length (bytes (keep_as e k t)) ≤ length t
 unfolding keep_as
@@ -209,22 +211,23 @@ keep-few e t = few (ltb token_limit (length t)) refl
         rw (within e t l) (omega (arith, as_few e (class_of t) (inside_kept t), inside-few t))
 
 -- ---- what is kept has the token's class
-when-class : (x : Bool) (n : ℕ) (s : List ℕ) {j k : Class} {b : List ℕ} → cond x (kept j s) (refused n) ≡ kept k b → k ≡ j
-when-class true n s h = cc
-when-class false n s h = let z : ◌≡◌ {A = ℕ} 0 1 = cc in absurd (omega arith)
+when-class : (x : Result (Unit {0}) Refusal) (s : List ℕ) {j k : Class} {b : List ℕ} → keep_when x j s ≡ kept k b → k ≡ j
+unfolding keep_when
+when-class (Ok _) s h = cc
+when-class (Err n) s h = let z : ◌≡◌ {A = ℕ} 0 1 = cc in absurd (omega arith)
 
 as_class : (e : Edition) (j : Class) (t : List ℕ) {k : Class} {b : List ℕ} → keep_as e j t ≡ kept k b → k ≡ j
 unfolding keep_as keep_glob keep_when
 as_class e Exact t h = cc
 as_class e Escaped t h = cc
-as_class e NonStar t h = when-class (eqb (refusal e (stored e t)) 0) _ _ h
-as_class e Star t h = when-class (eqb (refusal e (stored e t)) 0) _ _ h
+as_class e NonStar t h = when-class (refusal e (stored e t)) _ h
+as_class e Star t h = when-class (refusal e (stored e t)) _ h
 as_class e All t h = cc
 
 pub kept-class : (e : Edition) (t : List ℕ) {k : Class} {b : List ℕ} → keep e t ≡ kept k b → k ≡ class_of t
 unfolding keep
 kept-class e t {k} {b} = go (over token_limit t)
   where
-    go : (x : Bool) → cond x (refused too_long) (keep_as e (class_of t) (inside_kept t)) ≡ kept k b → k ≡ class_of t
+    go : (x : Bool) → cond x (refused no.TooLong) (keep_as e (class_of t) (inside_kept t)) ≡ kept k b → k ≡ class_of t
     go true h = let w : ◌≡◌ {A = ℕ} 0 1 = cc in absurd (omega arith)
     go false h = as_class e (class_of t) (inside_kept t) h

@@ -3,9 +3,12 @@
 use Prim.Native.Nat.{ℕ, zero, suc, ◌+◌, ◌-◌, ◌<◌, ◌≤◌}
 use mathlib.Core.Path.{◌≡◌, refl, sym, ap, ◌∙◌}
 use mathlib.Core.List.{List, [], ◌∷◌}
-use mathlib.Core.Bool.{Bool, true, false, cond, ◌&&◌}
+use mathlib.Core.Bool.{Bool, true, false, not, cond, ◌&&◌, false≢true}
+use Rattle.std.specs.Prelude.{Option, Some, None}
+use Rattle.std.specs.Option.{is_some, option_eq}
+use Rattle.std.specs.Bool.{then_some}
 use native.Mathlib.Omega.{arith}
-use borrow.Author.Tests.{eq-eqb, le-leb, ne_eqb}
+use borrow.Author.Tests.{eq-eqb, eqb-true, le-leb, ne_eqb, not-false}
 use mir.Syntax.{w64}
 use mir.Val.{Fits}
 use lib.Dec.{eqb, leb}
@@ -16,7 +19,7 @@ use Rattle.lists.specs.Same.{same}
 use Rattle.lists.proofs.SameLaws.{same_lengths}
 use Rattle.lists.proofs.FrontLaws.{Written, written_start, written-room, written_more, written_end, written_count}
 use Rattle.numbers.specs.declared.Edition.{Edition}
-use Rattle.pattern.specs.Patterns.{between, opened}
+use Rattle.pattern.specs.Patterns.{between}
 use Rattle.pattern.specs.Post.{mark_as}
 use Rattle.pattern.specs.Storing.{stored_byte, negated_from, negated, stored}
 use Rattle.pattern.specs.Runs.{squeezed, squeezed_past}
@@ -26,7 +29,7 @@ use Rattle.pattern.proofs.Stored.{length-negated, sign-stored}
 use Rattle.pattern_check.proofs.Negations.{token_more}
 use Rattle.storing.specs.declared.runs.Walk.{Walk}
 use Rattle.storing.specs.declared.runs.Step.{Step}
-use Rattle.storing.specs.Post.{at_start, bracket_more, kept_from, kept_step, put_by}
+use Rattle.storing.specs.Post.{at_start, bracket_more, kept_from, kept_step, put_before, put_by}
 use Rattle.storing.proofs.Keeping.{byte_here, negated_here, stored-few}
 
 -- ---- `bracket_length`: the mark behind the `[` at i takes m bytes, and what stands between x
@@ -76,11 +79,16 @@ module _ (e : Edition) (t : List ℕ) (i : ℕ) (w : Walk) (h : i < length t) (x
       is_star : eqb x 42 ≡ true
       is_star = rw (q, sign-stored 42 refl refl w.opened (get_or t i 0)) (eq-eqb (get_or t i 0) 42 k)
 
-      pub step-star : kept_from e w (drop i t)
-          ≡ cond w.starred (kept_from e (record { left = 0; starred = true; opened = eqb (get_or t i 0) 91 }) (drop (i + 1) t))
-          (x ∷ kept_from e (record { left = 0; starred = true; opened = eqb (get_or t i 0) 91 }) (drop (i + 1) t))
+      pub step-star : (o : Option ℕ) → o ≡ then_some (not w.starred) x
+          → kept_from e w (drop i t) ≡ put_before o (kept_from e (record { left = 0; starred = true; opened = eqb (get_or t i 0) 91 }) (drop (i + 1) t))
       unfolding kept_from squeezed_past
-      step-star = outside ∙ rw is_star
+      step-star o p = outside ∙ rw (is_star, p) (go w.starred)
+        where
+          go : (b : Bool) → cond b (squeezed_past e 0 true (negated_from (eqb (get_or t i 0) 91) (drop (i + 1) t)))
+              (x ∷ squeezed_past e 0 true (negated_from (eqb (get_or t i 0) 91) (drop (i + 1) t)))
+              ≡ put_before (then_some (not b) x) (squeezed_past e 0 true (negated_from (eqb (get_or t i 0) 91) (drop (i + 1) t)))
+          go true = refl
+          go false = refl
 
     module _ (n : get_or t i 0 ≡ 42 → ⊥) where
       no_star : eqb x 42 ≡ false
@@ -126,11 +134,17 @@ module _ {e : Edition} {t : List ℕ} {w : Walk} {i n : ℕ} (z : Kept e t w i n
   kept_all h = omega (arith, z.rest, ap length (kept_end e w t i h))
 
   module _ (r : Step) (q : kept_from e w (drop i t) ≡ put_by r (kept_from e r.then (drop (i + 1) t))) where
-    pub kept_more : r.dropped ≡ false → Kept e t r.then (i + 1) (n + 1)
-    kept_more h = record { few = omega (arith, z.few); rest = z.rest ∙ rw (q, h) (omega arith) }
+    kept_on : (o : Option ℕ) → r.put ≡ o → (m : ℕ) → m ≡ cond (is_some o) (n + 1) n → Kept e t r.then (i + 1) m
+    kept_on (Some x) h m k = record { few = omega (arith, z.few, k); rest = z.rest ∙ rw (q, h, k) (omega arith) }
+    kept_on None h m k = record { few = omega (arith, z.few, k); rest = z.rest ∙ rw (q, h, k) refl }
 
-    pub kept_less : r.dropped ≡ true → Kept e t r.then (i + 1) n
-    kept_less h = record { few = omega (arith, z.few); rest = z.rest ∙ rw (q, h) refl }
+    -- b is what `is_some` answers
+    module _ (b : Bool) (p : b ≡ is_some r.put) (m : ℕ) where
+      pub kept_more : b ≡ true → m ≡ n + 1 → Kept e t r.then (i + 1) m
+      kept_more h k = kept_on r.put refl m (rw (← p, h) k)
+
+      pub kept_less : b ≡ false → m ≡ n → Kept e t r.then (i + 1) m
+      kept_less h k = kept_on r.put refl m (rw (← p, h) k)
 
 -- ---- `has_room`: what is kept is no longer than the token
 module _ (e : Edition) (t : List ℕ) (room : ℕ) where
@@ -160,19 +174,19 @@ module _ {e : Edition} {t d l : List ℕ} {w : Walk} {i n : ℕ} (z : Copied e t
   copied_long = z.written.long
 
   module _ (r : Step) (q : kept_from e w (drop i t) ≡ put_by r (kept_from e r.then (drop (i + 1) t))) where
-    pub copied_less : r.dropped ≡ true → Copied e t d l r.then (i + 1) n
+    pub copied_less : r.put ≡ None → Copied e t d l r.then (i + 1) n
     copied_less h =
         let k : kept_from e w (drop i t) ≡ kept_from e r.then (drop (i + 1) t) = q ∙ rw h in
         record { few = omega (arith, z.few); written = rw k at z.written }
 
-    module _ (h : r.dropped ≡ false) (fits : length (stored e t) ≤ length d) where
-      next_put : kept_from e w (drop i t) ≡ r.put ∷ kept_from e r.then (drop (i + 1) t)
+    module _ (x : ℕ) (h : r.put ≡ Some x) (fits : length (stored e t) ≤ length d) where
+      next_put : kept_from e w (drop i t) ≡ x ∷ kept_from e r.then (drop (i + 1) t)
       next_put = q ∙ rw h
 
       pub copied_room : n < length l
       copied_room = written-room z.written fits (rw next_put (omega arith))
 
-      pub copied_more : Copied e t d (set l n r.put) r.then (i + 1) (n + 1)
+      pub copied_more : Copied e t d (set l n x) r.then (i + 1) (n + 1)
       copied_more = record {
         few = omega (arith, z.few);
         written = written_more z.written fits next_put;
@@ -192,19 +206,35 @@ module _ {e : Edition} {t : List ℕ} {w : Walk} {i : ℕ} (z : Unchanged e t w 
 
   module _ (h : i < length t) (r : Step) (q : kept_from e w (drop i t) ≡ put_by r (kept_from e r.then (drop (i + 1) t))) where
     -- a star that goes leaves less than there is
-    pub unchanged_less : r.dropped ≡ true → false ≡ same (stored e t) t
+    unchanged_less : r.put ≡ None → false ≡ same (stored e t) t
     unchanged_less d =
         let k : kept_from e w (drop i t) ≡ kept_from e r.then (drop (i + 1) t) = q ∙ rw d in
         let n = kept-few e r.then (drop (i + 1) t) in
         same_lengths (kept_from e w (drop i t)) (drop i t) (λ l. omega (arith, l, ap length k, n, length-drop i t, length-drop (i + 1) t)) ∙ sym z.rest
 
-    module _ (d : r.dropped ≡ false) where
-      compared : same (stored e t) t ≡ eqb r.put (get_or t i 0) && same (kept_from e r.then (drop (i + 1) t)) (drop (i + 1) t)
+    module _ (x : ℕ) (d : r.put ≡ Some x) where
+      compared : same (stored e t) t ≡ eqb x (get_or t i 0) && same (kept_from e r.then (drop (i + 1) t)) (drop (i + 1) t)
       unfolding same
       compared = z.rest ∙ rw (q, d, byte_here t i h)
 
-      pub unchanged_other : (r.put ≡ get_or t i 0 → ⊥) → false ≡ same (stored e t) t
-      unchanged_other n = sym (compared ∙ rw (ne_eqb r.put (get_or t i 0) n))
+      unchanged_put : (x ≡ get_or t i 0 → ⊥) → false ≡ same (stored e t) t
+      unchanged_put n = sym (compared ∙ rw (ne_eqb x (get_or t i 0) n))
 
-      pub unchanged_more : r.put ≡ get_or t i 0 → Unchanged e t r.then (i + 1)
-      unchanged_more n = record { rest = compared ∙ rw (eq-eqb r.put (get_or t i 0) n) }
+      unchanged_as : x ≡ get_or t i 0 → Unchanged e t r.then (i + 1)
+      unchanged_as n = record { rest = compared ∙ rw (eq-eqb x (get_or t i 0) n) }
+
+    -- b is what `!=` answers of what is put and what stands there
+    module _ (b : Bool) (p : b ≡ not (option_eq eqb r.put (Some (get_or t i 0)))) where
+      pub unchanged_other : b ≡ true → false ≡ same (stored e t) t
+      unchanged_other n = go r.put refl
+        where
+          go : (o : Option ℕ) → r.put ≡ o → false ≡ same (stored e t) t
+          go None h = unchanged_less h
+          go (Some x) h = unchanged_put x h (λ k. absurd (false≢true (sym (rw (h, eq-eqb x (get_or t i 0) k) at p) ∙ n)))
+
+      pub unchanged_more : b ≡ false → Unchanged e t r.then (i + 1)
+      unchanged_more n = go r.put refl
+        where
+          go : (o : Option ℕ) → r.put ≡ o → Unchanged e t r.then (i + 1)
+          go None h = absurd (false≢true (sym n ∙ rw h at p))
+          go (Some x) h = unchanged_as x h (eqb-true x (get_or t i 0) (not-false (eqb x (get_or t i 0)) (sym (rw h at p) ∙ n)))

@@ -1,7 +1,8 @@
--- What is kept of a token, or the number that refuses it. Assumes nothing.
-use Rattle.std.specs.Prelude.{ℕ, List, [], ◌∷◌, Bool, cond, eqb}
+-- What is kept of a token, or what refuses it. Assumes nothing.
+use Rattle.std.specs.Prelude.{Result, Ok, Err, ℕ, List, [], ◌∷◌, Bool, cond, eqb}
 use Rattle.numbers.specs.Limits.{over, token_limit}
-use Rattle.numbers.specs.Refusals.{no_room, too_long}
+use Rattle.numbers.specs.declared.Refusal.{Refusal}
+use Rattle.numbers.specs.declared.Refusal.TheVariants as no
 use Rattle.numbers.specs.Signs.{backslash}
 use Rattle.lists.specs.Pieces.{piece, Reader, pieces}
 use Rattle.numbers.specs.declared.Edition.{Edition}
@@ -19,18 +20,19 @@ unescaped c (d ∷ s) = cond (eqb c backslash) (piece d 1) (piece c 0)
 unfoldable pub unescape : List ℕ → List ℕ
 unescape t = pieces unescaped t
 
--- a class and the bytes that are stored, or a refusal's number
+-- a class and the bytes that are stored, or a refusal
 pub data Keep : Type 0 where
   kept : Class → List ℕ → Keep
-  refused : ℕ → Keep
+  refused : Refusal → Keep
 
--- what is made of it, where its bytes have room, and of the number that refuses it: "its 1, 5, 6, 8, in this order"
-abbrev pub kept_where : {A : Type 0} → (List ℕ → Bool) → (Class → List ℕ → A) → (ℕ → A) → Keep → A
-kept_where fits made says (kept k b) = cond (fits b) (made k b) (says no_room)
+-- what is made of it, where its bytes have room, and of the refusal: "its 1, 5, 6, 8, in this order"
+abbrev pub kept_where : {A : Type 0} → (List ℕ → Bool) → (Class → List ℕ → A) → (Refusal → A) → Keep → A
+kept_where fits made says (kept k b) = cond (fits b) (made k b) (says no.NoRoom)
 kept_where fits made says (refused n) = says n
 
-unfoldable pub keep_when : ℕ → Class → List ℕ → Keep
-keep_when n k b = cond (eqb n 0) (kept k b) (refused n)
+unfoldable pub keep_when : Result (Unit {0}) Refusal → Class → List ℕ → Keep
+keep_when (Ok _) k b = kept k b
+keep_when (Err n) k b = refused n
 
 -- "A glob must be UTF-8; each `[^` is stored as `[!`", and 02, request 01: "a run outside a bracket is kept as one star". "No closing `]`: refused", asked of
 -- what would be stored
@@ -55,4 +57,4 @@ inside_kept t = cond (quoted t) (unquoted t) t
 
 -- "trimmed token … over its limit", quotes counted, then by its class
 unfoldable pub keep : Edition → List ℕ → Keep
-keep e t = cond (over token_limit t) (refused too_long) (keep_as e (class_of t) (inside_kept t))
+keep e t = cond (over token_limit t) (refused no.TooLong) (keep_as e (class_of t) (inside_kept t))

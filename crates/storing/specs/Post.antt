@@ -1,7 +1,7 @@
 -- What the inner functions of `runs` answer, for the proofs of those that call them: how a walk over a token's bytes stands in the definitions. What a user is
 -- promised does not lean on it.
 -- Assumes nothing.
-use Rattle.std.specs.Prelude.{ℕ, ◌+◌, List, [], ◌∷◌, Bool, true, false, not, cond, ◌&&◌, eqb, length, drop}
+use Rattle.std.specs.Prelude.{Option, Some, None, ℕ, ◌+◌, List, [], ◌∷◌, Bool, true, false, not, cond, ◌&&◌, eqb, length, drop}
 use Rattle.numbers.specs.Signs.{asterisk, caret, opening_bracket}
 use Rattle.numbers.specs.declared.Edition.{Edition}
 use Rattle.pattern.specs.Patterns.{between}
@@ -32,12 +32,16 @@ abbrev pub at_start : Walk
 at_start = record { left = 0; starred = false; opened = false }
 
 -- what a step puts before what is kept behind it
+abbrev pub put_before : Option ℕ → List ℕ → List ℕ
+put_before None s = s
+put_before (Some x) s = x ∷ s
+
 abbrev pub put_by : Step → List ℕ → List ℕ
-put_by r s = cond r.dropped s (r.put ∷ s)
+put_by r s = put_before r.put s
 
 -- a byte that stays, with k bytes of its element left behind it; b says that it is a `[`
 abbrev pub kept_step : ℕ → ℕ → Bool → Step
-kept_step x k b = record { put = x; dropped = false; then = record { left = k; starred = false; opened = b } }
+kept_step x k b = record { put = Some x; then = record { left = k; starred = false; opened = b } }
 
 -- how many bytes a token's bracket takes behind its `[`, with its `]`
 abbrev pub bracket_more : Edition → List ℕ → ℕ

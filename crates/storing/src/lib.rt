@@ -10,16 +10,15 @@ ghost use Rattle.storing.specs.Keeping.{unescape, kept, keep, keep_glob, keep_sc
 ghost use Rattle.storing.specs.Answers.{Stores};
 
 use classes::{Class, analyze_glob_pattern, is_lone_star, is_quoted};
-use numbers::{Edition, NO_ROOM, TOKEN_LIMIT, TOO_LONG};
+use numbers::{Edition, Refusal, TOKEN_LIMIT};
 
 pub mod runs;
 
-// A token's class and how many bytes of a lent buffer hold what is stored of it, or the number that
-// refused it; then nothing was written.
+// What is stored of a token: its class, and how many bytes of a lent buffer hold it. Where a token is refused nothing was written.
 #[derive(Clone, Copy)]
-pub enum Stored {
-    As(Class, usize),
-    Refused(u32),
+pub struct Stored {
+    pub class: Class,
+    pub size: usize,
 }
 
 // Bytes at the front of a buffer that has room for them.
@@ -31,18 +30,21 @@ fn copy(bytes: &[u8], out: &mut [u8])
 }
 
 // Bytes that are stored as they are.
-fn store_exact(exact: &[u8], out: &mut [u8]) -> Stored
+fn store_exact(exact: &[u8], out: &mut [u8]) -> Result<Stored, Refusal>
     ensures { Stores (kept Class.Exact exact.now) out.old result out.new }
 {
-    let n = exact.len();
-    if out.len() < n {
-        return Stored::Refused(NO_ROOM);
+    if out.len() < exact.len() {
+        return Err(Refusal::NoRoom);
     }
     copy(exact, out);
-    Stored::As(Class::Exact, n)
+    Ok(Stored {
+        class: Class::Exact,
+        size: exact.len(),
+    })
 }
 
-// How many bytes `unescape_pattern` leaves: a `\` with a byte behind it goes, and that byte stays.
+// How many bytes `unescape_pattern` leaves: a `\` with a byte behind it goes, and that byte stays. A step is one byte or two: an iterator would be stepped by
+// hand too.
 fn unescaped_length(pattern: &[u8]) -> usize
     ensures { result ≡ length (unescape pattern.now) }
 {
@@ -82,67 +84,73 @@ fn copy_unescaped(src: &[u8], out: &mut [u8])
 }
 
 // An Escaped token, without its escapes; a final `\` stays.
-pub fn unescape_pattern(pattern: &[u8], out: &mut [u8]) -> Stored
+pub fn unescape_pattern(pattern: &[u8], out: &mut [u8]) -> Result<Stored, Refusal>
     ensures { Stores (kept Class.Escaped (unescape pattern.now)) out.old result out.new }
 {
-    let n = unescaped_length(pattern);
-    if out.len() < n {
-        return Stored::Refused(NO_ROOM);
+    let size = unescaped_length(pattern);
+    if out.len() < size {
+        return Err(Refusal::NoRoom);
     }
     copy_unescaped(pattern, out);
-    Stored::As(Class::Escaped, n)
+    Ok(Stored {
+        class: Class::Escaped,
+        size,
+    })
 }
 
 // A byte of a glob, where each `[^` becomes `[!`; `opened` says that a `[` stands just before it.
 fn with_negation(opened: bool, c: u8) -> u8
     ensures { result ≡ stored_byte opened c }
 {
-    if opened {
-        if c == b'^' {
-            return b'!';
-        }
-    }
-    c
+    if opened && c == b'^' { b'!' } else { c }
 }
 
 // A glob of the given class: its refusal, 5 or 6, or its bytes with each `[^` as `[!` and each run of stars outside
 // brackets as one.
-fn compile_glob_pattern(edition: Edition, class: Class, token: &[u8], out: &mut [u8]) -> Stored
+fn compile_glob_pattern(
+    edition: Edition,
+    class: Class,
+    token: &[u8],
+    out: &mut [u8],
+) -> Result<Stored, Refusal>
     ensures { Stores (keep_glob edition class token.now) out.old result out.new }
 {
-    let no = pattern_check::pattern_refusal(edition, token, true);
-    if no != 0 {
-        return Stored::Refused(no);
-    }
+    pattern_check::pattern_refusal(edition, token, true)?;
     if !runs::has_room(edition, token, out.len()) {
-        return Stored::Refused(NO_ROOM);
+        return Err(Refusal::NoRoom);
     }
-    let n = runs::copy_kept(edition, token, out);
-    Stored::As(class, n)
+    let size = runs::copy_kept(edition, token, out);
+    Ok(Stored { class, size })
 }
 
 // A token by its class, without a look at quotes.
-fn store_scanned(edition: Edition, token: &[u8], out: &mut [u8]) -> Stored
+fn store_scanned(edition: Edition, token: &[u8], out: &mut [u8]) -> Result<Stored, Refusal>
     ensures { Stores (keep_scanned edition token.now) out.old result out.new }
 {
     if is_lone_star(token) {
-        return Stored::As(Class::All, 0);
+        return Ok(Stored {
+            class: Class::All,
+            size: 0,
+        });
     }
     match analyze_glob_pattern(token) {
         Class::Exact => store_exact(token, out),
         Class::Escaped => unescape_pattern(token, out),
         Class::NonStar => compile_glob_pattern(edition, Class::NonStar, token, out),
         Class::Star => compile_glob_pattern(edition, Class::Star, token, out),
-        Class::All => Stored::As(Class::All, 0),
+        Class::All => Ok(Stored {
+            class: Class::All,
+            size: 0,
+        }),
     }
 }
 
 // A token, whole: its class and what is stored of it, or 1, 5, 6, 8, in this order.
-pub fn store_token(edition: Edition, token: &[u8], out: &mut [u8]) -> Stored
+pub fn store_token(edition: Edition, token: &[u8], out: &mut [u8]) -> Result<Stored, Refusal>
     ensures { Stores (keep edition token.now) out.old result out.new }
 {
     if TOKEN_LIMIT < token.len() {
-        return Stored::Refused(TOO_LONG);
+        return Err(Refusal::TooLong);
     }
     if is_quoted(token) {
         let end = token.len() - 1;

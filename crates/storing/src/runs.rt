@@ -13,13 +13,11 @@ use pattern::bracket::{between_length, mark_at};
 fn is_pair(before: u8, c: u8) -> bool
     ensures { result ≡ pair before c }
 {
-    if c == b'*' {
-        return before == b'*';
+    match c {
+        b'*' => before == b'*',
+        b'^' => before == b'[',
+        _ => false,
     }
-    if c == b'^' {
-        return before == b'[';
-    }
-    false
 }
 
 // Whether no two bytes of a token are such a pair. Most tokens have none, and are kept as they stand, wherever their brackets are.
@@ -27,14 +25,11 @@ fn is_plain(token: &[u8]) -> bool
     ensures { result ≡ plain token.now }
 {
     let mut before = 0;
-    let mut i = 0;
-    while i < token.len() {
-        let c = token[i];
-        if is_pair(before, c) {
+    for c in token {
+        if is_pair(before, *c) {
             return false;
         }
-        before = c;
-        i += 1;
+        before = *c;
     }
     true
 }
@@ -51,8 +46,7 @@ pub struct Walk {
 // What becomes of a byte: what is put for it, unless it is dropped, and where the walk stands behind it.
 #[derive(Clone, Copy)]
 pub struct Step {
-    pub put: u8,
-    pub dropped: bool,
+    pub put: Option<u8>,
     pub then: Walk,
 }
 
@@ -81,8 +75,7 @@ fn stays(put: u8, left: usize, opened: bool) -> Step
     ensures { result ≡ kept_step put left opened }
 {
     Step {
-        put,
-        dropped: false,
+        put: Some(put),
         then: Walk {
             left,
             starred: false,
@@ -103,8 +96,7 @@ fn step_at(edition: Edition, token: &[u8], i: usize, w: Walk) -> Step
     }
     if c == b'*' {
         return Step {
-            put,
-            dropped: w.starred,
+            put: (!w.starred).then_some(put),
             then: Walk {
                 left: 0,
                 starred: true,
@@ -123,16 +115,13 @@ fn kept_length(edition: Edition, token: &[u8]) -> usize
     ensures { result ≡ length (stored edition token.now) }
 {
     let mut w = start();
-    let mut i = 0;
     let mut n = 0;
-    while i < token.len() {
+    for i in 0..token.len() {
         let step = step_at(edition, token, i, w);
         w = step.then;
-        i += 1;
-        if step.dropped {
-            continue;
+        if step.put.is_some() {
+            n += 1;
         }
-        n += 1;
     }
     n
 }
@@ -141,11 +130,7 @@ fn kept_length(edition: Edition, token: &[u8]) -> usize
 pub fn has_room(edition: Edition, token: &[u8], room: usize) -> bool
     ensures { result ≡ leb (length (stored edition token.now)) room }
 {
-    if token.len() <= room {
-        return true;
-    }
-    let kept = kept_length(edition, token);
-    kept <= room
+    token.len() <= room || kept_length(edition, token) <= room
 }
 
 // Puts what is kept of a token at the front of a buffer that has room for it, and answers how many bytes that are.
@@ -158,17 +143,14 @@ pub fn copy_kept(edition: Edition, token: &[u8], out: &mut [u8]) -> usize
         return token.len();
     }
     let mut w = start();
-    let mut i = 0;
     let mut n = 0;
-    while i < token.len() {
+    for i in 0..token.len() {
         let s = step_at(edition, token, i, w);
         w = s.then;
-        i += 1;
-        if s.dropped {
-            continue;
+        if let Some(c) = s.put {
+            out[n] = c;
+            n += 1;
         }
-        out[n] = s.put;
-        n += 1;
     }
     n
 }
@@ -181,17 +163,12 @@ pub fn is_as_stored(edition: Edition, glob: &[u8]) -> bool
         return true;
     }
     let mut w = start();
-    let mut i = 0;
-    while i < glob.len() {
+    for i in 0..glob.len() {
         let here = step_at(edition, glob, i, w);
-        if here.dropped {
-            return false;
-        }
-        if here.put != glob[i] {
+        if here.put != Some(glob[i]) {
             return false;
         }
         w = here.then;
-        i += 1;
     }
     true
 }

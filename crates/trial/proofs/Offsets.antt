@@ -3,7 +3,7 @@ use Prim.Native.Nat.{ℕ, zero, suc, ◌+◌, ◌-◌}
 use mathlib.Core.Path.{◌≡◌, refl, sym, ap, ap₂, ◌∙◌}
 use mathlib.Core.List.{List, [], ◌∷◌, ◌++◌, append_assoc, append-nil, map-append}
 use mathlib.Core.Bool.{Bool, true, false, cond, ◌&&◌, not, true≢false}
-use mathlib.Core.Option.{Option, some, none}
+use Rattle.std.specs.Prelude.{Option, Some, None}
 use native.Mathlib.Omega.{arith}
 use borrow.Author.Tests.{eqb-true}
 use lib.Dec.{eqb, ltb}
@@ -140,7 +140,7 @@ module _ (b : Buffers) (s : List ℕ) where
       then-adds w (append b w 0 global l (part s p n)) (λ u. add_events b s u es o) (append-adds b w 0 global l (part s p n)) (λ u. events-add u es o)
   events-add w (Parent p n ∷ es) o = events-add w es o
 
-symbol-adds : (b : Buffers) (w : Book) (s : List ℕ) (bare : Bool) → Comes (SomeMore w) (symbol_asked b (some w) s bare)
+symbol-adds : (b : Buffers) (w : Book) (s : List ℕ) (bare : Bool) → Comes (SomeMore w) (symbol_asked b (Some w) s bare)
 unfolding symbol_asked add_reading
 symbol-adds b w s bare =
     let r = reading reld (symbol_place bare) s in
@@ -169,10 +169,10 @@ strike-offsets b w v i =
 
 -- ---- undo
 data Back (ks : List ℕ) : Option (List book.Line) → Type 0 where
-  back : {ms : List book.Line} → offsets ms ≡ ks → Back ks (some ms)
-  nowhere : Back ks none
+  back : {ms : List book.Line} → offsets ms ≡ ks → Back ks (Some ms)
+  nowhere : Back ks None
 
-back_cond : (ks : List ℕ) (ms : List book.Line) (t : Bool) → (t ≡ true → offsets ms ≡ ks) → Back ks (cond t (some ms) none)
+back_cond : (ks : List ℕ) (ms : List book.Line) (t : Bool) → (t ≡ true → offsets ms ≡ ks) → Back ks (cond t (Some ms) None)
 back_cond ks ms true f = back (f refl)
 back_cond ks ms false f = nowhere
 

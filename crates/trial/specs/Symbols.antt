@@ -1,11 +1,11 @@
 -- "`add_symbol` on an export list is one add per line, all or none." Assumes nothing.
-use Rattle.std.specs.Prelude.{ℕ, List, [], ◌∷◌, Bool, cond, eqb}
-use Rattle.std.proofs.Math.Option.{Option, some, none}
+use Rattle.std.specs.Prelude.{ℕ, List, [], ◌∷◌, Bool, cond, eqb, Option, Some, None}
 use Rattle.linker_script.specs.Parts.{part}
 use Rattle.numbers.specs.Editions.{reld}
 use Rattle.numbers.specs.Limits.{over, token_limit}
 use Rattle.numbers.specs.Marks.{global}
 use Rattle.numbers.specs.Refusals.{no_book, too_long, wrong_kind}
+use Rattle.reading_cursors.specs.declared.places.Place.{Place}
 use Rattle.reading_cursors.specs.declared.Event.{Event}
 use Rattle.reading_cursors.specs.declared.Event.TheVariants.{Node, Body, Section, Extern, Closed, Line, Parent}
 use Rattle.reading_cursors.specs.Places.{at_bare, at_symbol}
@@ -39,7 +39,7 @@ add_events b s w [] o = added_all w o
 add_events b s w (e ∷ es) o = on_change (add_event b s w e) (λ v. add_events b s v es o)
 
 -- "With `without_semicolon` …"
-abbrev pub symbol_place : Bool → ℕ
+abbrev pub symbol_place : Bool → Place
 symbol_place bare = cond bare at_bare at_symbol
 
 unfoldable pub add_reading : Buffers → List ℕ → Book → Reading → Change
@@ -47,8 +47,8 @@ add_reading b s w r = add_events b s w r.events r.outcome
 
 -- "Order: 14, 13, … 1, … then reading order"; "`add_symbol` on a version book" is 13, "text … over its limit" 1
 unfoldable pub symbol_asked : Buffers → Option Book → List ℕ → Bool → Change
-symbol_asked b none s bare = no no_book
-symbol_asked b (some w) s bare =
+symbol_asked b None s bare = no no_book
+symbol_asked b (Some w) s bare =
     cond (eqb w.kind export)
     (cond (over token_limit s) (no too_long) (add_reading b s w (reading reld (symbol_place bare) s)))
     (no wrong_kind)

@@ -2,15 +2,6 @@
 // buffers: specs/Changes.antt; of what it makes of the lines' offsets: specs/Offsets.antt, from document 02, request 02.
 #![tactic(auto)]
 
-use book::Counts;
-
-// The counts of the book behind the edit, or the number that says no.
-#[derive(Clone, Copy)]
-pub enum Edited {
-    Done(Counts),
-    Refused(u32),
-}
-
 // The first number of an edit's row.
 pub const ADD: u32 = 1;
 

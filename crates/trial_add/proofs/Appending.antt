@@ -15,8 +15,9 @@ use Rattle.packing.proofs.Packings.{bytes-laid, bytes_more, row_laid}
 use Rattle.numbers.specs.declared.Edition.{Edition}
 use Rattle.classes.specs.declared.Class.{Class}
 use Rattle.storing.specs.declared.Stored.{Stored}
-use Rattle.storing.specs.declared.Stored.TheVariants.{As}
-use Rattle.storing.specs.declared.Stored.TheVariants as stored
+use Rattle.numbers.specs.declared.Refusal.{Refusal}
+use Rattle.numbers.specs.declared.Refusal.TheVariants as no
+use Rattle.numbers.specs.Saying.{number}
 use Rattle.storing.specs.Answers.{keep_answer}
 use Rattle.classes.specs.Classes.{class_number}
 use Rattle.storing.specs.Keeping.{Keep, kept, refused, keep}
@@ -45,29 +46,28 @@ use Rattle.book_rooms.specs.Rooms.{Put, edit_row, fits_row, line_room, pool_room
 use Rattle.book_rooms.proofs.LineRooms.{edit_room_is, is_room, no_pool, no_row}
 use Rattle.book_rooms.proofs.Putting.{RefusedAs, room-both, room-length, room_limit, was_kept, was_refused}
 use Rattle.book_rooms.proofs.Rows.{edit_within, row_number, row_within}
-use Rattle.trial.specs.declared.Edited.{Edited}
-use Rattle.trial.specs.declared.Edited.TheVariants as answer
+use Rattle.std.specs.Prelude.{Result, Ok, Err}
 use Rattle.trial.specs.Changes.{Change, Makes, after, edited, no as says_no, to}
 use Rattle.trial.specs.Trial.{append, append_kept, unplaced, with_line}
 
 -- ---- what refuses a token that has no row: r is what `store_token` answers with no room at all
-module _ (x : Edition) (frame : Frame) (t : List ℕ) (y : x ≡ edition_of frame) (r : Stored) (u : r ≡ keep_answer (keep x t) 0) where
-  told : (K : Keep) (i : ℕ) → r ≡ keep_answer K 0 → r ≡ stored.Refused i → i ≡ unplaced K
+module _ (x : Edition) (frame : Frame) (t : List ℕ) (y : x ≡ edition_of frame) (r : Result Stored Refusal) (u : r ≡ keep_answer (keep x t) 0) where
+  told : (K : Keep) (i : Refusal) → r ≡ keep_answer K 0 → r ≡ Err i → number i ≡ unplaced K
   unfolding keep_answer
-  told (refused n) i v z = cc
+  told (refused n) i v z = let w : i ≡ n = cc in ap number w
   told (kept k []) i v z = let a : ◌≡◌ {A = ℕ} 0 1 = cc in absurd (omega arith)
-  told (kept k (b ∷ bs)) i v z = let w : r ≡ stored.Refused no_room = v ∙ rw (lt-leb (length (b ∷ bs)) 0 (omega arith)) in cc
+  told (kept k (b ∷ bs)) i v z = let w : r ≡ Err no.NoRoom = v ∙ rw (lt-leb (length (b ∷ bs)) 0 (omega arith)) in let q : i ≡ no.NoRoom = cc in ap number q
 
-  pub unplaced-refused : (i : ℕ) → r ≡ stored.Refused i → i ≡ unplaced (keep (edition_of frame) t)
-  unplaced-refused i z = rw (← y) (told (keep x t) i u z)
+  pub unplaced-refused : (i : Refusal) → r ≡ Err i → (v : ℕ) → v ≡ number i → v ≡ unplaced (keep (edition_of frame) t)
+  unplaced-refused i z v j = rw (← y) (j ∙ told (keep x t) i u z)
 
-  stored-told : (K : Keep) (k : Class) (i : ℕ) → r ≡ keep_answer K 0 → r ≡ As k i → no_room ≡ unplaced K
+  stored-told : (K : Keep) (s : Stored) → r ≡ keep_answer K 0 → r ≡ Ok s → no_room ≡ unplaced K
   unfolding keep_answer
-  stored-told (refused n) k i v z = let a : ◌≡◌ {A = ℕ} 0 1 = cc in absurd (omega arith)
-  stored-told (kept j bs) k i v z = refl
+  stored-told (refused n) s v z = let a : ◌≡◌ {A = ℕ} 0 1 = cc in absurd (omega arith)
+  stored-told (kept j bs) s v z = refl
 
-  pub unplaced-stored : (k : Class) (i : ℕ) → r ≡ As k i → no_room ≡ unplaced (keep (edition_of frame) t)
-  unplaced-stored k i z = rw (← y) (stored-told (keep x t) k i u z)
+  pub unplaced-stored : (s : Stored) → r ≡ Ok s → no_room ≡ unplaced (keep (edition_of frame) t)
+  unplaced-stored s z = rw (← y) (stored-told (keep x t) s u z)
 
 and_false : (x : Bool) → (x && false) ≡ false
 and_false true = refl
@@ -82,23 +82,23 @@ module _ {c : Counts} {b : Buffers} (layout : Layout c b (book_of c b)) where
   pool-asked = room-both b.pool c.pool layout.lines.byteroom layout.limits.pool
 
   -- the bytes that it put end within the pool's limit
-  pub append-ends : (K : Keep) (s : Stored) (q' : List ℕ) → Put K b.pool c.pool s q' → (k : Class) (i : ℕ) → s ≡ As k i → c.pool + i ≤ pool_limit
-  append-ends K s q' u k i z =
-      let w = was_kept K b.pool c.pool s q' k i pool-asked u z in
+  pub append-ends : (K : Keep) (s : Result Stored Refusal) (q' : List ℕ) → Put K b.pool c.pool s q' → (v : Stored) → s ≡ Ok v → c.pool + v.size ≤ pool_limit
+  append-ends K s q' u v z =
+      let w = was_kept K b.pool c.pool s q' v pool-asked u z in
       omega (arith, w.size, w.room, room_limit b.pool)
 
   module _ (node section language : ℕ) (t : List ℕ) where
     abbrev change : Keep → Change
     change K = append_kept b book node section language K
 
-    abbrev Appends : Edited → Buffers → Type 0
+    abbrev Appends : Result Counts ℕ → Buffers → Type 0
     Appends = Makes c b (λ b w. append b w node section language t)
 
     append_is : append b book node section language t ≡ change (keep (edition_of (frame_of c)) t)
     unfolding append
     append_is = refl
 
-    made_no : (K : Keep) (i : ℕ) → K ≡ keep (edition_of (frame_of c)) t → change K ≡ says_no i → Appends (answer.Refused i) b
+    made_no : (K : Keep) (i : ℕ) → K ≡ keep (edition_of (frame_of c)) t → change K ≡ says_no i → Appends (Err i) b
     unfolding edited after
     made_no K i k e = rw (append_is, ← k, e) (refl, refl)
 
@@ -114,23 +114,23 @@ module _ {c : Counts} {b : Buffers} (layout : Layout c b (book_of c b)) where
     editless (refused i) f = refl
 
     module _ (i : ℕ) (e : i ≡ unplaced (keep (edition_of (frame_of c)) t)) where
-      pub append_rowless : fits_row b.lines c.lines ≡ false → Appends (answer.Refused i) b
+      pub append_rowless : fits_row b.lines c.lines ≡ false → Appends (Err i) b
       append_rowless f = made_no (keep (edition_of (frame_of c)) t) i refl (rowless (keep (edition_of (frame_of c)) t) f ∙ ap says_no (sym e))
 
-      pub append_editless : edit_row b.journal c.edits ≡ false → Appends (answer.Refused i) b
+      pub append_editless : edit_row b.journal c.edits ≡ false → Appends (Err i) b
       append_editless f = made_no (keep (edition_of (frame_of c)) t) i refl (editless (keep (edition_of (frame_of c)) t) f ∙ ap says_no (sym e))
 
     -- ---- s is what `put_token` answers, with the edition x that `edition_of` answered, and q' the pool behind it
-    poolless : (K : Keep) (i : ℕ) → RefusedAs K b.pool c.pool i → change K ≡ says_no i
+    poolless : (K : Keep) (i : Refusal) → RefusedAs K b.pool c.pool i → change K ≡ says_no (number i)
     unfolding append_kept
     poolless (kept k bs) i v = rw (no_pool b book.lines c.lines c.pool layout.lines.count layout.lines.total bs v.0, v.1)
-    poolless (refused y) i v = ap says_no (sym v)
+    poolless (refused y) i v = ap (λ (n : Refusal). says_no (number n)) (sym v)
 
-    module _ (x : Edition) (y : x ≡ edition_of (frame_of c)) (s : Stored) (q' : List ℕ) (u : Put (keep x t) b.pool c.pool s q') where
-      pub append-refused : (i : ℕ) → s ≡ stored.Refused i → Appends (answer.Refused i) (five b.nodes b.names b.lines q' b.journal)
-      append-refused i z =
+    module _ (x : Edition) (y : x ≡ edition_of (frame_of c)) (s : Result Stored Refusal) (q' : List ℕ) (u : Put (keep x t) b.pool c.pool s q') where
+      pub append-refused : (i : Refusal) → s ≡ Err i → (v : ℕ) → v ≡ number i → Appends (Err v) (five b.nodes b.names b.lines q' b.journal)
+      append-refused i z v j =
           let w = was_refused (keep x t) b.pool c.pool s q' i pool-asked u z in
-          rw w.1 (made_no (keep x t) i (ap (λ (e : Edition). keep e t) y) (poolless (keep x t) i w.0))
+          rw (j, w.1) (made_no (keep x t) (number i) (ap (λ (e : Edition). keep e t) y) (poolless (keep x t) i w.0))
 
       -- ---- there is a row for it, and one for its edit
       module _ (f : fits_row b.lines c.lines ≡ true) (g : edit_row b.journal c.edits ≡ true) (k : Class) (bs : List ℕ) where
@@ -181,16 +181,17 @@ module _ {c : Counts} {b : Buffers} (layout : Layout c b (book_of c b)) where
             λ v. record { nodes = layout.nodes.lined v; names = layout.nodes.pooled v; lines = lines-laid v; pool = pool-laid v; journal = journal-laid v }
 
       pub append_made : (f : fits_row b.lines c.lines ≡ true) (g : edit_row b.journal c.edits ≡ true)
-          → (k : Class) (i class code : ℕ) (l' j' : List ℕ) → s ≡ As k i → class ≡ class_number k → code ≡ standing_code class section language
-          → l' ≡ paste b.lines (line_width * c.lines) (row_of_line node code c.pool i 0) line_width
+          → (v : Stored) (size class code : ℕ) (l' j' : List ℕ) → s ≡ Ok v → size ≡ v.size → class ≡ class_number v.class → code ≡ standing_code class section language
+          → l' ≡ paste b.lines (line_width * c.lines) (row_of_line node code c.pool size 0) line_width
           → j' ≡ paste b.journal (edit_width * c.edits) (add ∷ c.lines ∷ []) edit_width → (d : Counts)
-          → d ≡ counts_with c (c.lines + 1) (c.pool + i) (c.edits + 1) → Appends (answer.Done d) (five b.nodes b.names l' q' j')
+          → d ≡ counts_with c (c.lines + 1) (c.pool + size) (c.edits + 1) → Appends (Ok d) (five b.nodes b.names l' q' j')
       unfolding edited after
-      append_made f g k i class code l' j' z w e a p d h =
-          let o = was_kept (keep x t) b.pool c.pool s q' k i pool-asked u z in
-          let made : append b book node section language t ≡ to (with_line book (line f g k o.bytes))
-          = append_is ∙ ap (λ (e : Edition). change (keep e t)) (sym y) ∙ ap change o.keeps ∙ stands f g k o.bytes o.room in
+      append_made f g v size class code l' j' z m w e a p d h =
+          let o = was_kept (keep x t) b.pool c.pool s q' v pool-asked u z in
+          let long : size ≡ length o.bytes = m ∙ o.size in
+          let made : append b book node section language t ≡ to (with_line book (line f g v.class o.bytes))
+          = append_is ∙ ap (λ (e : Edition). change (keep e t)) (sym y) ∙ ap change o.keeps ∙ stands f g v.class o.bytes o.room in
           rw made (
-            ap answer.Done (h ∙ counts_more f g k o.bytes i o.size),
-            buffers_more f g k o.bytes i class code l' j' o.room o.size w e a o.put p,
+            ap Ok (h ∙ counts_more f g v.class o.bytes size long),
+            buffers_more f g v.class o.bytes size class code l' j' o.room long w e a o.put p,
           )

@@ -16,13 +16,12 @@ use Rattle.book.specs.Layout.{Buffers}
 use Rattle.book.specs.Sanity.{sane}
 use Rattle.book.specs.View.{book_of, holds, laid}
 use Rattle.book.proofs.Asking.{Held, asked_none, asked-held}
-use Rattle.trial.specs.declared.Edited.{Edited}
-use Rattle.trial.specs.declared.Edited.TheVariants as answer
+use Rattle.std.specs.Prelude.{Result, Err}
 use Rattle.trial.specs.Changes.{Answers, Makes, after, edited}
 use Rattle.trial.specs.Trial.{add_asked, append, may_stand, may_stand_in}
 
 -- ---- r is answered, and b' left
-abbrev pub Adds : Counts → Buffers → ℕ → ℕ → ℕ → List ℕ → Edited → Buffers → Type 0
+abbrev pub Adds : Counts → Buffers → ℕ → ℕ → ℕ → List ℕ → Result Counts ℕ → Buffers → Type 0
 Adds c b node section language t = Answers c b (λ b w. add_asked b w node section language t)
 
 -- the buffers hold a book that takes lines
@@ -32,12 +31,12 @@ pub record Taking (c : Counts) (b : Buffers) : Type 0 where
   pub kind : eqb (book_of c b).kind rust ≡ false
 
 module _ (c : Counts) (b : Buffers) (x : Bool) (e : x ≡ holds c b) where
-  pub add-no_book : (node section language : ℕ) (t : List ℕ) → not x ≡ true → Adds c b node section language t (answer.Refused no_book) b
+  pub add-no_book : (node section language : ℕ) (t : List ℕ) → not x ≡ true → Adds c b node section language t (Err no_book) b
   unfolding add_asked edited after
   add-no_book node section language t h = rw (asked_none c b x e h) (refl, refl)
 
   module _ (h : not x ≡ false) where
-    pub add-rust : (node section language : ℕ) (t : List ℕ) → c.kind ≡ rust → Adds c b node section language t (answer.Refused wrong_kind) b
+    pub add-rust : (node section language : ℕ) (t : List ℕ) → c.kind ≡ rust → Adds c b node section language t (Err wrong_kind) b
     unfolding add_asked edited after book_of
     add-rust node section language t k = rw ((asked-held c b x e h).viewed, eq-eqb _ _ k) (refl, refl)
 
@@ -55,7 +54,7 @@ module _ {c : Counts} {b : Buffers} (h : Taking c b) (node section language : �
   unfolding may_stand book_of
   stands_is = ap (λ (i : ℕ). may_stand_in c.kind i node section language) h.held.count ∙ sym f
 
-  pub add-unplaced : (t : List ℕ) → not y ≡ true → Adds c b node section language t (answer.Refused no_such) b
+  pub add-unplaced : (t : List ℕ) → not y ≡ true → Adds c b node section language t (Err no_such) b
   unfolding add_asked edited after
   add-unplaced t g = rw (h.held.viewed, h.kind, stands_is, not-true y g) (refl, refl)
 
@@ -67,7 +66,7 @@ module _ {c : Counts} {b : Buffers} (h : Taking c b) (node section language : �
         let d = both (leb language cxx) _ k.1 in
         (h.laid, ltb-true _ _ a.0, leb-true _ _ k.0, leb-true _ _ d.0)
 
-    pub add_appended : (s t : List ℕ) (r : Edited) (b' : Buffers) → s ≡ trim_end t → Makes c b (λ b w. append b w node section language s) r b'
+    pub add_appended : (s t : List ℕ) (r : Result Counts ℕ) (b' : Buffers) → s ≡ trim_end t → Makes c b (λ b w. append b w node section language s) r b'
         → Adds c b node section language t r b'
     unfolding add_asked
     add_appended s t r b' z w = rw (h.held.viewed, h.kind, stands_is, not-false y g, ← z) w

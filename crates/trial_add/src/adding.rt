@@ -16,8 +16,8 @@ use book_rooms::{has_edit, has_row, put_token};
 use classes::class_number;
 use copying::put_two;
 use numbers::NO_ROOM;
-use storing::{Stored, store_token};
-use trial::{ADD, Edited};
+use storing::store_token;
+use trial::ADD;
 
 // What refuses a token that has no row: 1, 5 or 6, else 8.
 fn refusal_without_row(frame: Frame, token: &[u8]) -> u32
@@ -25,8 +25,8 @@ fn refusal_without_row(frame: Frame, token: &[u8]) -> u32
 {
     let mut nothing = [0u8; 1];
     match store_token(edition_of(frame), token, &mut nothing[..0]) {
-        Stored::Refused(no) => no,
-        Stored::As(_, _) => NO_ROOM,
+        Err(no) => no.number(),
+        Ok(_) => NO_ROOM,
     }
 }
 
@@ -42,7 +42,7 @@ pub fn append(
     section: u32,
     language: u32,
     token: &[u8],
-) -> Edited
+) -> Result<Counts, u32>
     requires { (laid c (five nodes.now names.now lines.old pool.old journal.old) ≡ true)
         × (node < c.nodes) × (section ≤ local) × (language ≤ cxx) }
     ensures { Makes c (five nodes.now names.now lines.old pool.old journal.old)
@@ -53,18 +53,19 @@ pub fn append(
     let n = c.lines as usize;
     let e = c.edits as usize;
     if !has_row(lines, n) {
-        return Edited::Refused(refusal_without_row(frame, token));
+        return Err(refusal_without_row(frame, token));
     }
     if !has_edit(journal, e) {
-        return Edited::Refused(refusal_without_row(frame, token));
+        return Err(refusal_without_row(frame, token));
     }
     match put_token(edition_of(frame), token, c.pool as usize, pool) {
-        Stored::Refused(no) => Edited::Refused(no),
-        Stored::As(class, size) => {
-            let code = code_of(class_number(class), section, language);
-            put_line(lines, n, node, code, c.pool, size as u32, 0);
+        Err(no) => Err(no.number()),
+        Ok(stored) => {
+            let code = code_of(class_number(stored.class), section, language);
+            let size = stored.size as u32;
+            put_line(lines, n, node, code, c.pool, size, 0);
             put_two(journal, EDIT_WIDTH * e, ADD, c.lines);
-            Edited::Done(counts_with(c, c.lines + 1, c.pool + (size as u32), c.edits + 1))
+            Ok(counts_with(c, c.lines + 1, c.pool + size, c.edits + 1))
         }
     }
 }

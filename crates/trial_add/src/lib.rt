@@ -9,11 +9,11 @@ ghost use Rattle.trial.specs.Changes.{Answers};
 ghost use Rattle.trial.specs.Trial.{add_asked, may_stand_in};
 
 use crate::adding::append;
+use book::lent::Lent;
 use book::{Counts, EXPORT, RUST};
 use book_check::is_book;
 use linker_script::trim_ascii_end;
 use numbers::{CXX, GLOBAL, LOCAL, NO_BOOK, NO_SUCH, WRONG_KIND};
-use trial::Edited;
 
 pub mod adding;
 
@@ -51,19 +51,26 @@ pub fn add(
     section: u32,
     language: u32,
     token: &[u8],
-) -> Edited
+) -> Result<Counts, u32>
     ensures { Answers c (five nodes.now names.now lines.old pool.old journal.old)
         (λ b w. add_asked b w node section language token.now)
         result (five nodes.now names.now lines.new pool.new journal.new) }
 {
-    if !is_book(c, nodes, names, lines, pool, journal) {
-        return Edited::Refused(NO_BOOK);
+    if !is_book(Lent {
+        counts: c,
+        nodes,
+        names,
+        lines,
+        pool,
+        journal,
+    }) {
+        return Err(NO_BOOK);
     }
     if c.kind == RUST {
-        return Edited::Refused(WRONG_KIND);
+        return Err(WRONG_KIND);
     }
     if !may_stand(c.kind, c.nodes, node, section, language) {
-        return Edited::Refused(NO_SUCH);
+        return Err(NO_SUCH);
     }
     let trimmed = trim_ascii_end(token);
     append(

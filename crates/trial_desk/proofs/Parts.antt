@@ -5,12 +5,11 @@ use mathlib.Core.List.{List}
 use native.Mathlib.Omega.{arith}
 use lib.ListN.{length, take}
 use lib.Seq.{length-take-le}
-use Rattle.linker_script.specs.declared.Found.{Found}
-use Rattle.linker_script.specs.declared.Found.TheVariants.{Here}
+use Rattle.std.specs.Prelude.{Option, Some}
 use Rattle.input.specs.Splitting.{mark}
 use Rattle.input.proofs.Marks.{mark-within}
 
-module _ (s : List ℕ) (x : Found) (e : x ≡ mark s) (p : ℕ) (f : x ≡ Here p) where
+module _ (s : List ℕ) (x : Option ℕ) (e : x ≡ mark s) (p : ℕ) (f : x ≡ Some p) where
   pub text-within : p < length s
   text-within = mark-within s p (sym e ∙ f)
 

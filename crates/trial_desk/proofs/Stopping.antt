@@ -12,8 +12,8 @@ use Rattle.book_opening.specs.declared.How.{How}
 use Rattle.book_opening.specs.declared.Opened.{Opened}
 use Rattle.book_opening.specs.Opening.{Opening, declined, left, opening, opens, told}
 use Rattle.book_opening.proofs.Refusing.{opening-refuses}
-use Rattle.desk_commands.specs.Parts.{line_end}
-use Rattle.desk_commands.proofs.Cuts.{lines_from}
+use Rattle.input.specs.Splitting.{line_end}
+use Rattle.input.proofs.Ends.{lines_from}
 use Rattle.histories.specs.Histories.{Lent}
 use Rattle.histories.specs.Demand.{lent_opening}
 use Rattle.rounds.specs.Rounds.{line_lent, lines_lent}

@@ -16,12 +16,11 @@ ghost use Rattle.trial_desk.specs.Stops.{DeskStops, RunsSome};
 use book::Counts;
 use book_opening::How;
 use desk::run_line;
-use desk_commands::parts::{Numeral, line_end, number_at};
-use input::splitting::find_mark;
-use linker_script::{Found, byte_at};
+use desk_commands::parts::{number_at, tail};
+use input::splitting::{find_mark, line_end};
+use linker_script::byte_at;
 use meanings::{front, read_input, say, say_meaning, say_refused};
 use numbers::TOO_LONG;
-use packing::same_bytes;
 use printing::put_refused_line;
 use std::env::{Env, FillError};
 use std::io;
@@ -50,14 +49,11 @@ fn explain(err: &impl Print, printed: &[u8]) -> io::Result<()> {
         return Ok(());
     }
     match number_at(printed, 2) {
-        Numeral::Nothing => Ok(()),
-        Numeral::Number { value, end } => {
-            if byte_at(printed, end) == b'\n' {
-                say(err, b"trial_desk: ")?;
-                return say_meaning(err, value);
-            }
-            Ok(())
+        Some(number) if byte_at(printed, number.end) == b'\n' => {
+            say(err, b"trial_desk: ")?;
+            say_meaning(err, number.value)
         }
+        _ => Ok(()),
     }
 }
 
@@ -138,6 +134,7 @@ fn run_commands(
         (lines_in [] commands.now) (five nodes.now names.now lines.new pool.new journal.new)) }
 {
     let mut c = opened;
+    // No `split`: behind a last line feed it has an empty piece, which is no line, and of `split_inclusive`'s pieces no clause tells.
     let mut at = 0;
     while at < commands.len() {
         let end = line_end(commands, at);
@@ -255,14 +252,8 @@ fn divide(
         return refuse(to, err, input, TOO_LONG, 0, out);
     }
     match find_mark(input) {
-        Found::Nowhere => sit(to, err, export, input, &input[..0], out),
-        Found::Here(p) => {
-            let from = p + 3;
-            if input.len() <= from {
-                return sit(to, err, export, &input[..p], &input[..0], out);
-            }
-            sit(to, err, export, &input[..p], &input[from..], out)
-        }
+        None => sit(to, err, export, input, &input[..0], out),
+        Some(p) => sit(to, err, export, &input[..p], tail(input, p + 3), out),
     }
 }
 
@@ -280,7 +271,7 @@ fn main(rt: HostRuntime) -> io::Result<()> {
         Err(FillError::NotPresent) => return read(&mut rt.stdin(), &rt, &err, false),
         Err(FillError::TooLong) => {}
         Ok(n) => {
-            if same_bytes(front(&word, n), b"export") {
+            if front(&word, n) == b"export".as_slice() {
                 return read(&mut rt.stdin(), &rt, &err, true);
             }
         }

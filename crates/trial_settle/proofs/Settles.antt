@@ -16,7 +16,7 @@ use Rattle.book.specs.Layout.{Buffers, counts_of, counts_with, edit_form, edit_w
 use Rattle.book.specs.View.{book_of, laid}
 use Rattle.book.proofs.Forms.{edit_laws, line_laws}
 use Rattle.book.proofs.Views.{laid-buffers, laid-counts, laid-packs}
-use Rattle.trial.specs.declared.Edited.TheVariants as answer
+use Rattle.std.specs.Prelude.{Ok}
 use Rattle.trial.specs.Changes.{Makes, after, edited, to}
 use Rattle.trial.specs.Trial.{settled}
 use Rattle.trial_settle.specs.Lines.{Packed, Settled}
@@ -48,11 +48,11 @@ module _ (c : Counts) (b : Buffers) (g : laid c b ≡ true) where
 
   -- none is struck, and nothing is changed
   pub settle_none : (x : Bool) → x ≡ every stands (things line_form c.lines b.lines b.pool) → x ≡ true
-      → Makes c b (λ b w. to (settled w)) (answer.Done c) b
+      → Makes c b (λ b w. to (settled w)) (Ok c) b
   unfolding settled book_of edited after
   settle_none x e s =
       let q : settled (book_of c b) ≡ book_of c b = rw (← e, s) in
-      (ap answer.Done (laid-counts c b g ∙ ap counts_of (sym q)), laid-buffers c b g ∙ ap (laid_out b) (sym q))
+      (ap Ok (laid-counts c b g ∙ ap counts_of (sym q)), laid-buffers c b g ∙ ap (laid_out b) (sym q))
 
   journal-zero : all_zero (drop (edit_width * c.edits) b.journal) ≡ true
   unfolding edit_form
@@ -68,12 +68,12 @@ module _ (c : Counts) (b : Buffers) (g : laid c b ≡ true) where
       → x ≡ every stands (things line_form c.lines b.lines b.pool) → x ≡ false
       → Settled c.lines b.lines b.pool l' p' r → ys ≡ zeros (length (take (edit_width * c.edits) b.journal))
       → d ≡ counts_with c r.lines r.pool 0
-      → Makes c b (λ b w. to (settled w)) (answer.Done d) (five b.nodes b.names l' p' (ys ++ drop (edit_width * c.edits) b.journal))
+      → Makes c b (λ b w. to (settled w)) (Ok d) (five b.nodes b.names l' p' (ys ++ drop (edit_width * c.edits) b.journal))
   unfolding settled book_of counts_of laid_out rows edited after
   settle-done x r d l' p' ys e s a q k =
       let t = laid-packs c b g in
       let j = front-cleared b.journal (edit_width * c.edits) journal-room journal-zero q in
       rw (← e, s, k) (
-        λ i. answer.Done (record { kind = c.kind; nodes = t.nodes.count i; names = t.nodes.total i; lines = a.lines i; pool = a.pool i; edits = 0 }),
+        λ i. Ok (record { kind = c.kind; nodes = t.nodes.count i; names = t.nodes.total i; lines = a.lines i; pool = a.pool i; edits = 0 }),
         λ i. record { nodes = t.nodes.lined i; names = t.nodes.pooled i; lines = a.lined i; pool = a.pooled i; journal = j i },
       )

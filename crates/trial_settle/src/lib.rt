@@ -8,9 +8,9 @@ ghost use Rattle.trial.specs.Trial.{settle_asked};
 
 use crate::settling::settle_lines;
 use book::Counts;
+use book::lent::Lent;
 use book_check::is_book;
 use numbers::NO_BOOK;
-use trial::Edited;
 
 pub mod settling;
 
@@ -22,13 +22,20 @@ pub fn settle(
     lines: &mut [u32],
     pool: &mut [u8],
     journal: &mut [u32],
-) -> Edited
+) -> Result<Counts, u32>
     ensures { Answers c (five nodes.now names.now lines.old pool.old journal.old)
         (λ b w. settle_asked w)
         result (five nodes.now names.now lines.new pool.new journal.new) }
 {
-    if !is_book(c, nodes, names, lines, pool, journal) {
-        return Edited::Refused(NO_BOOK);
+    if !is_book(Lent {
+        counts: c,
+        nodes,
+        names,
+        lines,
+        pool,
+        journal,
+    }) {
+        return Err(NO_BOOK);
     }
-    Edited::Done(settle_lines(c, nodes, names, lines, pool, journal))
+    Ok(settle_lines(c, nodes, names, lines, pool, journal))
 }

@@ -5,7 +5,6 @@ ghost use Rattle.packing.specs.Tables.{things};
 ghost use Rattle.book.specs.Edits.{stands};
 ghost use Rattle.book.specs.Layout.{five, line_form, line_width};
 ghost use Rattle.book.specs.View.{laid};
-ghost use Rattle.trial.specs.declared.Edited.TheVariants as answer;
 ghost use Rattle.trial.specs.Changes.{Makes, to};
 ghost use Rattle.trial.specs.Trial.{settled};
 ghost use Rattle.trial_settle.specs.Lines.{Packed, Settled};
@@ -21,12 +20,10 @@ fn none_struck(lines: &[u32], pool: &[u8], n: usize) -> bool
     requires { line_width * n ≤ length lines.now }
     ensures { result ≡ every stands (things line_form n lines.now pool.now) }
 {
-    let mut i = 0;
-    while i < n {
+    for i in 0..n {
         if is_struck(lines[LINE_WIDTH * i + 1]) {
             return false;
         }
-        i += 1;
     }
     true
 }
@@ -43,18 +40,16 @@ fn pack_standing(lines: &mut [u32], pool: &mut [u8], n: usize) -> Standing
     requires { Packed n lines.old pool.old }
     ensures { Settled n lines.old pool.old lines.new pool.new result }
 {
-    let mut i = 0;
     let mut read = 0;
     let mut j = 0;
     let mut written = 0;
-    while i < n {
+    for i in 0..n {
         let here = LINE_WIDTH * i;
         let from = read;
         let node = lines[here];
         let code = lines[here + 1];
         let size = lines[here + 3] as usize;
         read += size;
-        i += 1;
         if is_struck(code) {
             continue;
         }
@@ -86,7 +81,7 @@ pub fn settle_lines(
     requires { laid c (five nodes.now names.now lines.old pool.old journal.old) ≡ true }
     ensures { Makes c (five nodes.now names.now lines.old pool.old journal.old)
         (λ b w. to (settled w))
-        (answer.Done result) (five nodes.now names.now lines.new pool.new journal.new) }
+        (Ok result) (five nodes.now names.now lines.new pool.new journal.new) }
 {
     let n = c.lines as usize;
     if none_struck(lines, pool, n) {

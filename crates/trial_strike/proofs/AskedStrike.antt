@@ -22,8 +22,7 @@ use Rattle.book.proofs.Forms.{edit_laws, line_laws}
 use Rattle.book.proofs.Views.{Layout}
 use Rattle.book_rooms.specs.Rooms.{edit_room, edit_row}
 use Rattle.book_rooms.proofs.Rows.{edit_refusal, edit_within}
-use Rattle.trial.specs.declared.Edited.{Edited}
-use Rattle.trial.specs.declared.Edited.TheVariants as answer
+use Rattle.std.specs.Prelude.{Result, Ok, Err}
 use Rattle.trial.specs.Changes.{Answers, no, to}
 use Rattle.trial.specs.Trial.{strike_asked, strike_line, with_strike}
 use Rattle.trial.proofs.Marking.{marked_ok}
@@ -76,7 +75,7 @@ module _ {c : Counts} {b : Buffers} {w : Book} (t : Layout c b w) (i : ℕ) wher
             }
 
 -- ---- strike: r is answered, and b' left
-abbrev pub Strikes : Counts → Buffers → ℕ → Edited → Buffers → Type 0
+abbrev pub Strikes : Counts → Buffers → ℕ → Result Counts ℕ → Buffers → Type 0
 Strikes c b i = Answers c b (λ b w. strike_asked b w i)
 
 -- a line of a book that may be edited is told
@@ -92,12 +91,12 @@ pub record Roomy (c : Counts) (b : Buffers) (i : ℕ) : Type 0 where
   pub row : edit_row b.journal c.edits ≡ true
 
 module _ (c : Counts) (b : Buffers) (i : ℕ) (x : Bool) (e : x ≡ holds c b) where
-  pub strike-no_book : not x ≡ true → Strikes c b i (answer.Refused no_book) b
+  pub strike-no_book : not x ≡ true → Strikes c b i (Err no_book) b
   unfolding strike_asked
   strike-no_book h = refusal_answers b _ no_book (rw (asked_none c b x e h))
 
   module _ (h : not x ≡ false) where
-    pub strike-rust : c.kind ≡ rust → Strikes c b i (answer.Refused wrong_kind) b
+    pub strike-rust : c.kind ≡ rust → Strikes c b i (Err wrong_kind) b
     unfolding strike_asked book_of
     strike-rust k = refusal_answers b _ wrong_kind (rw ((shown c b x e h).viewed, eq-eqb _ _ k))
 
@@ -106,7 +105,7 @@ module _ (c : Counts) (b : Buffers) (i : ℕ) (x : Bool) (e : x ≡ holds c b) w
       unfolding strike_asked book_of
       asks-line = rw ((shown c b x e h).viewed, ne_eqb _ _ k)
 
-      pub strike-past : c.lines ≤ i → Strikes c b i (answer.Refused no_such) b
+      pub strike-past : c.lines ≤ i → Strikes c b i (Err no_such) b
       strike-past g = refusal_answers b _ no_such (asks-line ∙ past_line (shown c b x e h).layout i g)
 
       pub strike-told : i < c.lines → Told c b i
@@ -117,11 +116,11 @@ module _ {c : Counts} {b : Buffers} {i : ℕ} (t : Told c b i) where
   strike_line-room = omega (arith, line_room t.book.layout i t.within)
 
   module _ (x : Bool) (e : x ≡ has_mark (get_or b.lines (line_width * i + 1) 0)) where
-    pub strike-struck : x ≡ true → Strikes c b i (answer.Refused no_such) b
+    pub strike-struck : x ≡ true → Strikes c b i (Err no_such) b
     strike-struck h = refusal_answers b _ no_such (t.asks ∙ struck-line t.book.layout i t.within (leb-true _ _ (sym e ∙ h)))
 
     module _ (h : x ≡ false) (y : Bool) (f : y ≡ edit_row b.journal c.edits) where
-      pub strike-no_room : not y ≡ true → Strikes c b i (answer.Refused no_room) b
+      pub strike-no_room : not y ≡ true → Strikes c b i (Err no_room) b
       strike-no_room o =
           refusal_answers b _ no_room
           (t.asks ∙ no_row t.book.layout i t.within (leb-false _ _ (sym e ∙ h)) (sym f ∙ not-true y o))
@@ -139,7 +138,7 @@ module _ {c : Counts} {b : Buffers} {i : ℕ} (r : Roomy c b i) where
   pub strike-done : (d : Counts) (l' j' : List ℕ) → d ≡ counts_with c c.lines c.pool (c.edits + 1)
       → l' ≡ set b.lines (line_width * i + 1) (get_or b.lines (line_width * i + 1) 0 + struck_mark)
       → j' ≡ paste b.journal (edit_width * c.edits) (strike ∷ i ∷ []) edit_width
-      → Strikes c b i (answer.Done d) (five b.nodes b.names l' b.pool j')
+      → Strikes c b i (Ok d) (five b.nodes b.names l' b.pool j')
   strike-done d l' j' ed el ej =
       let t = r.told in
       rw ed

@@ -7,12 +7,13 @@ ghost use Rattle.trial.specs.Changes.{Answers};
 ghost use Rattle.trial.specs.Trial.{strike_asked};
 
 use book::codes::is_struck;
+use book::lent::Lent;
 use book::{Counts, EDIT_WIDTH, LINE_WIDTH, RUST, STRUCK, counts_with};
 use book_check::is_book;
 use book_rooms::has_edit;
 use copying::put_two;
 use numbers::{NO_BOOK, NO_ROOM, NO_SUCH, WRONG_KIND};
-use trial::{Edited, STRIKE};
+use trial::STRIKE;
 
 // A line that stands is struck. Every line keeps its offset (`StrikeOffsets`).
 pub fn strike(
@@ -23,30 +24,37 @@ pub fn strike(
     pool: &[u8],
     journal: &mut [u32],
     line: u32,
-) -> Edited
+) -> Result<Counts, u32>
     ensures { Answers c (five nodes.now names.now lines.old pool.now journal.old)
         (λ b w. strike_asked b w line)
         result (five nodes.now names.now lines.new pool.now journal.new) }
 {
-    if !is_book(c, nodes, names, lines, pool, journal) {
-        return Edited::Refused(NO_BOOK);
+    if !is_book(Lent {
+        counts: c,
+        nodes,
+        names,
+        lines,
+        pool,
+        journal,
+    }) {
+        return Err(NO_BOOK);
     }
     if c.kind == RUST {
-        return Edited::Refused(WRONG_KIND);
+        return Err(WRONG_KIND);
     }
     if c.lines <= line {
-        return Edited::Refused(NO_SUCH);
+        return Err(NO_SUCH);
     }
     let at = LINE_WIDTH * (line as usize) + 1;
     let code = lines[at];
     if is_struck(code) {
-        return Edited::Refused(NO_SUCH);
+        return Err(NO_SUCH);
     }
     let e = c.edits as usize;
     if !has_edit(journal, e) {
-        return Edited::Refused(NO_ROOM);
+        return Err(NO_ROOM);
     }
     lines[at] = code + STRUCK;
     put_two(journal, EDIT_WIDTH * e, STRIKE, line);
-    Edited::Done(counts_with(c, c.lines, c.pool, c.edits + 1))
+    Ok(counts_with(c, c.lines, c.pool, c.edits + 1))
 }

@@ -9,11 +9,13 @@ use borrow.Author.Tests.{ne_eqb}
 use lib.Dec.{eqb}
 use lib.ListN.{length}
 use Rattle.numbers.specs.Editions.{reld}
+use Rattle.numbers.specs.Saying.{number}
+use Rattle.std.specs.Prelude.{Option, Some, Ok, Err, Result}
+use Rattle.reading_cursors.specs.declared.places.Place.{Place}
 use Rattle.reading_cursors.specs.declared.Cursor.{Cursor}
 use Rattle.reading_cursors.specs.declared.Event.{Event}
-use Rattle.reading_cursors.specs.declared.Step.{Step}
-use Rattle.reading_cursors.specs.declared.Step.TheVariants.{Go, End, Refused}
-use Rattle.reading_cursors.specs.Moves.{start}
+use Rattle.reading_cursors.specs.declared.RefusedAt.{RefusedAt}
+use Rattle.reading_cursors.specs.Moves.{Step, stepped, finished, start}
 use Rattle.reading.specs.Scripts.{next}
 use Rattle.reading.specs.Events.{on_step, reading, reading_from}
 use Rattle.reading.specs.Standing.{Standing}
@@ -26,8 +28,6 @@ use Rattle.book.specs.View.{book_of, laid}
 use Rattle.book.proofs.Views.{Layout, Rooms, fits-layout, fits_same, laid_from, laid_out-rooms, laid_out_same, laid-packs, layout-fits}
 use Rattle.book_building.specs.Events.{Lies}
 use Rattle.book_opening.proofs.EachEvent.{parts_lie}
-use Rattle.trial.specs.declared.Edited.{Edited}
-use Rattle.trial.specs.declared.Edited.TheVariants as answer
 use Rattle.trial.specs.Changes.{Change, Leaves, Makes, after, edited, no, to}
 use Rattle.trial.specs.Clearing.{Clears, Reaches}
 use Rattle.trial.specs.Symbols.{add_event, add_events, add_reading, on_change}
@@ -42,19 +42,19 @@ record Made (b b' : Buffers) (d : Counts) (x : Change) : Type 0 where
   counts : d ≡ counts_of book
   laid : b' ≡ laid_out b book
 
-made : (b b' : Buffers) (r : Edited) (d : Counts) → r ≡ answer.Done d → (x : Change) → Leaves b x r b' → Made b b' d x
+made : (b b' : Buffers) (r : Result Counts ℕ) (d : Counts) → r ≡ Ok d → (x : Change) → Leaves b x r b' → Made b b' d x
 unfolding edited after
 made b b' r d z (to w) h = let e = h.0 in record { book = w; is = refl; counts = cc; laid = h.1 }
 made b b' r d z (no n) h = let e = h.0 in absurd (true≢false (cc))
 
 -- and one that was refused
-refused : (b b' : Buffers) (r : Edited) (n : ℕ) → r ≡ answer.Refused n → (x : Change) → Leaves b x r b' → (x ≡ no n) × (b' ≡ b)
+refused : (b b' : Buffers) (r : Result Counts ℕ) (n : ℕ) → r ≡ Err n → (x : Change) → Leaves b x r b' → (x ≡ no n) × (b' ≡ b)
 unfolding edited after
 refused b b' r n z (to w) h = let e = h.0 in absurd (true≢false (cc))
 refused b b' r n z (no i) h = let e = h.0 in (cc, h.1)
 
 -- ---- the loop: n m l q j are the buffers at entry, with the counts c, and l' q' j' as they are, with the counts k
-pub record Going (c : Counts) (place : ℕ) (s n m l q j l' q' j' : List ℕ) (x : Cursor) (k : Counts) : Type 0 where
+pub record Going (c : Counts) (place : Place) (s n m l q j l' q' j' : List ℕ) (x : Cursor) (k : Counts) : Type 0 where
   pub asked : (laid c (five n m l q j) ≡ true) × (0 < c.nodes) × (c.kind ≡ export)
   pub stands : Standing s x
   pub marked : Marked x
@@ -64,7 +64,7 @@ pub record Going (c : Counts) (place : ℕ) (s n m l q j l' q' j' : List ℕ) (x
   pub grown : Grown (book_of c (five n m l q j)) book
   pub whole : add_reading (five n m l q j) s (book_of c (five n m l q j)) (reading reld place s) ≡ add_reading (five n m l q j) s book (reading_from s x)
 
-pub going_starts : {c : Counts} {place : ℕ} {s n m l q j : List ℕ} → (laid c (five n m l q j) ≡ true) × (0 < c.nodes) × (c.kind ≡ export)
+pub going_starts : {c : Counts} {place : Place} {s n m l q j : List ℕ} → (laid c (five n m l q j) ≡ true) × (0 < c.nodes) × (c.kind ≡ export)
     → {x : Cursor} → x ≡ start reld place → Going c place s n m l q j l q j x c
 unfolding reading
 going_starts {c} {place} {s} {n} {m} {l} {q} {j} pre z = record {
@@ -78,7 +78,7 @@ going_starts {c} {place} {s} {n} {m} {l} {q} {j} pre z = record {
   whole = rw z;
 }
 
-module _ {c : Counts} {place : ℕ} {s n m l q j l' q' j' : List ℕ} {x : Cursor} {k : Counts} (i : Going c place s n m l q j l' q' j' x k) where
+module _ {c : Counts} {place : Place} {s n m l q j l' q' j' : List ℕ} {x : Cursor} {k : Counts} (i : Going c place s n m l q j l' q' j' x k) where
   abbrev lent : Buffers
   lent = five n m l q j
 
@@ -88,7 +88,7 @@ module _ {c : Counts} {place : ℕ} {s n m l q j l' q' j' : List ℕ} {x : Curso
   abbrev held : Book
   held = book_of c lent
 
-  abbrev Adds : Edited → Buffers → Type 0
+  abbrev Adds : Result Counts ℕ → Buffers → Type 0
   Adds = Makes c lent (λ b w. add_reading b s w (reading reld place s))
 
   abbrev change : Change
@@ -114,9 +114,9 @@ module _ {c : Counts} {place : ℕ} {s n m l q j l' q' j' : List ℕ} {x : Curso
   back_same : (l'' q'' j'' : List ℕ) → Clears c k l' q' j' l'' q'' j'' → five n m l'' q'' j'' ≡ lent
   back_same = taken_back c k n m l q j l' q' j' held i.book layout-held i.layout i.grown i.rooms
 
-  declines : (a : ℕ) (l'' q'' j'' : List ℕ) → change ≡ no a → Clears c k l' q' j' l'' q'' j'' → Adds (answer.Refused a) (five n m l'' q'' j'')
+  declines : (a : ℕ) (l'' q'' j'' : List ℕ) → change ≡ no a → Clears c k l' q' j' l'' q'' j'' → Adds (Err a) (five n m l'' q'' j'')
   declines a l'' q'' j'' z t =
-      subst (λ (b : Buffers). Adds (answer.Refused a) b) (sym (back_same l'' q'' j'' t)) (refusal_answers lent change a z)
+      subst (λ (b : Buffers). Adds (Err a) b) (sym (back_same l'' q'' j'' t)) (refusal_answers lent change a z)
 
   -- y is what `next_event` answers
   module _ {y : Step} (e : y ≡ next s x) where
@@ -125,16 +125,20 @@ module _ {c : Counts} {place : ℕ} {s n m l q j l' q' j' : List ℕ} {x : Curso
     left_to-read z w = i.whole ∙ ap (add_reading lent s i.book) (reading_step i.stands ∙ rw (← e, w))
 
     -- the text has ended
-    pub going_ends : y ≡ End → Adds (answer.Done k) lent_now
+    pub going_ends : y ≡ finished → Adds (Ok k) lent_now
     unfolding add_reading add_events
-    going_ends z = layout_answers k lent lent_now i.book change (left_to-read End z) i.layout i.rooms
+    going_ends z = layout_answers k lent lent_now i.book change (left_to-read finished z) i.layout i.rooms
 
     -- the reading is refused
-    pub going_refused : {a p : ℕ} {l'' q'' j'' : List ℕ} → y ≡ Refused a p → Clears c k l' q' j' l'' q'' j'' → Adds (answer.Refused a) (five n m l'' q'' j'')
+    pub going_refused : {o : RefusedAt} {l'' q'' j'' : List ℕ} → y ≡ Err o → Clears c k l' q' j' l'' q'' j'' → {a : ℕ} → a ≡ number o.refusal
+        → Adds (Err a) (five n m l'' q'' j'')
     unfolding add_reading add_events
-    going_refused {a} {p} {l''} {q''} {j''} z t = declines a l'' q'' j'' (left_to-read (Refused a p) z) t
+    going_refused {o} {l''} {q''} {j''} z t {a} w = declines a l'' q'' j'' (rw w (left_to-read (Err o) z)) t
 
-    module _ {v : Event} {d : Cursor} (z : y ≡ Go v d) where
+    module _ {o : Option (Event × Cursor)} (z₀ : y ≡ Ok o) {v : Event} {d : Cursor} (z₁ : o ≡ Some (v, d)) where
+      z : y ≡ stepped v d
+      z = z₀ ∙ ap Ok z₁
+
       pub event_lies : Lies s v
       event_lies = parts_lie s v (next_parts s x i.marked (sym e ∙ z)).0
 
@@ -144,7 +148,7 @@ module _ {c : Counts} {place : ℕ} {s n m l q j l' q' j' : List ℕ} {x : Curso
           omega (arith, o.onward, o.within)
 
       -- r is what it answers, and l₁ q₁ j₁ are the buffers behind it
-      module _ {r : Edited} {l₁ q₁ j₁ : List ℕ} (h : Makes k lent_now (λ b w. add_event b s w v) r (five n m l₁ q₁ j₁)) where
+      module _ {r : Result Counts ℕ} {l₁ q₁ j₁ : List ℕ} (h : Makes k lent_now (λ b w. add_event b s w v) r (five n m l₁ q₁ j₁)) where
         event_now : add_event lent_now s (book_of k lent_now) v ≡ add_event lent s i.book v
         event_now =
             ap (λ (w : Book). add_event lent_now s w v) (laid_from i.layout).1
@@ -154,10 +158,10 @@ module _ {c : Counts} {place : ℕ} {s n m l q j l' q' j' : List ℕ} {x : Curso
             → change ≡ on_change w (λ u. add_events lent s u (reading_from s d).events (reading_from s d).outcome)
         unfolding add_reading add_events
         onward w o =
-            left_to-read (Go v d) z
+            left_to-read (stepped v d) z
             ∙ ap (λ (u : Change). on_change u (λ u. add_events lent s u (reading_from s d).events (reading_from s d).outcome)) o
 
-        module _ {a : ℕ} (f : r ≡ answer.Refused a) where
+        module _ {a : ℕ} (f : r ≡ Err a) where
           says_no : (add_event lent_now s (book_of k lent_now) v ≡ no a) × (five n m l₁ q₁ j₁ ≡ lent_now)
           says_no = refused lent_now (five n m l₁ q₁ j₁) r a f _ h
 
@@ -175,11 +179,11 @@ module _ {c : Counts} {place : ℕ} {s n m l q j l' q' j' : List ℕ} {x : Curso
             back_now : Clears c k l' q' j' l'' q'' j''
             back_now = rw (same_lines, same_pool, same_journal) at t
 
-            pub going_no : Adds (answer.Refused a) (five n m l'' q'' j'')
+            pub going_no : Adds (Err a) (five n m l'' q'' j'')
             going_no = declines a l'' q'' j'' (onward (no a) (sym event_now ∙ says_no.0)) back_now
 
         -- it is added
-        pub going_on : {u : Counts} → r ≡ answer.Done u → Going c place s n m l q j l₁ q₁ j₁ d u
+        pub going_on : {u : Counts} → r ≡ Ok u → Going c place s n m l q j l₁ q₁ j₁ d u
         unfolding add_reading
         going_on {u} f =
             let w = made lent_now (five n m l₁ q₁ j₁) r u f _ h in

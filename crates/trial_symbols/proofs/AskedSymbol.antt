@@ -12,6 +12,7 @@ use Rattle.numbers.specs.Editions.{reld}
 use Rattle.numbers.specs.Limits.{token_limit}
 use Rattle.numbers.specs.Refusals.{no_book, too_long, wrong_kind}
 use Rattle.lists.proofs.Tests.{both}
+use Rattle.reading_cursors.specs.declared.places.Place.{Place}
 use Rattle.reading.specs.Events.{reading}
 use Rattle.book.specs.declared.Counts.{Counts}
 use Rattle.book.specs.Books.{export}
@@ -19,15 +20,14 @@ use Rattle.book.specs.Layout.{Buffers}
 use Rattle.book.specs.Sanity.{nodes_good, sane}
 use Rattle.book.specs.View.{book_of, holds, laid, view}
 use Rattle.book.proofs.Asking.{Held, asked-held, asked_none}
-use Rattle.trial.specs.declared.Edited.{Edited}
-use Rattle.trial.specs.declared.Edited.TheVariants as answer
+use Rattle.std.specs.Prelude.{Result, Err}
 use Rattle.trial.specs.Changes.{Answers, Makes}
 use Rattle.trial.specs.Symbols.{add_reading, symbol_asked, symbol_place}
 use Rattle.trial.proofs.AddedLines.{some_node}
 use Rattle.trial.proofs.Answers.{refusal_answers}
 
 -- ---- r is answered, and b' left
-abbrev pub Adds : Counts → Buffers → List ℕ → Bool → Edited → Buffers → Type 0
+abbrev pub Adds : Counts → Buffers → List ℕ → Bool → Result Counts ℕ → Buffers → Type 0
 Adds c b s bare = Answers c b (λ b w. symbol_asked b w s bare)
 
 -- the buffers hold an export list
@@ -38,12 +38,12 @@ pub record Listed (c : Counts) (b : Buffers) : Type 0 where
   pub kind : c.kind ≡ export
 
 module _ (c : Counts) (b : Buffers) (x : Bool) (e : x ≡ holds c b) where
-  pub symbol-no_book : (s : List ℕ) (bare : Bool) → not x ≡ true → Adds c b s bare (answer.Refused no_book) b
+  pub symbol-no_book : (s : List ℕ) (bare : Bool) → not x ≡ true → Adds c b s bare (Err no_book) b
   unfolding symbol_asked
   symbol-no_book s bare h = refusal_answers b _ no_book (rw (asked_none c b x e h))
 
   module _ (h : not x ≡ false) where
-    pub symbol-kind : (s : List ℕ) (bare : Bool) → (c.kind ≡ export → ⊥) → Adds c b s bare (answer.Refused wrong_kind) b
+    pub symbol-kind : (s : List ℕ) (bare : Bool) → (c.kind ≡ export → ⊥) → Adds c b s bare (Err wrong_kind) b
     unfolding symbol_asked book_of
     symbol-kind s bare k = refusal_answers b _ wrong_kind (rw ((asked-held c b x e h).viewed, ne_eqb c.kind export k))
 
@@ -60,7 +60,7 @@ module _ {c : Counts} {b : Buffers} (h : Listed c b) where
   lines-asks = (h.laid, h.node, h.kind)
 
   module _ (s : List ℕ) (bare : Bool) where
-    pub symbol-long : token_limit < length s → Adds c b s bare (answer.Refused too_long) b
+    pub symbol-long : token_limit < length s → Adds c b s bare (Err too_long) b
     unfolding symbol_asked book_of
     symbol-long f = refusal_answers b _ too_long (rw (h.held.viewed, eq-eqb c.kind export h.kind, lt-ltb token_limit (length s) f))
 
@@ -68,7 +68,7 @@ module _ {c : Counts} {b : Buffers} (h : Listed c b) where
     unfolding book_of
     kind-held = eq-eqb c.kind export h.kind
 
-    pub symbol-added : length s ≤ token_limit → (place : ℕ) → place ≡ symbol_place bare → (r : Edited) (b' : Buffers)
+    pub symbol-added : length s ≤ token_limit → (place : Place) → place ≡ symbol_place bare → (r : Result Counts ℕ) (b' : Buffers)
         → Makes c b (λ b w. add_reading b s w (reading reld place s)) r b' → Adds c b s bare r b'
     unfolding symbol_asked
     symbol-added f place z r b' t =

@@ -10,7 +10,6 @@ ghost use Rattle.trial.specs.Symbols.{add_event};
 use book::Counts;
 use numbers::GLOBAL;
 use reading_cursors::Event;
-use trial::Edited;
 use trial_add::adding::append;
 
 // One event: a line is added, anything else changes nothing.
@@ -23,7 +22,7 @@ pub fn add_event(
     journal: &mut [u32],
     s: &[u8],
     e: Event,
-) -> Edited
+) -> Result<Counts, u32>
     requires { (laid c (five nodes.now names.now lines.old pool.old journal.old) ≡ true)
         × (0 < c.nodes) × Lies s.now e }
     ensures { Makes c (five nodes.now names.now lines.old pool.old journal.old)
@@ -31,14 +30,14 @@ pub fn add_event(
         result (five nodes.now names.now lines.new pool.new journal.new) }
 {
     match e {
-        Event::Node { start: _, len: _ } => Edited::Done(c),
-        Event::Body => Edited::Done(c),
-        Event::Section(_) => Edited::Done(c),
+        Event::Node { start: _, len: _ } => Ok(c),
+        Event::Body => Ok(c),
+        Event::Section(_) => Ok(c),
         Event::Extern {
             section: _,
             language: _,
-        } => Edited::Done(c),
-        Event::Closed => Edited::Done(c),
+        } => Ok(c),
+        Event::Closed => Ok(c),
         Event::Line {
             section: _,
             language,
@@ -59,6 +58,6 @@ pub fn add_event(
                 &s[start..end],
             )
         }
-        Event::Parent { start: _, len: _ } => Edited::Done(c),
+        Event::Parent { start: _, len: _ } => Ok(c),
     }
 }

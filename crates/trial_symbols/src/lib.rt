@@ -9,23 +9,23 @@ ghost use Rattle.trial.specs.Changes.{Answers};
 ghost use Rattle.trial.specs.Symbols.{symbol_asked, symbol_place};
 
 use crate::lines::add_lines;
+use book::lent::Lent;
 use book::{Counts, EXPORT};
 use book_check::is_book;
 use numbers::{NO_BOOK, TOKEN_LIMIT, TOO_LONG, WRONG_KIND};
-use reading_cursors::places::{AT_BARE, AT_SYMBOL};
-use trial::Edited;
+use reading_cursors::places::Place;
 
 pub mod events;
 pub mod lines;
 
 // The place of the grammar from which a text is read.
-fn place_of(without_semicolon: bool) -> u32
+fn place_of(without_semicolon: bool) -> Place
     ensures { result ≡ symbol_place without_semicolon }
 {
     if without_semicolon {
-        return AT_BARE;
+        return Place::AtBare;
     }
-    AT_SYMBOL
+    Place::AtSymbol
 }
 
 // The lines of one matcher, each of the offset 0 (`SymbolOffsets`); `without_semicolon` says how it ends.
@@ -38,19 +38,26 @@ pub fn add_symbol(
     journal: &mut [u32],
     text: &[u8],
     without_semicolon: bool,
-) -> Edited
+) -> Result<Counts, u32>
     ensures { Answers c (five nodes.now names.now lines.old pool.old journal.old)
         (λ b w. symbol_asked b w text.now without_semicolon)
         result (five nodes.now names.now lines.new pool.new journal.new) }
 {
-    if !is_book(c, nodes, names, lines, pool, journal) {
-        return Edited::Refused(NO_BOOK);
+    if !is_book(Lent {
+        counts: c,
+        nodes,
+        names,
+        lines,
+        pool,
+        journal,
+    }) {
+        return Err(NO_BOOK);
     }
     if c.kind != EXPORT {
-        return Edited::Refused(WRONG_KIND);
+        return Err(WRONG_KIND);
     }
     if TOKEN_LIMIT < text.len() {
-        return Edited::Refused(TOO_LONG);
+        return Err(TOO_LONG);
     }
     add_lines(
         c,

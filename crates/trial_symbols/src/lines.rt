@@ -13,11 +13,11 @@ ghost use Rattle.trial.specs.Symbols.{add_reading};
 use crate::events::add_event;
 use book::{Counts, EDIT_WIDTH, LINE_WIDTH};
 use linker_script::last_close;
-use numbers::RELD;
+use numbers::Edition;
 use packing::{clear_bytes, clear_numbers};
 use reading::scripts::next_event;
-use reading_cursors::{Step, start_at};
-use trial::Edited;
+use reading_cursors::places::Place;
+use reading_cursors::start_at;
 
 // What was added behind the book with the counts c, up to the counts k, is zero again.
 pub fn clear_added(c: Counts, k: Counts, lines: &mut [u32], pool: &mut [u8], journal: &mut [u32])
@@ -44,8 +44,8 @@ pub fn add_lines(
     pool: &mut [u8],
     journal: &mut [u32],
     s: &[u8],
-    place: u32,
-) -> Edited
+    place: Place,
+) -> Result<Counts, u32>
     requires { (laid c (five nodes.now names.now lines.old pool.old journal.old) ≡ true)
         × (0 < c.nodes) × (c.kind ≡ export) }
     ensures { Makes c (five nodes.now names.now lines.old pool.old journal.old)
@@ -53,23 +53,23 @@ pub fn add_lines(
         result (five nodes.now names.now lines.new pool.new journal.new) }
 {
     let last = last_close(s);
-    let mut at = start_at(RELD, place);
+    let mut at = start_at(Edition::Reld, place);
     let mut k = c;
     loop {
         match next_event(s, last, at) {
-            Step::End => {
-                return Edited::Done(k);
+            Ok(None) => {
+                return Ok(k);
             }
-            Step::Refused(n, _) => {
+            Err(no) => {
                 clear_added(c, k, lines, pool, journal);
-                return Edited::Refused(n);
+                return Err(no.refusal.number());
             }
-            Step::Go(e, next) => match add_event(k, nodes, names, lines, pool, journal, s, e) {
-                Edited::Refused(n) => {
+            Ok(Some((e, next))) => match add_event(k, nodes, names, lines, pool, journal, s, e) {
+                Err(n) => {
                     clear_added(c, k, lines, pool, journal);
-                    return Edited::Refused(n);
+                    return Err(n);
                 }
-                Edited::Done(d) => {
+                Ok(d) => {
                     k = d;
                     at = next;
                 }

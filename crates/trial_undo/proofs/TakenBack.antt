@@ -4,7 +4,7 @@ use Prim.Native.Nat.{ℕ, suc, ◌+◌, ◌-◌, ◌*◌, ◌≤◌, ◌<◌}
 use mathlib.Core.Path.{◌≡◌, refl, sym, ap, ◌∙◌}
 use mathlib.Core.List.{List, [], ◌∷◌, ◌++◌}
 use mathlib.Core.Bool.{Bool, true, false, cond, false≢true, not, ◌&&◌}
-use mathlib.Core.Option.{some, none}
+use Rattle.std.specs.Prelude.{Some, None, Result, Ok, Err}
 use native.Mathlib.Omega.{arith}
 use borrow.Author.Tests.{eq-eqb, eqb-false, eqb-true, ltb-true, ne_eqb, not-true}
 use lib.Dec.{eqb, ltb}
@@ -24,8 +24,6 @@ use Rattle.book.specs.View.{book_of, holds, view}
 use Rattle.book.proofs.Asking.{asked_none}
 use Rattle.book.proofs.Forms.{edit_laws, line_laws}
 use Rattle.book.proofs.Views.{Layout, no_bytes}
-use Rattle.trial.specs.declared.Edited.{Edited}
-use Rattle.trial.specs.declared.Edited.TheVariants as answer
 use Rattle.trial.specs.Changes.{Answers, to}
 use Rattle.trial.specs.Trial.{latest, undo_asked, without_latest}
 use Rattle.trial.specs.Clearing.{emptied}
@@ -48,37 +46,37 @@ use Rattle.trial.proofs.Marks.{line_code, line_ranged, line-right, line_room, li
 
 -- ---- lists of edits
 -- where the latest edit can't be taken back, no journal that ends with it can
-latest-stays : (es : List Edit) (e : Edit) (ls : List Line) → take_back e ls ≡ none → all_back (es ++ e ∷ []) ls ≡ none
+latest-stays : (es : List Edit) (e : Edit) (ls : List Line) → take_back e ls ≡ None → all_back (es ++ e ∷ []) ls ≡ None
 unfolding all_back
 latest-stays [] e ls h = h
 latest-stays (x ∷ es) e ls h = ap (then_back x) (latest-stays es e ls h)
 
 -- so the latest edit of a journal that fits can be
-pub latest-fits : (es : List Edit) (e : Edit) (ls : List Line) → journal_fits (es ++ e ∷ []) ls ≡ true → take_back e ls ≡ none → ⊥
+pub latest-fits : (es : List Edit) (e : Edit) (ls : List Line) → journal_fits (es ++ e ∷ []) ls ≡ true → take_back e ls ≡ None → ⊥
 unfolding journal_fits
 latest-fits es e ls f h = false≢true (ap all_stand (sym (latest-stays es e ls h)) ∙ f)
 
-passed : {A : Type 0} (t : Bool) (x : A) → (cond t (some x) none ≡ none → ⊥) → t ≡ true
+passed : {A : Type 0} (t : Bool) (x : A) → (cond t (Some x) None ≡ None → ⊥) → t ≡ true
 passed true x h = refl
 passed false x h = absurd (h refl)
 
 -- an edit that can be taken back: an add is of the last line
-pub added_last : (e : Edit) (ls : List Line) → (take_back e ls ≡ none → ⊥) → e.what ≡ add
-    → (length ls ≡ e.line + 1) × (take_back e ls ≡ some (take e.line ls))
+pub added_last : (e : Edit) (ls : List Line) → (take_back e ls ≡ None → ⊥) → e.what ≡ add
+    → (length ls ≡ e.line + 1) × (take_back e ls ≡ Some (take e.line ls))
 unfolding take_back add_back
 added_last e ls f w =
     let t : Bool = eqb (length ls) (e.line + 1) && stands (line_at ls e.line) in
-    let q : take_back e ls ≡ cond t (some (take e.line ls)) none = rw (eq-eqb e.what add w) in
+    let q : take_back e ls ≡ cond t (Some (take e.line ls)) None = rw (eq-eqb e.what add w) in
     let g : t ≡ true = passed t (take e.line ls) (λ z. f (q ∙ z)) in
     (eqb-true _ _ (both (eqb (length ls) (e.line + 1)) _ g).0, q ∙ rw g)
 
 -- a strike is of a line that is struck
-pub struck_back : (e : Edit) (ls : List Line) → (take_back e ls ≡ none → ⊥) → (e.what ≡ add → ⊥)
-    → (e.line < length ls) × ((line_at ls e.line).struck ≡ 0 → ⊥) × (take_back e ls ≡ some (set ls e.line (marked 0 (line_at ls e.line))))
+pub struck_back : (e : Edit) (ls : List Line) → (take_back e ls ≡ None → ⊥) → (e.what ≡ add → ⊥)
+    → (e.line < length ls) × ((line_at ls e.line).struck ≡ 0 → ⊥) × (take_back e ls ≡ Some (set ls e.line (marked 0 (line_at ls e.line))))
 unfolding take_back strike_back
 struck_back e ls f w =
     let t : Bool = ltb e.line (length ls) && not (stands (line_at ls e.line)) in
-    let q : take_back e ls ≡ cond t (some (set ls e.line (marked 0 (line_at ls e.line)))) none = rw (ne_eqb e.what add w) in
+    let q : take_back e ls ≡ cond t (Some (set ls e.line (marked 0 (line_at ls e.line)))) None = rw (ne_eqb e.what add w) in
     let g : t ≡ true = passed t _ (λ z. f (q ∙ z)) in
     let a = both (ltb e.line (length ls)) _ g in
     (ltb-true _ _ a.0, eqb-false _ _ (not-true _ a.1), q ∙ rw g)
@@ -122,10 +120,10 @@ module _ {c : Counts} {b : Buffers} {w : Book} (t : Layout c b w) (f : journal_f
       let a : edit_width * (c.edits - 1) ≡ edit_width * (c.edits - 1) + 0 = omega arith in
       ap (λ (m : ℕ). get_or b.journal m 0) a ∙ edit_cell 0 (omega arith)
 
-  taken : take_back (latest w.edits) w.lines ≡ none → ⊥
+  taken : take_back (latest w.edits) w.lines ≡ None → ⊥
   taken = latest-fits (take behind w.edits) (latest w.edits) w.lines (ap (λ (es : List Edit). journal_fits es w.lines) (sym last_edit) ∙ f)
 
-  undone : (ls : List Line) → take_back (latest w.edits) w.lines ≡ some ls → undo_asked (some w) ≡ to (without ls)
+  undone : (ls : List Line) → take_back (latest w.edits) w.lines ≡ Some ls → undo_asked (Some w) ≡ to (without ls)
   unfolding undo_asked without_latest
   undone ls e = let n : length w.edits ≡ 0 → ⊥ = λ q. omega (arith, q, some_edits) in rw (ne_eqb _ _ n, e)
 
@@ -144,7 +142,7 @@ module _ {c : Counts} {b : Buffers} {w : Book} (t : Layout c b w) (f : journal_f
 
   -- ---- an add
   module _ (h : what_told c b.journal ≡ add) where
-    last_line : (length w.lines ≡ i + 1) × (take_back (latest w.edits) w.lines ≡ some (take i w.lines))
+    last_line : (length w.lines ≡ i + 1) × (take_back (latest w.edits) w.lines ≡ Some (take i w.lines))
     last_line = rw told (added_last (latest w.edits) w.lines taken (sym edit_what ∙ h))
 
     added_at : i < c.lines
@@ -191,7 +189,7 @@ module _ {c : Counts} {b : Buffers} {w : Book} (t : Layout c b w) (f : journal_f
   -- ---- a strike
   module _ (h : what_told c b.journal ≡ add → ⊥) where
     struck-line : (i < length w.lines) × ((line_at w.lines i).struck ≡ 0 → ⊥)
-        × (take_back (latest w.edits) w.lines ≡ some (set w.lines i (marked 0 (line_at w.lines i))))
+        × (take_back (latest w.edits) w.lines ≡ Some (set w.lines i (marked 0 (line_at w.lines i))))
     struck-line = rw told (struck_back (latest w.edits) w.lines taken (λ q. h (edit_what ∙ q)))
 
     struck_at : i < c.lines
@@ -224,15 +222,15 @@ module _ {c : Counts} {b : Buffers} {w : Book} (t : Layout c b w) (f : journal_f
         }
 
 -- ---- undo_latest: r is answered, and b' left
-abbrev pub Undoes : Counts → Buffers → Edited → Buffers → Type 0
+abbrev pub Undoes : Counts → Buffers → Result Counts ℕ → Buffers → Type 0
 Undoes c b = Answers c b (λ b w. undo_asked w)
 
 module _ (c : Counts) (b : Buffers) (x : Bool) (e : x ≡ holds c b) where
-  pub undo-no_book : not x ≡ true → Undoes c b (answer.Refused no_book) b
+  pub undo-no_book : not x ≡ true → Undoes c b (Err no_book) b
   unfolding undo_asked
   undo-no_book h = refusal_answers b _ no_book (rw (asked_none c b x e h))
 
-  pub undo-nothing : not x ≡ false → c.edits ≡ 0 → Undoes c b (answer.Refused nothing_to_undo) b
+  pub undo-nothing : not x ≡ false → c.edits ≡ 0 → Undoes c b (Err nothing_to_undo) b
   unfolding undo_asked
   undo-nothing h z =
       let here = shown c b x e h in
@@ -250,7 +248,7 @@ module _ {c : Counts} {b : Buffers} (here : Shown c b) (z : c.edits ≡ 0 → �
   }
 
   -- and what that comes to
-  asks : (ls : List Line) → take_back (latest (book_of c b).edits) (book_of c b).lines ≡ some ls
+  asks : (ls : List Line) → take_back (latest (book_of c b).edits) (book_of c b).lines ≡ Some ls
       → undo_asked (view c b) ≡ to (without here.layout here.fitting z ls)
   asks ls e = ap undo_asked here.viewed ∙ undone here.layout here.fitting z ls e
 
@@ -261,7 +259,7 @@ module _ {c : Counts} {b : Buffers} (here : Shown c b) (z : c.edits ≡ 0 → �
   module _ (l' j' : List ℕ) (ej : j' ≡ journal_back c b.journal) where
     undo-added : what_told c b.journal ≡ add → (p' : List ℕ) → l' ≡ row_back b.lines (line_told c b.journal)
         → p' ≡ emptied b.pool (start_of b.lines (line_told c b.journal)) c.pool
-        → Undoes c b (answer.Done (counts_with c (c.lines - 1) (start_of b.lines (line_told c b.journal)) (c.edits - 1)))
+        → Undoes c b (Ok (counts_with c (c.lines - 1) (start_of b.lines (line_told c b.journal)) (c.edits - 1)))
         (five b.nodes b.names l' p' j')
     undo-added g p' el ep =
         let r = undo_able.of_add g in
@@ -280,7 +278,7 @@ module _ {c : Counts} {b : Buffers} (here : Shown c b) (z : c.edits ≡ 0 → �
         })
 
     undo-struck : (what_told c b.journal ≡ add → ⊥) → l' ≡ unstruck b.lines (line_told c b.journal)
-        → Undoes c b (answer.Done (counts_with c c.lines c.pool (c.edits - 1))) (five b.nodes b.names l' b.pool j')
+        → Undoes c b (Ok (counts_with c c.lines c.pool (c.edits - 1))) (five b.nodes b.names l' b.pool j')
     undo-struck g el =
         layout_answers _ b (five b.nodes b.names l' b.pool j') _ _
         (asks _ (struck-line here.layout here.fitting z g).2)
@@ -296,14 +294,14 @@ module _ {c : Counts} {b : Buffers} (here : Shown c b) (z : c.edits ≡ 0 → �
   pub undo-done : (r : Counts) (l' p' j' : List ℕ)
       → (r ≡ counts_back c b.lines b.journal) × (l' ≡ lines_back c b.lines b.journal) × (p' ≡ pool_back c b.lines b.pool b.journal)
       × (j' ≡ journal_back c b.journal)
-      → Undoes c b (answer.Done r) (five b.nodes b.names l' p' j')
+      → Undoes c b (Ok r) (five b.nodes b.names l' p' j')
   unfolding counts_back lines_back pool_back
   undo-done r l' p' j' a = by (eqb (what_told c b.journal) add) refl
     where
-      by : (t : Bool) → eqb (what_told c b.journal) add ≡ t → Undoes c b (answer.Done r) (five b.nodes b.names l' p' j')
+      by : (t : Bool) → eqb (what_told c b.journal) add ≡ t → Undoes c b (Ok r) (five b.nodes b.names l' p' j')
       by true k =
           let q = undo-added l' j' a.3 (eqb-true _ _ k) p' (a.1 ∙ rw k refl) (a.2 ∙ rw k refl) in
-          (ap answer.Done (a.0 ∙ rw k refl) ∙ q.0, q.1)
+          (ap Ok (a.0 ∙ rw k refl) ∙ q.0, q.1)
       by false k =
           let q = undo-struck l' j' a.3 (eqb-false _ _ k) (a.1 ∙ rw k refl) in
-          (ap answer.Done (a.0 ∙ rw k refl) ∙ q.0, ap (λ (p : List ℕ). five b.nodes b.names l' p j') (a.2 ∙ rw k refl) ∙ q.1)
+          (ap Ok (a.0 ∙ rw k refl) ∙ q.0, ap (λ (p : List ℕ). five b.nodes b.names l' p j') (a.2 ∙ rw k refl) ∙ q.1)

@@ -10,9 +10,9 @@ ghost use Rattle.trial.specs.Trial.{undo_asked};
 
 use crate::taking_back::take_back_latest;
 use book::Counts;
+use book::lent::Lent;
 use book_check::is_book;
 use numbers::{NO_BOOK, NOTHING_TO_UNDO};
-use trial::Edited;
 
 pub mod taking_back;
 
@@ -36,7 +36,14 @@ fn undo_by_value(
         (λ b w. undo_asked w)
         result.number result.counts (five nodes.now names.now lines.new pool.new journal.new) }
 {
-    if !is_book(c, nodes, names, lines, pool, journal) {
+    if !is_book(Lent {
+        counts: c,
+        nodes,
+        names,
+        lines,
+        pool,
+        journal,
+    }) {
         return Undone {
             counts: c,
             number: NO_BOOK,
@@ -98,15 +105,15 @@ pub fn undo_latest(
     lines: &mut [u32],
     pool: &mut [u8],
     journal: &mut [u32],
-) -> Edited
+) -> Result<Counts, u32>
     ensures { Answers c (five nodes.now names.now lines.old pool.old journal.old)
         (λ b w. undo_asked w)
         result (five nodes.now names.now lines.new pool.new journal.new) }
 {
     let u = undo_lent(c, nodes, names, lines, pool, journal);
     if u.number != 0 {
-        return Edited::Refused(u.number);
+        return Err(u.number);
     }
     let counts = u.counts;
-    Edited::Done(counts)
+    Ok(counts)
 }

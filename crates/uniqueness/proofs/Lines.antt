@@ -53,14 +53,14 @@ use Rattle.desk.proofs.run_line.Reads as run_line_reads
 
 -- ---- printing_symbols
 pub render_counts_unique : Unique render_counts.ended render_counts_reads.Post
-render_counts_unique κs a x y v w p q = (same p.0 q.0, λ i. tt ▹ tt ▹ tt ▹ tt ▹ tt ▹ tt ▹ same p.1 q.1 i ▹ tt)
+render_counts_unique κs a x y v w p q = (same p.0 q.0, λ i. tt ▹ same p.1 q.1 i ▹ tt)
 
 pub put_symbol_line_unique : Unique put_symbol_line.ended put_symbol_line_reads.Post
 put_symbol_line_unique κs a x y v w p q = (same p.0 q.0, λ i. same p.1 q.1 i ▹ tt ▹ tt ▹ tt ▹ tt)
 
 -- ---- printing_listing
 pub render_symbols_unique : Unique render_symbols.ended render_symbols_reads.Post
-render_symbols_unique κs a x y v w p q = (same p.0 q.0, λ i. tt ▹ tt ▹ tt ▹ tt ▹ tt ▹ tt ▹ tt ▹ tt ▹ same p.1 q.1 i ▹ tt)
+render_symbols_unique κs a x y v w p q = (same p.0 q.0, λ i. tt ▹ tt ▹ tt ▹ same p.1 q.1 i ▹ tt)
 
 pub render_too_long_unique : Unique render_too_long.ended render_too_long_reads.Post
 render_too_long_unique κs a x y v w p q =
@@ -91,10 +91,10 @@ pub show_counts_unique : Unique show_counts.ended show_counts_reads.Post
 show_counts_unique κs a x y v w p q = (same p.0 q.0, λ i. tt ▹ same p.1 q.1 i ▹ tt)
 
 pub show_lines_unique : Unique show_lines.ended show_lines_reads.Post
-show_lines_unique κs a x y v w p q = (same p.0 q.0, λ i. tt ▹ tt ▹ tt ▹ tt ▹ tt ▹ tt ▹ same p.1 q.1 i ▹ tt)
+show_lines_unique κs a x y v w p q = (same p.0 q.0, λ i. tt ▹ same p.1 q.1 i ▹ tt)
 
 pub show_dump_unique : Unique show_dump.ended show_dump_reads.Post
-show_dump_unique κs a x y v w p q = (same p.0 q.0, λ i. tt ▹ tt ▹ tt ▹ tt ▹ tt ▹ tt ▹ same p.1 q.1 i ▹ tt)
+show_dump_unique κs a x y v w p q = (same p.0 q.0, λ i. tt ▹ same p.1 q.1 i ▹ tt)
 
 -- ---- printing_why
 pub put_refused_name_unique : Unique put_refused_name.ended put_refused_name_reads.Post
@@ -107,20 +107,20 @@ pub demangled_of_unique : UniqueAs demangled_of.ended (λ κs. List ℕ) (λ κs
 demangled_of_unique κs a x y v w p q = (same p q, refl)
 
 pub render_why_in_book_unique : Unique render_why_in_book.ended render_why_in_book_reads.Post
-render_why_in_book_unique κs a x y v w p q = (same p.0 q.0, λ i. tt ▹ tt ▹ tt ▹ tt ▹ tt ▹ tt ▹ tt ▹ tt ▹ same p.1 q.1 i ▹ tt)
+render_why_in_book_unique κs a x y v w p q = (same p.0 q.0, λ i. tt ▹ tt ▹ tt ▹ same p.1 q.1 i ▹ tt)
 
 pub render_why_unique : Unique render_why.ended render_why_reads.Post
-render_why_unique κs a x y v w p q = (same p.0 q.0, λ i. tt ▹ tt ▹ tt ▹ tt ▹ tt ▹ tt ▹ tt ▹ tt ▹ same p.1 q.1 i ▹ tt)
+render_why_unique κs a x y v w p q = (same p.0 q.0, λ i. tt ▹ tt ▹ tt ▹ same p.1 q.1 i ▹ tt)
 
 -- ---- desk
 pub printed_unique : Unique printed.ended printed_reads.Post
 printed_unique κs a x y v w p q = (same p q, refl)
 
 pub run_ask_unique : Unique run_ask.ended run_ask_reads.Post
-run_ask_unique κs a x y v w p q = (same p.0 q.0, λ i. tt ▹ tt ▹ tt ▹ tt ▹ tt ▹ tt ▹ tt ▹ same p.1 q.1 i ▹ tt)
+run_ask_unique κs a x y v w p q = (same p.0 q.0, λ i. tt ▹ tt ▹ same p.1 q.1 i ▹ tt)
 
 pub run_why_unique : Unique run_why.ended run_why_reads.Post
-run_why_unique κs a x y v w p q = (same p.0 q.0, λ i. tt ▹ tt ▹ tt ▹ tt ▹ tt ▹ tt ▹ tt ▹ tt ▹ same p.1 q.1 i ▹ tt)
+run_why_unique κs a x y v w p q = (same p.0 q.0, λ i. tt ▹ tt ▹ tt ▹ same p.1 q.1 i ▹ tt)
 
 pub run_edit_unique : Unique run_edit.ended run_edit_reads.Post
 run_edit_unique κs a x y v w p q =
@@ -128,7 +128,7 @@ run_edit_unique κs a x y v w p q =
     (same p.0 q.0, λ i. tt ▹ tt ▹ tt ▹ (b i).lines ▹ (b i).pool ▹ (b i).journal ▹ tt ▹ tt ▹ same p.1 q.1 i ▹ tt)
 
 pub run_question_unique : Unique run_question.ended run_question_reads.Post
-run_question_unique κs a x y v w p q = (same p.0 q.0, λ i. tt ▹ tt ▹ tt ▹ tt ▹ tt ▹ tt ▹ tt ▹ tt ▹ tt ▹ same p.1 q.1 i ▹ tt)
+run_question_unique κs a x y v w p q = (same p.0 q.0, λ i. tt ▹ tt ▹ tt ▹ tt ▹ same p.1 q.1 i ▹ tt)
 
 pub run_line_unique : Unique run_line.ended run_line_reads.Post
 run_line_unique κs a x y v w p q =

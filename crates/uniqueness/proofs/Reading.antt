@@ -1,4 +1,4 @@
--- What reads a text leaves one answer and one end state: numbers, linker_script, utf8, reading_tokens, reading_cursors, reading_matchers, reading_bodies,
+-- What reads a text leaves one answer and one end state: linker_script, utf8, reading_tokens, reading_cursors, reading_matchers, reading_bodies,
 -- reading, reading_rows, input, desk_commands. Assumes nothing.
 use Prim.Native.Nat.{ℕ}
 use mathlib.Core.Path.{◌≡◌, refl, sym, ap, ◌∙◌}
@@ -9,8 +9,6 @@ use Rattle.linker_script.specs.Trim.{trim_end}
 use Rattle.uniqueness.specs.Unique.{Unique, UniqueAs}
 use Rattle.uniqueness.specs.Promises.{Trimmed}
 use Rattle.uniqueness.proofs.Same.{◌▹◌, same}
-use Rattle.numbers.specs.contracts.edition_by
-use Rattle.numbers.proofs.edition_by.Reads as edition_by_reads
 use Rattle.linker_script.specs.contracts.byte_at
 use Rattle.linker_script.proofs.byte_at.Reads as byte_at_reads
 use Rattle.linker_script.specs.contracts.last_close
@@ -53,6 +51,8 @@ use Rattle.reading_cursors.specs.contracts.with_section
 use Rattle.reading_cursors.proofs.with_section.Reads as with_section_reads
 use Rattle.reading_cursors.specs.contracts.with_language
 use Rattle.reading_cursors.proofs.with_language.Reads as with_language_reads
+use Rattle.reading_cursors.specs.contracts.refuse
+use Rattle.reading_cursors.proofs.refuse.Reads as refuse_reads
 use Rattle.reading_cursors.specs.contracts.skip_at
 use Rattle.reading_cursors.proofs.skip_at.Reads as skip_at_reads
 use Rattle.reading_matchers.specs.contracts.in_extern
@@ -87,18 +87,14 @@ use Rattle.input.specs.contracts.splitting.part_before
 use Rattle.input.proofs.splitting.part_before.Reads as part_before_reads
 use Rattle.input.specs.contracts.splitting.part_behind
 use Rattle.input.proofs.splitting.part_behind.Reads as part_behind_reads
+use Rattle.input.specs.contracts.splitting.line_end
+use Rattle.input.proofs.splitting.line_end.Reads as line_end_reads
 use Rattle.desk_commands.specs.contracts.parts.number_at
 use Rattle.desk_commands.proofs.parts.number_at.Reads as number_at_reads
 use Rattle.desk_commands.specs.contracts.parts.tail
 use Rattle.desk_commands.proofs.parts.tail.Reads as tail_reads
-use Rattle.desk_commands.specs.contracts.parts.line_end
-use Rattle.desk_commands.proofs.parts.line_end.Reads as line_end_reads
 use Rattle.desk_commands.specs.contracts.command_of
 use Rattle.desk_commands.proofs.command_of.Reads as command_of_reads
-
--- ---- numbers
-pub edition_by_unique : Unique edition_by.ended edition_by_reads.Post
-edition_by_unique κs a x y v w p q = (same p q, refl)
 
 -- ---- linker_script
 pub byte_at_unique : Unique byte_at.ended byte_at_reads.Post
@@ -174,6 +170,9 @@ with_section_unique κs a x y v w p q = (same p q, refl)
 pub with_language_unique : Unique with_language.ended with_language_reads.Post
 with_language_unique κs a x y v w p q = (same p q, refl)
 
+pub refuse_unique : Unique refuse.ended refuse_reads.Post
+refuse_unique κs a x y v w p q = (same p q, refl)
+
 pub skip_at_unique : Unique skip_at.ended skip_at_reads.Post
 skip_at_unique κs a x y v w p q = (same p q, refl)
 
@@ -230,6 +229,9 @@ part_before_unique κs a x y v w p q = (same p q, refl)
 pub part_behind_unique : UniqueAs part_behind.ended (λ κs. List ℕ) (λ κs r. r.now) part_behind_reads.Post
 part_behind_unique κs a x y v w p q = (same p q, refl)
 
+pub line_end_unique : Unique line_end.ended line_end_reads.Post
+line_end_unique κs a x y v w p q = (same p.0 q.0, refl)
+
 -- ---- desk_commands: parts
 pub number_at_unique : Unique number_at.ended number_at_reads.Post
 number_at_unique κs a x y v w p q = (same p q, refl)
@@ -237,9 +239,6 @@ number_at_unique κs a x y v w p q = (same p q, refl)
 -- what the slice holds; where it lies is not promised
 pub tail_unique : UniqueAs tail.ended (λ κs. List ℕ) (λ κs r. r.now) tail_reads.Post
 tail_unique κs a x y v w p q = (same p q, refl)
-
-pub line_end_unique : Unique line_end.ended line_end_reads.Post
-line_end_unique κs a x y v w p q = (same p q, refl)
 
 -- ---- desk_commands
 pub command_of_unique : Unique command_of.ended command_of_reads.Post

@@ -4,3 +4,4 @@ pub mod Ascii
 pub mod Changes
 mod Forms
 mod Exits
+pub mod StdUtf8

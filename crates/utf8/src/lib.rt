@@ -8,6 +8,7 @@ ghost use Rattle.utf8.specs.At.{placed, character_at};
 
 // The character at a place: its number, the place behind it, and whether one starts there. Where none does it is U+FFFD and
 // one byte long; at the end of the text, and past it, U+FFFD and no byte long.
+// No Option: a reader goes on behind U+FFFD as behind any other number, so `good` is beside a number that is always there. std's `chars` reads valid text only.
 #[derive(Clone, Copy)]
 pub struct Character {
     pub number: u32,
@@ -119,19 +120,12 @@ fn of_many(at: usize, a: u32, b: u32, c: u32, d: u32) -> Character
     requires { (at + 4 < 18446744073709551616) × (0x80 ≤ a) }
     ensures { result ≡ placed at (starts a b c d) }
 {
-    if a < 0xC2 {
-        return not_found(at);
+    match a {
+        0xC2..0xE0 => of_two(at, a, b),
+        0xE0..0xF0 => of_three(at, a, b, c),
+        0xF0..0xF5 => of_four(at, a, b, c, d),
+        _ => not_found(at),
     }
-    if a < 0xE0 {
-        return of_two(at, a, b);
-    }
-    if a < 0xF0 {
-        return of_three(at, a, b, c);
-    }
-    if a < 0xF5 {
-        return of_four(at, a, b, c, d);
-    }
-    not_found(at)
 }
 
 // The character at a place of s whose byte there, a, is no ASCII. It stands apart so that a caller's loop holds only the way of ASCII, which most names
@@ -168,18 +162,5 @@ pub fn character_at(s: &[u8], at: usize) -> Character
 pub fn is_utf8(s: &[u8]) -> bool
     ensures { result ≡ utf8 s.now }
 {
-    let mut at = 0;
-    while at < s.len() {
-        let a = wide(s[at]);
-        if a < 0x80 {
-            at += 1;
-            continue;
-        }
-        let f = longer(s, at, a);
-        if !f.good {
-            return false;
-        }
-        at = f.next;
-    }
-    true
+    str::from_utf8(s).is_ok()
 }

@@ -1,7 +1,7 @@
 -- What is printed of an input: the exits of `tell_input`. Assumes nothing.
 use Prim.Native.Nat.{ℕ, ◌+◌, ◌-◌, ◌≤◌, ◌<◌}
 use mathlib.Core.Path.{◌≡◌, refl}
-use mathlib.Core.List.{List, [], ◌∷◌, append-nil}
+use mathlib.Core.List.{List, [], append-nil}
 use mathlib.Core.Bool.{cond}
 use borrow.Author.Tests.{le-ltb, lt-ltb}
 use lib.Dec.{leb}

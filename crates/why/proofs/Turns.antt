@@ -2,16 +2,16 @@
 use Prim.Native.Nat.{ℕ, ◌+◌, ◌*◌, ◌-◌, ◌≤◌, ◌<◌}
 use mathlib.Core.Path.{◌≡◌, refl, sym, ap, ◌∙◌}
 use mathlib.Core.List.{List, [], ◌∷◌, ◌++◌, append_assoc}
-use mathlib.Core.Option.{Option}
+use Rattle.std.specs.Prelude.{Option}
 use native.Mathlib.Omega.{arith}
 use lib.ListN.{length, take, drop, length-append}
 use Rattle.lists.specs.Front.{front}
 use Rattle.book.specs.Books.{Book}
 use Rattle.input.specs.Splitting.{lines_in}
 use Rattle.input.proofs.Cuts.{no_lines_from}
-use Rattle.desk_commands.specs.Parts.{line_end}
-use Rattle.desk_commands.proofs.Cuts.{lines_from}
-use Rattle.desk_commands.proofs.Ends.{line-within}
+use Rattle.input.specs.Splitting.{line_end}
+use Rattle.input.proofs.Ends.{lines_from}
+use Rattle.input.proofs.Ends.{line-within}
 use Rattle.printing.specs.Printing.{Begins}
 use Rattle.printing_why.specs.Whys.{PrintsLines, joined, put_over, why_answered, whys}
 use Rattle.why.specs.Stops.{StopsWithin}
@@ -45,7 +45,7 @@ module _ (s : List ℕ) (w : Option Book) (l d₀ : List ℕ) where
       leads =
           let q = ap (λ (ts : List (List ℕ)). put_over (whys s w ts) d) (lines_from l at h) in
           rw (f.1, e) (sym q ∙ t.leads);
-      few = omega (arith, t.few, (line-within l at end h e).0);
+      few = omega (arith, t.few, (line-within l at end (omega arith) e).0);
     }
 
     pub tells_end : length l ≤ at → PrintsLines (whys s w (lines_in [] l)) d₀ n d

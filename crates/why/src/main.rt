@@ -6,6 +6,7 @@
 
 ghost use Rattle.std.specs.Prelude.{◌≡◌, true, [], ◌≤◌, length, IfOk, OnErr};
 ghost use Rattle.lists.specs.Front.{front};
+ghost use Rattle.book.specs.Lending.{view_of};
 ghost use Rattle.book.specs.Layout.{five};
 ghost use Rattle.book.specs.View.{holds, view};
 ghost use Rattle.book_opening.specs.Opening.{as_script, opening};
@@ -15,8 +16,9 @@ ghost use Rattle.printing_listing.specs.Listing.{verlist_room};
 ghost use Rattle.printing_why.specs.Whys.{PrintsLines, why_answered, why_listing, why_printed, whys};
 ghost use Rattle.why.specs.Stops.{StopsWithin};
 
-use book::Counts;
-use desk_commands::parts::line_end;
+use book::lent::Lent;
+use book_check::Held;
+use input::splitting::line_end;
 use meanings::{front, read_input, say_refused};
 use numbers::TOO_LONG;
 use printing::put_refused_line;
@@ -47,25 +49,20 @@ fn refuse(
 // A symbol's line, asked of a book that the text was opened as. What is printed stands at the start of `out`; its length is answered.
 fn tell_symbol(
     to: &impl Print,
-    c: Counts,
-    nodes: &[u32],
-    names: &[u8],
-    lines: &[u32],
-    pool: &[u8],
-    journal: &[u32],
+    book: Held,
     text: &[u8],
     line: &[u8],
     out: &mut [u8; 131200],
 ) -> io::Result<usize>
-    requires { (holds c (five nodes.now names.now lines.now pool.now journal.now) ≡ true) × (length names.now ≤ 65536)
+    requires { (length book.lent.names.now ≤ 65536)
         × (length line.now ≤ input_limit) }
     ensures ok { IfOk result (λ n. Begins out.old (why_answered text.now
-        (view c (five nodes.now names.now lines.now pool.now journal.now)) line.now)
+        (view_of book.entry.lent) line.now)
         out.new n × (n ≤ 131200)) }
     ensures err { OnErr result (out.new ≡ front (why_answered text.now
-        (view c (five nodes.now names.now lines.now pool.now journal.now)) line.now) out.old) }
+        (view_of book.entry.lent) line.now) out.old) }
 {
-    let n = render_why_in_book(c, nodes, names, lines, pool, journal, text, line, out);
+    let n = render_why_in_book(book, text, line, out);
     to.write_all(front(out, n))?;
     Ok(n)
 }
@@ -73,41 +70,26 @@ fn tell_symbol(
 // The symbols, one a line; a last line feed may lack. Each is printed from the start of `out`; how many bytes that are in all is answered.
 fn tell_symbols(
     to: &impl Print,
-    c: Counts,
-    nodes: &[u32],
-    names: &[u8],
-    lines: &[u32],
-    pool: &[u8],
-    journal: &[u32],
+    book: Held,
     text: &[u8],
     symbols: &[u8],
     out: &mut [u8; 131200],
 ) -> io::Result<usize>
-    requires { (holds c (five nodes.now names.now lines.now pool.now journal.now) ≡ true) × (length names.now ≤ 65536)
+    requires { (length book.lent.names.now ≤ 65536)
         × (length symbols.now ≤ input_limit) }
     ensures ok { IfOk result (λ n. PrintsLines (whys text.now
-        (view c (five nodes.now names.now lines.now pool.now journal.now))
+        (view_of book.entry.lent)
         (lines_in [] symbols.now)) out.old n out.new) }
     ensures err { OnErr result (StopsWithin (whys text.now
-        (view c (five nodes.now names.now lines.now pool.now journal.now))
+        (view_of book.entry.lent)
         (lines_in [] symbols.now)) out.old out.new) }
 {
     let mut printed = 0;
+    // No `split`: behind a last line feed it has an empty piece, which is no line, and of `split_inclusive`'s pieces no clause tells.
     let mut at = 0;
     while at < symbols.len() {
         let end = line_end(symbols, at);
-        printed += tell_symbol(
-            to,
-            c,
-            nodes,
-            names,
-            lines,
-            pool,
-            journal,
-            text,
-            &symbols[at..end],
-            out,
-        )?;
+        printed += tell_symbol(to, book, text, &symbols[at..end], out)?;
         at = end + 1;
     }
     Ok(printed)
@@ -138,18 +120,15 @@ fn tell_script(
     if opened.refusal != 0 {
         return refuse(to, err, text, opened.refusal, opened.place, out);
     }
-    tell_symbols(
-        to,
-        opened.counts,
+    let lent = Lent {
+        counts: opened.counts,
         nodes,
         names,
         lines,
         pool,
         journal,
-        text,
-        symbols,
-        out,
-    )
+    };
+    tell_symbols(to, Held { lent }, text, symbols, out)
 }
 
 // The same in verlist's rooms: "1,024 nodes, 2,048 lines, 65,536 bytes each of names and pool".

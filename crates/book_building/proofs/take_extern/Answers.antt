@@ -2,4 +2,4 @@
 use Rattle.book_building.proofs.take_extern.Goals as goal
 
 pub returns : goal.returns
-returns c = rw c.mixed_in_block-mixed.ensures
+returns c = rw c.mixed_in_block.ensures

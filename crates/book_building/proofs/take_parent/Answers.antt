@@ -15,7 +15,7 @@ returns-then-parent-eq0 c =
 pub returns-then-i-q : goal.returns-then-i-q
 returns-then-i-q c =
     let a = c.args in
-    parent-refused a.g a.p a.nodes.now a.names.now c.first_named.result _ c.in-Here.is a.parent.now [] c.if-parent-eq0.false c.first_named.ensures (omega arith)
+    parent-refused a.g a.p a.nodes.now a.names.now c.first_named.result _ c.in-Some.is a.parent.now [] c.if-parent-eq0.false c.first_named.ensures (omega arith)
 
 pub bounds-nodes-i : goal.bounds-nodes-i
 unfolding node_form
@@ -23,12 +23,12 @@ bounds-nodes-i c =
     let a = c.args in
     omega (arith, (nodes_packed a.g.nodes a.g.names a.nodes.now a.names.now c.requires.0).rowroom)
 
-pub returns-in-Nowhere : goal.returns-in-Nowhere
-returns-in-Nowhere c =
+pub returns-in-None : goal.returns-in-None
+returns-in-None c =
     let a = c.args in
-    parent-unknown a.g a.p a.nodes.now a.names.now c.first_named.result a.parent.now [] c.if-parent-eq0.false c.first_named.ensures c.in-Nowhere.is
+    parent-unknown a.g a.p a.nodes.now a.names.now c.first_named.result a.parent.now [] c.if-parent-eq0.false c.first_named.ensures c.in-None.is
 
 pub returns-else-i-q : goal.returns-else-i-q
 returns-else-i-q c =
     let a = c.args in
-    parent-set a.g a.p a.nodes.now a.names.now c.first_named.result _ c.in-Here.is a.parent.now _ c.if-parent-eq0.false c.first_named.ensures (omega arith) refl
+    parent-set a.g a.p a.nodes.now a.names.now c.first_named.result _ c.in-Some.is a.parent.now _ c.if-parent-eq0.false c.first_named.ensures (omega arith) refl

@@ -1,5 +1,4 @@
 -- `analyze_glob_pattern` meets its contract. The loop's invariant: what is left decides. Assumes nothing.
-use Prim.Native.Nat.{◌-◌}
 use Rattle.classes.proofs.Scanning.{scan-plain, scan-star, scan-escape, scan_on, scan_end}
 use Rattle.classes.proofs.analyze_glob_pattern.Goals as goal
 

@@ -1,5 +1,4 @@
 -- `plain_blocks` meets its contract. Assumes nothing.
-use Prim.Native.Nat.{◌-◌}
 use mathlib.Core.Path.{refl}
 use native.Mathlib.Omega.{arith}
 use Rattle.classes.proofs.Scanning.{blocks_on, blocks_end}
@@ -8,8 +7,8 @@ use Rattle.classes.proofs.plain_blocks.Goals as goal
 pub loop-i-init : goal.loop-i-init
 loop-i-init c = record { within = omega arith; left = refl }
 
-pub returns-then-block_mark-ne0 : goal.returns-then-block_mark-ne0
-returns-then-block_mark-ne0 c = search blocks_end
+pub returns-then-has_sign : goal.returns-then-has_sign
+returns-then-has_sign c = search blocks_end
 
 pub loop-i-preserved : goal.loop-i-preserved
 loop-i-preserved c = search blocks_on

@@ -1,12 +1,13 @@
 -- `with_byte` meets its contract. Assumes nothing.
-use Rattle.classes.proofs.Scanning.{scanned-escape, scanned-nonstar, scanned_same}
+use native.Mathlib.Omega.{arith}
+use Rattle.classes.proofs.Scanning.{scanned-escape, is_nonstar, scanned_same}
 use Rattle.classes.proofs.with_byte.Goals as goal
 
-pub returns-then-c-eq92 : goal.returns-then-c-eq92
-returns-then-c-eq92 c = search scanned-escape
+pub returns-in-92 : goal.returns-in-92
+returns-in-92 c = search scanned-escape
 
-pub returns-then-is_nonstar : goal.returns-then-is_nonstar
-returns-then-is_nonstar c = search scanned-nonstar
+pub returns-in-91 : goal.returns-in-91
+returns-in-91 c = is_nonstar _ c.in-91.is _
 
-pub returns : goal.returns
-returns c = search scanned_same
+pub returns-in_default : goal.returns-in_default
+returns-in_default c = scanned_same _ _ (λ e. omega arith) (λ e. grind arith) (λ e. grind arith) (λ e. grind arith)

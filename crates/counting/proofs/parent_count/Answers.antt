@@ -1,17 +1,15 @@
 -- `parent_count` meets its contract, by the laws of Nodes. Assumes nothing.
-use Rattle.counting.proofs.Nodes.{count-no_book, count-export, asks-parents, parents-counted}
-use mathlib.Core.Path.{ap}
-use mathlib.Core.Bool.{not}
+use Rattle.std.proofs.lemmas.Result.{err_from_is_err_and}
+use Rattle.counting.proofs.Nodes.{count-refused, asks-parents, parents-counted}
 use Rattle.counting.proofs.parent_count.Goals as goal
 
-pub returns-then-not-is_book : goal.returns-then-not-is_book
-returns-then-not-is_book c = search count-no_book
-
-pub returns-then-c-eq-EXPORT : goal.returns-then-c-eq-EXPORT
-returns-then-c-eq-EXPORT c = search count-export
+pub returns-in_err-ask : goal.returns-in_err-ask
+returns-in_err-ask c =
+    let p = err_from_is_err_and c.from_residual.result c.from_residual.ensures.1 in
+    rw (p.1, p.2) (count-refused _ _ c.ask.ensures _ c.in_err-ask.was _)
 
 pub parents_among-requires : goal.parents_among-requires
-parents_among-requires c = asks-parents _ _ _ _ _ _ _ c.is_book.ensures (ap not c.if-not-is_book.false) c.if-c-eq-EXPORT.false
+parents_among-requires c = asks-parents _ _ _ _ _ _ _ c.ask.ensures _ c.in_ok-ask.was
 
 pub returns : goal.returns
-returns c = search parents-counted
+returns c = parents-counted _ _ _ _ _ _ _ c.ask.ensures _ c.in_ok-ask.was _ c.parents_among.ensures

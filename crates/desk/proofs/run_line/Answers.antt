@@ -1,6 +1,7 @@
 -- `run_line` meets its contract. Assumes nothing.
 use Prim.Native.Nat.{◌+◌, ◌≤◌}
-use mathlib.Core.Path.{refl, sym, ◌∙◌}
+use mathlib.Core.Path.{refl, sym, ap, ◌∙◌}
+use Rattle.std.specs.Prelude.{Some}
 use native.Mathlib.Omega.{arith}
 use borrow.Author.Tests.{leb-false, leb-true}
 use lib.ListN.{length}
@@ -32,23 +33,23 @@ run_unknown-requires c =
     let answerable : answer_room ≤ length c.args.out.now = let a = c.args in shown_suffices a.c (length a.out.now) (omega (arith, roomy)) in
     answerable
 
-pub returns-in-Edits : goal.returns-in-Edits
-returns-in-Edits c =
+pub returns-in-Some-Edits : goal.returns-in-Some-Edits
+returns-in-Some-Edits c =
     let roomy : let a = c.args in shown_room a.c + length a.line.now ≤ length a.out.now = leb-true _ _ (sym c.has_room.ensures ∙ c.if-not-has_room.false) in
     let a = c.args in
     edit_answered a.text.now a.c a.line.now a.out.now roomy (let a = c.args in five a.nodes.now a.names.now a.lines.now a.pool.now a.journal.now) _ c.command_of.ensures _ _
-    (five _ _ _ _ _) _ c.in-Edits.is c.run_edit.ensures
+    (five _ _ _ _ _) _ (c.in-Some-Edits.is ∙ ap (λ m. Some m) c.in-Some-Edits.field-0-is) c.run_edit.ensures
 
-pub returns-in-Asks : goal.returns-in-Asks
-returns-in-Asks c =
+pub returns-in-Some-Asks : goal.returns-in-Some-Asks
+returns-in-Some-Asks c =
     let roomy : let a = c.args in shown_room a.c + length a.line.now ≤ length a.out.now = leb-true _ _ (sym c.has_room.ensures ∙ c.if-not-has_room.false) in
     let a = c.args in
     question-answered a.text.now a.c a.line.now a.out.now roomy (let a = c.args in five a.nodes.now a.names.now a.lines.now a.pool.now a.journal.now) _
-    c.command_of.ensures _ _ (let a = c.args in five a.nodes.now a.names.now a.lines.now a.pool.now a.journal.now) _ c.in-Asks.is c.run_question.ensures refl
+    c.command_of.ensures _ _ (let a = c.args in five a.nodes.now a.names.now a.lines.now a.pool.now a.journal.now) _ (c.in-Some-Asks.is ∙ ap (λ m. Some m) c.in-Some-Asks.field-0-is) c.run_question.ensures refl
 
-pub returns-in-Unknown : goal.returns-in-Unknown
-returns-in-Unknown c =
+pub returns-in-None : goal.returns-in-None
+returns-in-None c =
     let roomy : let a = c.args in shown_room a.c + length a.line.now ≤ length a.out.now = leb-true _ _ (sym c.has_room.ensures ∙ c.if-not-has_room.false) in
     let a = c.args in
     unknown-answered a.text.now a.c a.line.now a.out.now roomy (let a = c.args in five a.nodes.now a.names.now a.lines.now a.pool.now a.journal.now) _
-    c.command_of.ensures _ _ (let a = c.args in five a.nodes.now a.names.now a.lines.now a.pool.now a.journal.now) c.in-Unknown.is c.run_unknown.ensures refl
+    c.command_of.ensures _ _ (let a = c.args in five a.nodes.now a.names.now a.lines.now a.pool.now a.journal.now) c.in-None.is c.run_unknown.ensures refl

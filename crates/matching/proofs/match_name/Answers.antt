@@ -26,8 +26,8 @@ loop-i-preserved-in-Star c = search held-star
 pub overflow_add-tests-in-Fails : goal.overflow_add-tests-in-Fails
 overflow_add-tests-in-Fails c = record { fits = search fails-fits }
 
-pub returns-then-not-starred : goal.returns-then-not-starred
-returns-then-not-starred c = search held_none
+pub returns-in_default : goal.returns-in_default
+returns-in_default c = search held_none
 
 pub loop-i-smaller : goal.loop-i-smaller
 loop-i-smaller c = search back_less

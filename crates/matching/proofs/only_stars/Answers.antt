@@ -1,19 +1,14 @@
 -- `only_stars` meets its contract. Assumes nothing.
-use Prim.Native.Nat.{◌-◌}
-use Rattle.matching.proofs.Turns.{stars_start, stars_end, stars_no, stars_on, stars_less}
+use Rattle.std.proofs.Common.{rules, ◌∙◌, nat_eq}
+use Rattle.std.proofs.lemmas.Iterator.{YieldsList-from_slice}
+use Rattle.std.proofs.lemmas.Iterator.Adapters.{YieldsList-from_skip}
+use Rattle.std.proofs.lemmas.Iterator.Search.{all_from_yields_List}
+use Rattle.matching.proofs.Turns.{stars_only}
 use Rattle.matching.proofs.only_stars.Goals as goal
 
-pub loop-at-init : goal.loop-at-init
-loop-at-init c = search stars_start
-
-pub returns-then-f-ne42 : goal.returns-then-f-ne42
-returns-then-f-ne42 c = search stars_no
-
-pub loop-at-smaller : goal.loop-at-smaller
-loop-at-smaller c = search stars_less
-
-pub loop-at-preserved : goal.loop-at-preserved
-loop-at-preserved c = search stars_on
-
 pub returns : goal.returns
-returns c = search stars_end
+returns c =
+    let a = c.args in
+    all_from_yields_List (λ x. nat_eq x 42) _ _ _ c.all.ensures.ran
+    (YieldsList-from_skip a.from (YieldsList-from_slice a.p.now cc) cc) (λ x b q k. search rules)
+    ∙ stars_only a.edition _

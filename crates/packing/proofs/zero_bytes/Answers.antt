@@ -1,17 +1,16 @@
--- `zero_bytes` meets its contract. The loop's invariant: what is left from i on decides. Assumes nothing.
-use Prim.Native.Nat.{◌-◌}
-use native.Mathlib.Omega.{arith}
-use Rattle.packing.proofs.Loops.{zero-starts, zero_stops, zero_more, zero-ends}
+-- `zero_bytes` meets its contract: the chain tells what `every` says. Assumes nothing.
+use Rattle.std.proofs.Common.{rules, ◌∙◌, nat_eq}
+use Rattle.std.proofs.lemmas.Iterator.{YieldsList-from_slice}
+use Rattle.std.proofs.lemmas.Iterator.Adapters.{YieldsList-from_skip}
+use Rattle.std.proofs.lemmas.Iterator.Search.{all_from_yields_List}
+use Rattle.lists.proofs.Tested.{all_every}
+use Rattle.packing.specs.Padding.{all_zero}
 use Rattle.packing.proofs.zero_bytes.Goals as goal
 
-pub loop-i-init : goal.loop-i-init
-loop-i-init c = zero-starts
-
-pub returns-then-bytes-i-ne0 : goal.returns-then-bytes-i-ne0
-returns-then-bytes-i-ne0 c = zero_stops c.loop-i.invariant (omega arith) (λ e. omega (arith, c.if-bytes-i-ne0.true))
-
-pub loop-i-preserved : goal.loop-i-preserved
-loop-i-preserved c = zero_more c.loop-i.invariant (omega arith) (omega (arith, c.if-bytes-i-ne0.false))
-
 pub returns : goal.returns
-returns c = zero-ends c.loop-i.invariant c.loop-i-test.false
+unfolding all_zero
+returns c =
+    let a = c.args in
+    all_from_yields_List (λ x. nat_eq x 0) _ _ _ c.all.ensures.ran
+    (YieldsList-from_skip a.from (YieldsList-from_slice a.bytes.now cc) cc) (λ x b q k. search rules)
+    ∙ all_every _ _

@@ -12,5 +12,5 @@ overflow_add-end c = search (end_fits, arith)
 pub returns-then-p-end : goal.returns-then-p-end
 returns-then-p-end c = stays_open _ _ _ _ c.mark_at.ensures _ _ c.between_length.ensures (omega (arith, c.if-p-end.true))
 
-pub returns : goal.returns
-returns c = closes _ _ _ _ c.mark_at.ensures _ _ c.between_length.ensures (omega (arith, c.if-p-end.false))
+pub returns-else-p-end : goal.returns-else-p-end
+returns-else-p-end c = closes _ _ _ _ c.mark_at.ensures _ _ c.between_length.ensures (omega (arith, c.if-p-end.false))

@@ -1,5 +1,4 @@
 -- `shape_refusal` meets its contract, by the laws of Refusals. The loop's invariant: what is left decides. Assumes nothing.
-use Prim.Native.Nat.{◌-◌}
 use Rattle.utf8.proofs.Ascii.{walk-within}
 use Rattle.pattern_check.proofs.Refusals.{walk_less, walk-one, walk-open, walk-bracket, bracket_less, walk_ends}
 use Rattle.pattern_check.proofs.shape_refusal.Goals as goal
@@ -19,8 +18,8 @@ loop-at-smaller c = search bracket_less
 pub loop-at-preserved : goal.loop-at-preserved
 loop-at-preserved c = search walk-bracket
 
-pub returns-in-Open : goal.returns-in-Open
-returns-in-Open c = search walk-open
+pub returns-in_default : goal.returns-in_default
+returns-in_default c = search walk-open
 
 pub returns : goal.returns
 returns c = search walk_ends

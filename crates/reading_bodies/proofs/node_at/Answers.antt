@@ -8,14 +8,6 @@ pub returns-then-p-s : goal.returns-then-p-s
 unfolding node_at
 returns-then-p-s c = search ways
 
-pub parse_token-q-requires : goal.parse_token-q-requires
-unfolding node_at
-parse_token-q-requires c = search ways
-
-pub name_to-requires : goal.name_to-requires
-unfolding node_at
-name_to-requires c = search ways
-
 pub returns : goal.returns
 unfolding node_at
 returns c = search (left, ne_eqb, name-ends)

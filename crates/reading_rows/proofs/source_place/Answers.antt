@@ -3,18 +3,18 @@ use Rattle.reading_rows.specs.Rows.{place_of}
 use Rattle.reading_rows.proofs.Tabling.{decides}
 use Rattle.reading_rows.proofs.source_place.Goals as goal
 
-pub returns-then-source-eq0 : goal.returns-then-source-eq0
+pub returns-in-0 : goal.returns-in-0
 unfolding place_of
-returns-then-source-eq0 c = search decides
+returns-in-0 c = rw c.in-0.is
 
-pub returns-then-source-eq1 : goal.returns-then-source-eq1
+pub returns-in-1 : goal.returns-in-1
 unfolding place_of
-returns-then-source-eq1 c = search decides
+returns-in-1 c = rw c.in-1.is
 
-pub returns-then-source-eq2 : goal.returns-then-source-eq2
+pub returns-in-2 : goal.returns-in-2
 unfolding place_of
-returns-then-source-eq2 c = search decides
+returns-in-2 c = rw c.in-2.is
 
-pub returns : goal.returns
+pub returns-in_default : goal.returns-in_default
 unfolding place_of
-returns c = search decides
+returns-in_default c = search decides

@@ -4,8 +4,8 @@ use lib.ListN.{length}
 use Rattle.reading_rows.proofs.Tabling.{Tabled}
 use Rattle.reading_rows.proofs.write_events.Given as goal
 
-abbrev pub invariant-loop-no : goal.invariant-loop-no
-invariant-loop-no l = Tabled l.place l.text l.initial.rows l.rows l.n l.c
+abbrev pub invariant-loop-e : goal.invariant-loop-e
+invariant-loop-e l = Tabled l.fn.place l.text l.initial.rows l.rows l.n l.c
 
-abbrev pub decreases-loop-no : goal.decreases-loop-no
-decreases-loop-no l = length l.text + 2 - l.c.at
+abbrev pub decreases-loop-e : goal.decreases-loop-e
+decreases-loop-e l = length l.text + 2 - l.c.at

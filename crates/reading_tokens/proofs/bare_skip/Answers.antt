@@ -1,9 +1,7 @@
 -- `bare_skip` meets its contract. Assumes nothing.
-use Rattle.reading_tokens.proofs.Enders.{skip-from-brace, skip_from_start}
+use mathlib.Core.Path.{◌∙◌}
+use Rattle.reading_tokens.proofs.Enders.{skip-from}
 use Rattle.reading_tokens.proofs.bare_skip.Goals as goal
 
-pub returns-in-Here : goal.returns-in-Here
-returns-in-Here c = search skip-from-brace
-
-pub returns-in-Nowhere : goal.returns-in-Nowhere
-returns-in-Nowhere c = search skip_from_start
+pub returns : goal.returns
+returns c = c.unwrap_or.ensures ∙ skip-from _ _ _ c.find.ensures

@@ -7,13 +7,13 @@ pub returns-then-last-at : goal.returns-then-last-at
 returns-then-last-at c = search extern-none_left
 
 pub returns-then-q-at : goal.returns-then-q-at
-returns-then-q-at c = extern_at-once _ _ _ _ c.requires c.if-last-at.false _ c.find.ensures _ c.in-Here.is (omega (arith, c.if-q-at.true))
+returns-then-q-at c = extern_at-once _ _ _ _ c.requires c.if-last-at.false _ c.find.ensures _ c.in-Some.is (omega (arith, c.if-q-at.true))
 
 pub returns-then-byte_at-eq125 : goal.returns-then-byte_at-eq125
 returns-then-byte_at-eq125 c = search (extern-closed c.args.edition c.args.last c.args.s.now c.args.at c.requires)
 
-pub returns-in-Nowhere : goal.returns-in-Nowhere
-returns-in-Nowhere c = search extern-no_semicolon
+pub returns-in-None : goal.returns-in-None
+returns-in-None c = search extern-no_semicolon
 
 pub returns-else-byte_at-eq125 : goal.returns-else-byte_at-eq125
 returns-else-byte_at-eq125 c = search extern-apart

@@ -1,5 +1,4 @@
 -- `parse_token` meets its contract. The loop's invariant: the name from i on decides. Assumes nothing.
-use Prim.Native.Nat.{◌-◌}
 use Rattle.reading_tokens.proofs.Words.{name_all, name_stops, name-goes}
 use Rattle.reading_tokens.proofs.parse_token.Goals as goal
 
@@ -10,4 +9,4 @@ pub loop-i-preserved : goal.loop-i-preserved
 loop-i-preserved c = search name-goes
 
 pub returns : goal.returns
-returns c = search name_all
+returns c = name_all _ _ _ c.loop-i.invariant c.loop-i-test.false c.loop-i.auto.i-end _ c.max.ensures

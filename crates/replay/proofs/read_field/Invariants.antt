@@ -1,9 +1,6 @@
--- `read_field` is safe and ends: each turn reads a byte, of 256 at most. Assumes nothing.
-use Prim.Native.Nat.{◌-◌, ◌≤◌}
+-- No more bytes stand there than there is room. Assumes nothing.
+use Prim.Native.Nat.{◌≤◌}
 use Rattle.replay.proofs.read_field.Given as goal
 
-abbrev pub invariant-loop-n : goal.invariant-loop-n
-invariant-loop-n l = l.n ≤ 256
-
-abbrev pub decreases-loop-n : goal.decreases-loop-n
-decreases-loop-n l = 256 - l.n
+abbrev pub invariant-loop-i : goal.invariant-loop-i
+invariant-loop-i l = l.n ≤ 256

@@ -1,5 +1,4 @@
 -- `copy_unescaped` meets its contract. The loop's invariant: the buffer's front holds the bytes passed, without their escapes. Assumes nothing.
-use Prim.Native.Nat.{◌-◌}
 use native.Mathlib.Omega.{arith}
 use Rattle.lists.proofs.FrontLaws.{written_start, written-room, written_more, written_end}
 use Rattle.storing.proofs.Keeping.{unescape_some, unescape-goes, unescape-stays, unescape_stays_last, unescape_end}

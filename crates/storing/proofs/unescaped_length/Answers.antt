@@ -1,5 +1,4 @@
 -- `unescaped_length` meets its contract. The loop's invariant: the bytes counted, with those that are left, are all. Assumes nothing.
-use Prim.Native.Nat.{◌-◌}
 use Rattle.storing.proofs.Keeping.{counted_start, counted-goes, counted-stays, counted_end}
 use Rattle.storing.proofs.unescaped_length.Goals as goal
 

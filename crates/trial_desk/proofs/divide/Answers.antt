@@ -10,28 +10,18 @@ sit-requires g c =
     let few = c.if-input-gt-INPUT_LIMIT.false in
     simp length-take (omega (arith, few))
 
-pub overflow_add-from : goal.overflow_add-from
-overflow_add-from g c =
+pub slice_bounds-sit-end-in-Some : goal.slice_bounds-sit-end-in-Some
+slice_bounds-sit-end-in-Some g c =
     let a = c.args in
-    let z = text-within a.input.now _ c.find_mark.ensures _ c.in-Here.is in
+    text-count a.input.now _ c.find_mark.ensures _ c.in-Some.is
+
+pub sit-requires-in-Some : goal.sit-requires-in-Some
+sit-requires-in-Some g c =
+    let few = c.if-input-gt-INPUT_LIMIT.false in
+    rw c.tail.ensures (simp length-drop (omega (arith, few)))
+
+pub overflow_add-p : goal.overflow_add-p
+overflow_add-p g c =
+    let a = c.args in
+    let z = text-within a.input.now _ c.find_mark.ensures _ c.in-Some.is in
     search rules
-
-pub slice_bounds-sit-end-then-input-from : goal.slice_bounds-sit-end-then-input-from
-slice_bounds-sit-end-then-input-from g c =
-    let a = c.args in
-    text-count a.input.now _ c.find_mark.ensures _ c.in-Here.is
-
-pub sit-requires-then-input-from : goal.sit-requires-then-input-from
-sit-requires-then-input-from g c =
-    let few = c.if-input-gt-INPUT_LIMIT.false in
-    simp length-take (omega (arith, few))
-
-pub slice_bounds-sit-end-in-Here : goal.slice_bounds-sit-end-in-Here
-slice_bounds-sit-end-in-Here g c =
-    let a = c.args in
-    text-count a.input.now _ c.find_mark.ensures _ c.in-Here.is
-
-pub sit-requires-in-Here : goal.sit-requires-in-Here
-sit-requires-in-Here g c =
-    let few = c.if-input-gt-INPUT_LIMIT.false in
-    simp (length-take, length-drop) (omega (arith, few))

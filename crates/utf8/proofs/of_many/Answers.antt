@@ -2,23 +2,24 @@
 use Rattle.utf8.specs.Utf8.{starts}
 use Rattle.utf8.proofs.Exits.{ways}
 use Rattle.utf8.proofs.of_many.Goals as goal
+use Rattle.utf8.proofs.of_many.Goals.{in_default-via-then-a-lt194, in_default-via-else-a-lt194+else-a-lt224+else-a-lt240+else-a-lt245}
 
-pub returns-then-a-lt194 : goal.returns-then-a-lt194
+pub returns-in-194-to-223 : goal.returns-in-194-to-223
 unfolding starts
-returns-then-a-lt194 c = search ways depth 7
+returns-in-194-to-223 c = search ways depth 7
 
-pub returns-then-a-lt224 : goal.returns-then-a-lt224
+pub returns-in-224-to-239 : goal.returns-in-224-to-239
 unfolding starts
-returns-then-a-lt224 c = search ways depth 7
+returns-in-224-to-239 c = search ways depth 7
 
-pub returns-then-a-lt240 : goal.returns-then-a-lt240
+pub returns-in-240-to-244 : goal.returns-in-240-to-244
 unfolding starts
-returns-then-a-lt240 c = search ways depth 7
+returns-in-240-to-244 c = search ways depth 7
 
-pub returns-then-a-lt245 : goal.returns-then-a-lt245
+pub returns-in_default : goal.returns-in_default
 unfolding starts
-returns-then-a-lt245 c = search ways depth 7
-
-pub returns : goal.returns
-unfolding starts
-returns c = search ways depth 7
+returns-in_default c =
+    elim c.in_default.branch [
+      | in_default-via-then-a-lt194 w ↦ search ways depth 7
+      | in_default-via-else-a-lt194+else-a-lt224+else-a-lt240+else-a-lt245 w ↦ search ways depth 7
+    ]

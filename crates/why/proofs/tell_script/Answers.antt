@@ -21,12 +21,17 @@ returns-then-opened-ne0 g c =
 pub tell_symbols-requires : goal.tell_symbols-requires
 tell_symbols-requires g c =
     let a = c.args in
-    let w = c.open-opened in (
-      script-held (five a.nodes.now a.names.now a.lines.now a.pool.now a.journal.now) a.text.now w.result w.ensures.0
-          (omega (arith, c.if-opened-ne0.false)) _ w.ensures.1,
-      omega (arith, c.requires.0),
-      c.requires.1,
-    )
+    let w = c.open-opened in
+    (omega (arith, c.requires.0), c.requires.1)
+
+pub invariant_of-tell_symbols : goal.invariant_of-tell_symbols
+invariant_of-tell_symbols g c =
+    let a = c.args in
+    let w = c.open-opened in
+    record {
+      holds = script-held (five a.nodes.now a.names.now a.lines.now a.pool.now a.journal.now) a.text.now w.result w.ensures.0
+          (omega (arith, c.if-opened-ne0.false)) _ w.ensures.1;
+    }
 
 pub returns : goal.returns
 returns g c =

@@ -9,8 +9,8 @@ pub render_why_in_book-n-requires : goal.render_why_in_book-n-requires
 render_why_in_book-n-requires g c =
     let a = c.args in
     let p = c.requires in
-    let u = used a.c (five a.nodes.now a.names.now a.lines.now a.pool.now a.journal.now) p.0 in
-    (omega (arith, p.1, p.2, u.names), p.0)
+    let u = used a.book.lent.counts (five a.book.lent.nodes.now a.book.lent.names.now a.book.lent.lines.now a.book.lent.pool.now a.book.lent.journal.now) a.book.holds in
+    omega (arith, p.0, p.1, u.names)
 
 pub returns-clause-ok : goal.returns-clause-ok
 returns-clause-ok g c =

@@ -1,5 +1,4 @@
 -- `first_named` meets its contract. The loop's invariant: the search goes on from node i. Assumes nothing.
-use Prim.Native.Nat.{◌-◌}
 use Rattle.book.proofs.NodeRows.{search_starts, search_lies, search_found, search_more, search_ends}
 use Rattle.book.proofs.nodes.first_named.Goals as goal
 

@@ -21,12 +21,12 @@ returns-then-not-has_row c =
     line_rowless a.g a.p a.section a.language a.token.now a.lines.now a.pool.now
     c.edition_of.result c.edition_of.ensures c.put_token.result _
     c.requires.0 c.put_token.ensures
-    _ _ [] [] c.in-As.is (sym c.has_row.ensures ∙ not-true _ (ap not c.if-not-has_row.true))
+    _ [] [] c.in-Ok.is (sym c.has_row.ensures ∙ not-true _ (ap not c.if-not-has_row.true))
 
 pub code_of-code-requires : goal.code_of-code-requires
 code_of-code-requires c =
     let p = c.requires in
-    (omega (arith, c.class_number-k.ensures, class-few c.in-As.class), omega (arith, p.3), omega (arith, p.4))
+    (omega (arith, c.class_number-k.ensures, class-few c.in-Ok.stored.class), omega (arith, p.3), omega (arith, p.4))
 
 pub overflow_cast-at : goal.overflow_cast-at
 overflow_cast-at c =
@@ -41,7 +41,7 @@ overflow_cast-size c =
       line-ends a.g a.p a.section a.language a.token.now a.lines.now a.pool.now
           c.edition_of.result c.edition_of.ensures c.put_token.result _
           c.requires.0 c.put_token.ensures
-          _ _ c.in-As.is,
+          _ c.in-Ok.is,
     )
 
 pub put_line-requires : goal.put_line-requires
@@ -56,23 +56,23 @@ overflow_add-result c =
     let r = row_number a.lines.now a.g.lines (sym c.has_row.ensures ∙ not-false _ (ap not c.if-not-has_row.false)) in
     omega arith
 
-pub overflow_add-result-in-As : goal.overflow_add-result-in-As
-overflow_add-result-in-As c =
+pub overflow_add-result-in-Ok : goal.overflow_add-result-in-Ok
+overflow_add-result-in-Ok c =
     let a = c.args in
     omega (
       arith,
       line-ends a.g a.p a.section a.language a.token.now a.lines.now a.pool.now
           c.edition_of.result c.edition_of.ensures c.put_token.result _
           c.requires.0 c.put_token.ensures
-          _ _ c.in-As.is,
+          _ c.in-Ok.is,
     )
 
-pub returns-in-Refused : goal.returns-in-Refused
-returns-in-Refused c =
+pub returns-in-Err : goal.returns-in-Err
+returns-in-Err c =
     let a = c.args in
     line_refused a.g a.p a.section a.language a.token.now a.lines.now a.pool.now
     c.edition_of.result c.edition_of.ensures c.put_token.result _
-    c.requires.0 c.put_token.ensures _ [] [] c.in-Refused.is
+    c.requires.0 c.put_token.ensures _ _ [] [] c.in-Err.is c.number.ensures
 
 pub returns-else-not-has_row : goal.returns-else-not-has_row
 returns-else-not-has_row c =
@@ -80,13 +80,13 @@ returns-else-not-has_row c =
     let placed : let a = c.args in
     c.put_line.new.lines
     ≡ paste a.lines.now (line_width * a.g.lines)
-    (row_of_line (a.g.nodes - 1) c.code_of-code.result a.g.pool c.in-As.size (offset_at a.p))
+    (row_of_line (a.g.nodes - 1) c.code_of-code.result a.g.pool c.in-Ok.stored.size (offset_at a.p))
     line_width = c.put_line.ensures in
     let a = c.args in
     line-added a.g a.p a.section a.language a.token.now a.lines.now a.pool.now
     c.edition_of.result c.edition_of.ensures c.put_token.result _
     c.requires.0 c.put_token.ensures
-    _ _ _ _ _ _ _ c.in-As.is (sym c.has_row.ensures ∙ not-false _ (ap not c.if-not-has_row.false)) (omega arith)
+    _ _ _ _ _ _ c.in-Ok.is (sym c.has_row.ensures ∙ not-false _ (ap not c.if-not-has_row.false)) (omega arith)
     (omega arith) c.requires.5
     c.class_number-k.ensures
     coded c.mixed_behind-mixed.ensures c.starred_behind-starred.ensures

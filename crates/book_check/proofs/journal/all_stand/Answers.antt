@@ -1,5 +1,4 @@
 -- `all_stand` meets its contract. The loop's invariant: the lines from i on decide. Assumes nothing.
-use Prim.Native.Nat.{◌-◌}
 use Rattle.book_check.proofs.JournalChecks.{stand-starts, stand_stops, stand_more, stand-ends}
 use Rattle.book_check.proofs.journal.all_stand.Goals as goal
 

@@ -1,5 +1,4 @@
 -- `edit_rows` meets its contract. The loop's invariant: the rows from i on decide. Assumes nothing.
-use Prim.Native.Nat.{◌-◌}
 use native.Mathlib.Omega.{arith}
 use Rattle.book_check.proofs.JournalChecks.{edits_start, edit_wrong, edit_add, edit_strike, edits_end}
 use Rattle.book_check.proofs.journal.edit_rows.Goals as goal

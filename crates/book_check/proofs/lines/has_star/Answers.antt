@@ -1,5 +1,4 @@
 -- `has_star` meets its contract. The loop's invariant: the lines from i on decide. Assumes nothing.
-use Prim.Native.Nat.{◌-◌}
 use Rattle.book_check.proofs.LineRows.{stars_start, star-found, star_next, star_none}
 use Rattle.book_check.proofs.lines.has_star.Goals as goal
 

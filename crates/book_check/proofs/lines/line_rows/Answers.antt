@@ -1,5 +1,5 @@
 -- `line_rows` meets its contract. The loop's invariant: row i starts at `at` and its bytes at o, and the rows from i on decide. Assumes nothing.
-use Prim.Native.Nat.{◌+◌, ◌-◌}
+use Prim.Native.Nat.{◌+◌}
 use native.Mathlib.Omega.{arith}
 use Rattle.book_check.proofs.LineRows.{lines_start, start_wrong, size_wrong, line_wrong, line-right, end_wrong, lines_end}
 use mathlib.Core.Path.{ap}

@@ -1,21 +1,14 @@
--- `all_named` meets its contract. The loop's invariant: what is left from i on decides. Assumes nothing.
-use mathlib.Core.Path.{sym, ◌∙◌}
-use Rattle.book_check.proofs.NodeChecks.{every_stops, every_more, every-ends}
+-- `all_named` meets its contract, as each byte's test is `named`. Assumes nothing.
+use mathlib.Core.Path.{◌∙◌}
+use borrow.Author.Rules.{rules}
+use borrow.Author.Tests.{tests}
+use Rattle.std.proofs.lemmas.Iterator.{YieldsList-from_slice}
+use Rattle.std.proofs.lemmas.Iterator.Search.{all_from_yields_List}
+use Rattle.lists.proofs.Tested.{all_every}
 use Rattle.reading_tokens.specs.Tokens.{named}
-use borrow.Author.Tests.{not-true, not-false}
-use Prim.Native.Nat.{◌-◌}
-use mathlib.Core.Path.{ap}
-use mathlib.Core.Bool.{not}
 use Rattle.book_check.proofs.nodes.all_named.Goals as goal
 
-pub returns-then-not-is_named : goal.returns-then-not-is_named
-returns-then-not-is_named c =
-    every_stops named _ _ c.loop-i.invariant c.loop-i-test.true
-    (sym c.is_named.ensures ∙ not-true _ (ap not c.if-not-is_named.true))
-
-pub loop-i-preserved : goal.loop-i-preserved
-loop-i-preserved c =
-    every_more named _ _ c.loop-i.invariant c.loop-i-test.true (sym c.is_named.ensures ∙ not-false _ (ap not c.if-not-is_named.false))
-
 pub returns : goal.returns
-returns c = every-ends named _ _ c.loop-i.invariant c.loop-i-test.false
+returns c =
+    let s = c.args.name.now in
+    all_from_yields_List named _ _ c.all.result c.all.ensures.ran (YieldsList-from_slice s cc) (λ x b q k. search (rules, tests)) ∙ all_every named s

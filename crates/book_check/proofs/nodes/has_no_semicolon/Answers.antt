@@ -1,17 +1,14 @@
--- `has_no_semicolon` meets its contract. The loop's invariant: what is left from i on decides. Assumes nothing.
-use mathlib.Core.Path.{ap}
-use mathlib.Core.Bool.{not}
-use borrow.Author.Tests.{eq-eqb, ne_eqb}
-use Rattle.book_check.proofs.NodeChecks.{every_stops, every_more, every-ends}
+-- `has_no_semicolon` meets its contract, as each byte's test is that it is no `;`. Assumes nothing.
+use mathlib.Core.Path.{◌∙◌}
+use borrow.Author.Rules.{rules}
+use borrow.Author.Tests.{tests}
+use Rattle.std.proofs.lemmas.Iterator.{YieldsList-from_slice}
+use Rattle.std.proofs.lemmas.Iterator.Search.{all_from_yields_List}
+use Rattle.lists.proofs.Tested.{all_every}
 use Rattle.book.specs.Sanity.{no_semicolon}
-use Prim.Native.Nat.{◌-◌}
 use Rattle.book_check.proofs.nodes.has_no_semicolon.Goals as goal
 
-pub returns-then-name-i-eq59 : goal.returns-then-name-i-eq59
-returns-then-name-i-eq59 c = every_stops no_semicolon _ _ c.loop-i.invariant c.loop-i-test.true (ap not (eq-eqb _ _ c.if-name-i-eq59.true))
-
-pub loop-i-preserved : goal.loop-i-preserved
-loop-i-preserved c = every_more no_semicolon _ _ c.loop-i.invariant c.loop-i-test.true (ap not (ne_eqb _ _ c.if-name-i-eq59.false))
-
 pub returns : goal.returns
-returns c = every-ends no_semicolon _ _ c.loop-i.invariant c.loop-i-test.false
+returns c =
+    let s = c.args.name.now in
+    all_from_yields_List no_semicolon _ _ c.all.result c.all.ensures.ran (YieldsList-from_slice s cc) (λ x b q k. search (rules, tests)) ∙ all_every no_semicolon s

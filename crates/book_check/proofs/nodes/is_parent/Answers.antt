@@ -21,12 +21,12 @@ returns-then-is_over_limit c = search parent-long
 pub returns-then-first-q : goal.returns-then-first-q
 returns-then-first-q c = search parent-again
 
-pub returns-in-Nowhere : goal.returns-in-Nowhere
-returns-in-Nowhere c = search parent-nowhere
+pub returns-in-None : goal.returns-in-None
+returns-in-None c = search parent-nowhere
 
 pub returns-else-first-q : goal.returns-else-first-q
 returns-else-first-q c =
     parent-ends _ _ _ _ c.requires.0 _ _ c.requires.1 (omega (arith, c.if-i-q.false)) _ _ c.node_name.ensures
     c.node_name-parent.ensures c.if-p-eq0.false _ c.is_over_limit.ensures c.if-is_over_limit.false
-    _ c.first_named.ensures _ _ c.in-Here.is (omega (arith, c.if-first-q.false))
+    _ c.first_named.ensures _ _ c.in-Some.is (omega (arith, c.if-first-q.false))
     c.has_no_semicolon.ensures

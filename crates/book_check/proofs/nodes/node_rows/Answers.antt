@@ -1,7 +1,6 @@
 -- `node_rows` meets its contract. The loop's invariant: what is left from row i on decides. Assumes nothing.
 use Rattle.book_check.proofs.NodeChecks.{rows_start, start_bad, name-past, rows_more, names-short, rows_end}
 use native.Mathlib.Omega.{arith}
-use Prim.Native.Nat.{◌-◌}
 use Rattle.book_check.proofs.nodes.node_rows.Goals as goal
 
 pub loop-i-init : goal.loop-i-init

@@ -1,10 +1,6 @@
 -- `node_rows` meets its contract. The loop's invariant: what is left from row i on decides. Assumes nothing.
 use Rattle.book_check.proofs.NodeChecks.{Rowing}
-use Prim.Native.Nat.{◌-◌}
 use Rattle.book_check.proofs.nodes.node_rows.Given as goal
 
 abbrev pub invariant-loop-i : goal.invariant-loop-i
 invariant-loop-i l = Rowing l.n l.p l.nodes l.names l.i l.at l.o
-
-abbrev pub decreases-loop-i : goal.decreases-loop-i
-decreases-loop-i l = l.n - l.i

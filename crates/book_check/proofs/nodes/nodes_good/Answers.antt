@@ -1,5 +1,4 @@
 -- `nodes_good` meets its contract. The loop's invariant: what is left from node i on decides. Assumes nothing.
-use Prim.Native.Nat.{◌-◌}
 use mathlib.Core.Path.{◌≡◌}
 use native.Mathlib.Omega.{arith}
 use lib.ListN.{get_or}

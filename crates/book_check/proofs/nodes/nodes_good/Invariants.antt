@@ -1,10 +1,6 @@
 -- `nodes_good` meets its contract. The loop's invariant: what is left from node i on decides. Assumes nothing.
-use Prim.Native.Nat.{◌-◌}
 use Rattle.book_check.proofs.NodeChecks.{Judging}
 use Rattle.book_check.proofs.nodes.nodes_good.Given as goal
 
 abbrev pub invariant-loop-i : goal.invariant-loop-i
 invariant-loop-i l = Judging l.n l.p l.nodes l.names l.i
-
-abbrev pub decreases-loop-i : goal.decreases-loop-i
-decreases-loop-i l = l.n - l.i

@@ -5,8 +5,8 @@ use lib.ListN.{length}
 use Rattle.book_opening.proofs.Opens.{Going}
 use Rattle.book_opening.proofs.events.build.Given as goal
 
-abbrev pub invariant-loop-n : goal.invariant-loop-n
-invariant-loop-n l = Going l.place l.s l.initial.nodes l.initial.names l.initial.lines l.initial.pool l.nodes l.names l.lines l.pool l.c l.g
+abbrev pub invariant-loop-e : goal.invariant-loop-e
+invariant-loop-e l = Going l.place l.s l.initial.nodes l.initial.names l.initial.lines l.initial.pool l.nodes l.names l.lines l.pool l.c l.g
 
-abbrev pub decreases-loop-n : goal.decreases-loop-n
-decreases-loop-n l = length l.s + 2 - l.c.at
+abbrev pub decreases-loop-e : goal.decreases-loop-e
+decreases-loop-e l = length l.s + 2 - l.c.at

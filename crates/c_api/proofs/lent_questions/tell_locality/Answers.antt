@@ -1,15 +1,11 @@
 -- `tell_locality` meets its contract. Assumes nothing.
+use Rattle.numbers.specs.Saying.{refusal_of}
 use Rattle.c_lending.proofs.Lending.{tells}
+use Rattle.lookups.specs.Lookups.{locality_value}
 use Rattle.c_api.proofs.lent_questions.tell_locality.Goals as goal
 
-pub returns-in-Refused : goal.returns-in-Refused
-returns-in-Refused c = search tells
+pub returns-in-Err : goal.returns-in-Err
+returns-in-Err c = tells refusal_of locality_value _ _ _ _ _ c.in-Err.is (rw c.number.ensures at c.answer-in-Err.ensures)
 
-pub returns-in-Nothing : goal.returns-in-Nothing
-returns-in-Nothing c = search tells
-
-pub returns-in-Global : goal.returns-in-Global
-returns-in-Global c = search tells
-
-pub returns-in-Local : goal.returns-in-Local
-returns-in-Local c = search tells
+pub returns-in-Ok : goal.returns-in-Ok
+returns-in-Ok c = tells refusal_of locality_value _ _ _ _ _ c.in-Ok.is (rw c.locality_number.ensures at c.answer.ensures)

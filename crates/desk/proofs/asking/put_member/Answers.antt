@@ -1,26 +1,20 @@
 -- `put_member` meets its contract. Assumes nothing.
 use native.Mathlib.Omega.{arith}
 use Rattle.printing.proofs.Pieces.{few-refused}
-use Rattle.desk.proofs.AskExits.{refused-put, within-put, without-put}
+use Rattle.desk.proofs.AskExits.{refused-put, within-put}
 use Rattle.desk.proofs.asking.put_member.Goals as goal
 
-pub put_text-requires-in-Refused : goal.put_text-requires-in-Refused
-put_text-requires-in-Refused c = omega (arith, few-refused c.in-Refused.no)
+pub put_text-requires : goal.put_text-requires
+put_text-requires c = omega (arith, few-refused c.number.result)
 
-pub returns-in-Within : goal.returns-in-Within
-returns-in-Within c =
+pub returns-in-Ok : goal.returns-in-Ok
+returns-in-Ok c =
     let a = c.args in
     within-put a.out.now a.name.now a.m c.requires c.put_text-a.ensures c.put_text-b.ensures
-    c.in-Within.is c.put_text.ensures
+    c.in-Ok.is c.put_within.ensures
 
-pub returns-in-Without : goal.returns-in-Without
-returns-in-Without c =
-    let a = c.args in
-    without-put a.out.now a.name.now a.m c.requires c.put_text-a.ensures c.put_text-b.ensures
-    c.in-Without.is c.put_text-in-Without.ensures
-
-pub returns-in-Refused : goal.returns-in-Refused
-returns-in-Refused c =
+pub returns-in-Err : goal.returns-in-Err
+returns-in-Err c =
     let a = c.args in
     refused-put a.out.now a.name.now a.m c.requires c.put_text-a.ensures c.put_text-b.ensures
-    c.in-Refused.is c.put_refused_fields-end.ensures c.put_text-in-Refused.ensures
+    c.in-Err.is (rw c.number.ensures at c.put_refused_fields-end.ensures) c.put_text.ensures

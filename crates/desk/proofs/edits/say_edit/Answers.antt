@@ -3,16 +3,16 @@ use Rattle.desk.proofs.Answered.{done_finishes, refused_finishes}
 use Rattle.desk.specs.Edits.{said}
 use Rattle.desk.proofs.edits.say_edit.Goals as goal
 
-pub returns-in-Refused : goal.returns-in-Refused
+pub returns-in-Err : goal.returns-in-Err
 unfolding said
-returns-in-Refused c =
+returns-in-Err c =
     let a = c.args in
-    refused_finishes a.c (said a.c a.e) a.r a.out.now _ c.put_refused_answer.result _ _ c.in-Refused.is
+    refused_finishes a.c (said a.c a.e) a.r a.out.now _ c.put_refused_answer.result _ _ c.in-Err.is
     c.put_refused_answer.ensures c.printed.ensures
 
-pub returns-in-Done : goal.returns-in-Done
+pub returns-in-Ok : goal.returns-in-Ok
 unfolding said
-returns-in-Done c =
+returns-in-Ok c =
     let a = c.args in
-    done_finishes a.c (said a.c a.e) a.r a.out.now _ c.say_done.result _ _ c.in-Done.is
-    c.say_done.ensures c.printed-in-Done.ensures
+    done_finishes a.c (said a.c a.e) a.r a.out.now _ c.say_done.result _ _ c.in-Ok.is
+    c.say_done.ensures c.printed-in-Ok.ensures

@@ -15,20 +15,26 @@ put_refused_answer-requires c = omega arith
 pub returns-then-not-is_book : goal.returns-then-not-is_book
 returns-then-not-is_book c =
     let a = c.args in
-    let b = five a.nodes.now a.names.now a.lines.now a.pool.now a.journal.now in
-    no_book_shown a.c b _ c.is_book.ensures (book_shown a.c b a.what) a.out.now _
+    let b = five a.book.nodes.now a.book.names.now a.book.lines.now a.book.pool.now a.book.journal.now in
+    no_book_shown a.book.counts b _ c.is_book.ensures (book_shown a.book.counts b a.what) a.out.now _
     c.put_refused_answer.result _ c.printed.ensures (ap not c.if-not-is_book.true)
     c.put_refused_answer.ensures
 
 pub show-requires : goal.show-requires
 show-requires c =
     let a = c.args in
-    let b = five a.nodes.now a.names.now a.lines.now a.pool.now a.journal.now in
-    (c.requires, held a.c b _ c.is_book.ensures (ap not c.if-not-is_book.false))
+    let b = five a.book.nodes.now a.book.names.now a.book.lines.now a.book.pool.now a.book.journal.now in
+    c.requires
+
+pub invariant_of-show : goal.invariant_of-show
+invariant_of-show c =
+    let a = c.args in
+    let b = five a.book.nodes.now a.book.names.now a.book.lines.now a.book.pool.now a.book.journal.now in
+    record { holds = held a.book.counts b _ c.is_book.ensures (ap not c.if-not-is_book.false) }
 
 pub returns : goal.returns
 returns c =
     let a = c.args in
-    let b = five a.nodes.now a.names.now a.lines.now a.pool.now a.journal.now in
-    some_book_shown a.c b _ c.is_book.ensures (book_shown a.c b a.what) a.out.now _
+    let b = five a.book.nodes.now a.book.names.now a.book.lines.now a.book.pool.now a.book.journal.now in
+    some_book_shown a.book.counts b _ c.is_book.ensures (book_shown a.book.counts b a.what) a.out.now _
     c.show.result _ c.printed-2.ensures (ap not c.if-not-is_book.false) c.show.ensures

@@ -1,47 +1,40 @@
--- `number_at` meets its contract. The loop's invariant: the digits so far are behind i. Assumes nothing.
-use Prim.Native.Nat.{◌-◌}
-use mathlib.Core.Path.{◌≡◌}
-use mathlib.Core.List.{[]}
+-- `number_at` meets its contract. Assumes nothing.
 use native.Mathlib.Omega.{arith}
-use lib.ListN.{drop}
-use Rattle.desk_commands.specs.Parts.{digits}
-use Rattle.desk_commands.proofs.Numbers.{digit_low, digits_end, digits-past, read_large, read_more, read_none, read_number, read-over, read-starts, sum_fits, value_fits}
+use Rattle.std.proofs.Common.{rules, ◌≡◌, ◌<◌, ◌+◌, ◌-◌, ◌*◌, ◌∙◌, sym, length, get_or, refl, lit<}
+use Rattle.desk_commands.proofs.Numbers.{digit_low, end_fits, is_number, no_digit, too_large, worth_next}
 use Rattle.desk_commands.proofs.parts.number_at.Goals as goal
-use Rattle.desk_commands.proofs.parts.number_at.Goals.{else-loop-i-test, then-loop-i-test+then-not-is_digit}
 
-pub loop-i-init : goal.loop-i-init
-loop-i-init c = search read-starts
+pub returns-then-is_empty : goal.returns-then-is_empty
+returns-then-is_empty c =
+    let none : length c.digits_at-digits.result.now ≡ 0 = search rules in
+    no_digit _ _ _ c.digits_at-digits.ensures none
 
-pub overflow_sub-n : goal.overflow_sub-n
-overflow_sub-n c = search digit_low
+pub loop-b-init : goal.loop-b-init
+loop-b-init c = record { below = lit< tt; rest = refl }
 
-pub overflow_cast-n : goal.overflow_cast-n
-overflow_cast-n c = search value_fits
+pub returns-in_err-checked_mul : goal.returns-in_err-checked_mul
+returns-in_err-checked_mul c =
+    c.from_residual.ensures ∙ too_large _ _ _ c.digits_at-digits.ensures _ _ c.loop-b.invariant.rest c.loop-b-test.true (λ k. c.in_err-checked_mul.ensures (omega arith))
 
-pub overflow_add-n : goal.overflow_add-n
-overflow_add-n c = search sum_fits
+pub overflow_sub-b : goal.overflow_sub-b
+overflow_sub-b c = digit_low _ _ _ c.digits_at-digits.ensures c.loop-b-test.true
 
-pub loop-i-preserved-then-n-lt-NUMBER_LIMIT : goal.loop-i-preserved-then-n-lt-NUMBER_LIMIT
-loop-i-preserved-then-n-lt-NUMBER_LIMIT c = search read_more
+pub returns-in_err-value : goal.returns-in_err-value
+returns-in_err-value c =
+    c.from_residual-in_err-value.ensures ∙ too_large _ _ _ c.digits_at-digits.ensures _ _ c.loop-b.invariant.rest c.loop-b-test.true (λ k. c.in_err-value.ensures (omega (arith, k, c.in_ok-checked_mul.ensures, c.from.ensures)))
 
-pub loop-i-preserved : goal.loop-i-preserved
-loop-i-preserved c = search read-over
+pub loop-b-preserved : goal.loop-b-preserved
+loop-b-preserved c =
+    let d = get_or c.digits_at-digits.result.now c.loop-b.b-index 0 in
+    let value : c.in_ok-value.value ≡ c.loop-b.value * 10 + (d - 48) = omega (arith, c.in_ok-value.ensures, c.in_ok-checked_mul.ensures, c.from.ensures) in
+    record { below = omega (arith, c.in_ok-value.ensures); rest = rw value (sym (worth_next _ _ _ c.loop-b-test.true) ∙ c.loop-b.invariant.rest) }
 
-pub returns-then-i-at : goal.returns-then-i-at
-returns-then-i-at c =
-    let ended : digits (drop c.loop-i.i c.args.line.now) ≡ [] =
-    elim c.loop-i-test.branch [ else-loop-i-test w ↦ search digits-past | then-loop-i-test+then-not-is_digit w ↦ search digits_end ] in
-    read_none c.loop-i.invariant ended (omega (arith, c.if-i-at.true))
-
-pub returns-then-n-ge-NUMBER_LIMIT : goal.returns-then-n-ge-NUMBER_LIMIT
-returns-then-n-ge-NUMBER_LIMIT c =
-    let ended : digits (drop c.loop-i.i c.args.line.now) ≡ [] =
-    elim c.loop-i-test.branch [ else-loop-i-test w ↦ search digits-past | then-loop-i-test+then-not-is_digit w ↦ search digits_end ] in
-    read_large c.loop-i.invariant ended (omega (arith, c.if-n-ge-NUMBER_LIMIT.true))
+pub overflow_add-result : goal.overflow_add-result
+overflow_add-result c =
+    let some : 0 < length c.digits_at-digits.result.now = search rules in
+    end_fits c.args.line.now c.args.at _ c.digits_at-digits.ensures some (omega (arith, c.well_formed))
 
 pub returns : goal.returns
 returns c =
-    let ended : digits (drop c.loop-i.i c.args.line.now) ≡ [] =
-    elim c.loop-i-test.branch [ else-loop-i-test w ↦ search digits-past | then-loop-i-test+then-not-is_digit w ↦ search digits_end ] in
-    let inv = c.loop-i.invariant in
-    read_number inv ended (omega (arith, c.if-i-at.false, inv.place)) (omega (arith, c.if-n-ge-NUMBER_LIMIT.false))
+    let some : 0 < length c.digits_at-digits.result.now = search rules in
+    is_number _ _ _ c.digits_at-digits.ensures _ _ c.loop-b.invariant.rest (omega (arith, c.loop-b-test.false)) some c.loop-b.invariant.below

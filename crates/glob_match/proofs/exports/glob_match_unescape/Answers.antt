@@ -10,11 +10,11 @@ returns-then-pattern-gt-TOKEN_LIMIT c = unescape-over _ _ (omega (arith, c.if-pa
 
 pub overflow_mul-result : goal.overflow_mul-result
 overflow_mul-result c =
-    let short : c.in-As.n ≤ token_limit = unescape-short _ _ (omega (arith, c.if-pattern-gt-TOKEN_LIMIT.false)) _ _ c.unescape_pattern.ensures _ _ c.in-As.is in
+    let short : c.in-Ok.stored.size ≤ token_limit = unescape-short _ _ (omega (arith, c.if-pattern-gt-TOKEN_LIMIT.false)) _ _ c.unescape_pattern.ensures _ c.in-Ok.is in
     omega (arith, short)
 
-pub returns-in-As : goal.returns-in-As
-returns-in-As c = unescape-done _ _ (omega (arith, c.if-pattern-gt-TOKEN_LIMIT.false)) _ _ c.unescape_pattern.ensures _ _ c.in-As.is
+pub returns-in-Ok : goal.returns-in-Ok
+returns-in-Ok c = unescape-done _ _ (omega (arith, c.if-pattern-gt-TOKEN_LIMIT.false)) _ _ c.unescape_pattern.ensures _ c.in-Ok.is
 
-pub returns-in-Refused : goal.returns-in-Refused
-returns-in-Refused c = unescape-refused _ _ (omega (arith, c.if-pattern-gt-TOKEN_LIMIT.false)) _ _ c.unescape_pattern.ensures _ c.in-Refused.is
+pub returns-in-Err : goal.returns-in-Err
+returns-in-Err c = unescape-refused _ _ (omega (arith, c.if-pattern-gt-TOKEN_LIMIT.false)) _ _ c.unescape_pattern.ensures _ c.in-Err.is _ c.number.ensures

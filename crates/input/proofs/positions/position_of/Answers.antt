@@ -1,19 +1,13 @@
--- `position_of` meets its contract. The loop's invariant: the place lies ahead, and what is left decides. Assumes nothing.
-use Prim.Native.Nat.{◌-◌}
-use Rattle.input.proofs.Positioned.{walk_arrives, walk_ends, walk-line, walk_on, walk-starts}
+-- `position_of` meets its contract. Assumes nothing.
+use Rattle.input.proofs.Positioned.{walk_arrives, walk-line, walk_on, walk-starts}
 use Rattle.input.proofs.positions.position_of.Goals as goal
+use Rattle.input.proofs.positions.position_of.Goals.{then-b-eq10, else-b-eq10}
 
-pub loop-i-init : goal.loop-i-init
-loop-i-init c = walk-starts
+pub loop-b-init : goal.loop-b-init
+loop-b-init c = walk-starts
 
-pub loop-i-preserved-then-b-eq10 : goal.loop-i-preserved-then-b-eq10
-loop-i-preserved-then-b-eq10 c = walk-line c.loop-i.invariant c.loop-i-test.true c.if-i-place.false c.if-b-eq10.true
+pub loop-b-preserved : goal.loop-b-preserved
+loop-b-preserved c = elim c.if-b-eq10.branch [ then-b-eq10 w ↦ rw (w.line-is, w.column-is) (walk-line c.loop-b.invariant c.loop-b-test.true w.if-b-eq10.true) | else-b-eq10 w ↦ rw (w.line-is, w.column-is) (walk_on c.loop-b.invariant c.loop-b-test.true w.if-b-eq10.false) ]
 
-pub loop-i-preserved : goal.loop-i-preserved
-loop-i-preserved c = search walk_on
-
-pub returns-after-loop-i : goal.returns-after-loop-i
-returns-after-loop-i c = search walk_ends
-
-pub returns-then-i-place : goal.returns-then-i-place
-returns-then-i-place c = search walk_arrives
+pub returns : goal.returns
+returns c = search walk_arrives

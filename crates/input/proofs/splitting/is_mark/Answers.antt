@@ -1,21 +1,15 @@
 -- `is_mark` meets its contract. Assumes nothing.
-use Rattle.input.proofs.Marks.{end_fits, mark_by, mark-ends, no_first, no_second, second_fits}
+use Rattle.std.proofs.Common.{◌≡◌, true, false, [], ◌∷◌, nat_eq, ◌∙◌}
+use lib.Pointwise.{pointwise}
+use Rattle.input.proofs.Marks.{marks_ahead, marks_alone}
 use Rattle.input.proofs.splitting.is_mark.Goals as goal
 
-pub returns-then-byte_at-ne37 : goal.returns-then-byte_at-ne37
-returns-then-byte_at-ne37 c = search no_first
+pub returns-then-eq : goal.returns-then-eq
+returns-then-eq c =
+    let same : true ≡ pointwise nat_eq c.args.s.now (37 ∷ 37 ∷ []) = cc in
+    c.if-eq.true ∙ marks_alone c.args.s.now same
 
-pub overflow_add-second : goal.overflow_add-second
-overflow_add-second c = search second_fits
-
-pub returns-then-byte_at-ne37-2 : goal.returns-then-byte_at-ne37-2
-returns-then-byte_at-ne37-2 c = search no_second
-
-pub overflow_add-end : goal.overflow_add-end
-overflow_add-end c = search end_fits
-
-pub returns-then-end-s : goal.returns-then-end-s
-returns-then-end-s c = search mark-ends
-
-pub returns : goal.returns
-returns c = search mark_by
+pub returns-else-eq : goal.returns-else-eq
+returns-else-eq c =
+    let other : false ≡ pointwise nat_eq c.args.s.now (37 ∷ 37 ∷ []) = cc in
+    c.starts_with.ensures.value ∙ marks_ahead c.args.s.now other

@@ -5,8 +5,8 @@ use Rattle.input.proofs.splitting.part_before.Goals as goal
 pub slice_bounds-result-end : goal.slice_bounds-result-end
 slice_bounds-result-end c = search before_count
 
-pub returns-in-Nowhere : goal.returns-in-Nowhere
-returns-in-Nowhere c = search before_all
+pub returns-in-None : goal.returns-in-None
+returns-in-None c = search before_all
 
-pub returns-in-Here : goal.returns-in-Here
-returns-in-Here c = search before_part
+pub returns-in-Some : goal.returns-in-Some
+returns-in-Some c = search before_part

@@ -1,5 +1,4 @@
 -- `find_pair` meets its contract. The loop's invariant: what is found from i on decides. Assumes nothing.
-use Prim.Native.Nat.{◌-◌}
 use Rattle.linker_script.proofs.Searches.{pair_here, pair_on, pair_none}
 use Rattle.linker_script.proofs.comments.find_pair.Goals as goal
 

@@ -1,5 +1,4 @@
 -- `skip_comments_and_whitespace` meets its contract. The loop's invariant: the skip from i on decides. Assumes nothing.
-use Prim.Native.Nat.{◌-◌}
 use borrow.Author.Rules.{rules}
 use Rattle.linker_script.proofs.Skipping.{skip-ends, past_blank, past_line, line-opens, line-fits, line_less, stops, past_comment, comment-opens, comment-fits, comment_less}
 use Rattle.linker_script.proofs.comments.skip_comments_and_whitespace.Goals as goal
@@ -7,23 +6,23 @@ use Rattle.linker_script.proofs.comments.skip_comments_and_whitespace.Goals as g
 pub loop-i-preserved-then-is_blank : goal.loop-i-preserved-then-is_blank
 loop-i-preserved-then-is_blank c = search past_blank
 
-pub overflow_add-i-in-Here : goal.overflow_add-i-in-Here
-overflow_add-i-in-Here c = search line-fits
+pub returns-in_default : goal.returns-in_default
+returns-in_default c = search line-opens
 
-pub loop-i-smaller-in-Here : goal.loop-i-smaller-in-Here
-loop-i-smaller-in-Here c = search (rules, line_less)
+pub overflow_add-i-then-b-eq35-2 : goal.overflow_add-i-then-b-eq35-2
+overflow_add-i-then-b-eq35-2 c = search line-fits
 
-pub loop-i-preserved-in-Here : goal.loop-i-preserved-in-Here
-loop-i-preserved-in-Here c = search past_line
+pub loop-i-smaller-then-b-eq35 : goal.loop-i-smaller-then-b-eq35
+loop-i-smaller-then-b-eq35 c = search (rules, line_less)
 
-pub returns-in-Nowhere : goal.returns-in-Nowhere
-returns-in-Nowhere c = search line-opens
+pub loop-i-preserved-then-b-eq35 : goal.loop-i-preserved-then-b-eq35
+loop-i-preserved-then-b-eq35 c = search past_line
 
-pub returns-then-not-is_pair : goal.returns-then-not-is_pair
-returns-then-not-is_pair c = search stops
+pub returns-in_default-comment_end : goal.returns-in_default-comment_end
+returns-in_default-comment_end c = search (comment-opens _ _ _ _ c.loop-i.invariant)
 
-pub overflow_add-i-in-Here-comment_end : goal.overflow_add-i-in-Here-comment_end
-overflow_add-i-in-Here-comment_end c = search comment-fits
+pub overflow_add-i-then-is_pair : goal.overflow_add-i-then-is_pair
+overflow_add-i-then-is_pair c = search comment-fits
 
 pub loop-i-smaller : goal.loop-i-smaller
 loop-i-smaller c = search (rules, comment_less)
@@ -31,8 +30,8 @@ loop-i-smaller c = search (rules, comment_less)
 pub loop-i-preserved : goal.loop-i-preserved
 loop-i-preserved c = search past_comment
 
-pub returns-in-Nowhere-comment_end : goal.returns-in-Nowhere-comment_end
-returns-in-Nowhere-comment_end c = search (comment-opens _ _ _ _ c.loop-i.invariant)
+pub returns-else-is_pair : goal.returns-else-is_pair
+returns-else-is_pair c = search stops
 
 pub returns : goal.returns
 returns c = search skip-ends

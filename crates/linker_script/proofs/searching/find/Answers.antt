@@ -1,5 +1,5 @@
 -- `find` meets its contract. The loops' invariant: what is found from i on decides. Assumes nothing.
-use Prim.Native.Nat.{◌+◌, ◌-◌, ◌≤◌}
+use Prim.Native.Nat.{◌+◌, ◌≤◌}
 use native.Mathlib.Omega.{arith}
 use lib.ListN.{length}
 use Rattle.linker_script.proofs.Searches.{find_here, find_on, find_none}
@@ -30,13 +30,13 @@ loop-k-smaller c =
 pub loop-k-preserved : goal.loop-k-preserved
 loop-k-preserved c = search block_on
 
-pub returns-then-s-i : goal.returns-then-s-i
-returns-then-s-i c = search find_here
+pub returns-then-s-j : goal.returns-then-s-j
+returns-then-s-j c = search find_here
 
-pub loop-i-preserved : goal.loop-i-preserved
-loop-i-preserved c =
+pub loop-j-preserved : goal.loop-j-preserved
+loop-j-preserved c =
     let a = c.args in
-    find_on a.s.now a.x a.at _ c.loop-i.invariant c.loop-i-test.true (omega (arith, c.if-s-i.false))
+    find_on a.s.now a.x a.at _ c.loop-j.invariant c.loop-j-test.true (omega (arith, c.if-s-j.false))
 
 pub returns : goal.returns
 returns c = search find_none

@@ -11,8 +11,5 @@ invariant-loop-k l = first_from (is l.x) l.s l.at ≡ first_from (is l.x) l.s l.
 abbrev pub decreases-loop-k : goal.decreases-loop-k
 decreases-loop-k l = length l.s - l.i
 
-abbrev pub invariant-loop-i : goal.invariant-loop-i
-invariant-loop-i l = first_from (is l.x) l.s l.at ≡ first_from (is l.x) l.s l.i
-
-abbrev pub decreases-loop-i : goal.decreases-loop-i
-decreases-loop-i l = length l.s - l.i
+abbrev pub invariant-loop-j : goal.invariant-loop-j
+invariant-loop-j l = first_from (is l.x) l.s l.at ≡ first_from (is l.x) l.s l.j

@@ -1,10 +1,12 @@
 -- `locality` meets its contract: the check, then `locality_in_book`. Assumes nothing.
-use Rattle.lookups.proofs.Asked.{book-asked}
+use mathlib.Core.Path.{refl, sym}
+use mathlib.Core.Bool.{false}
+use Rattle.std.proofs.lemmas.Result.{err_from_is_err_and}
 use Rattle.lookups.proofs.AskedLocality.{locality-no_book}
 use Rattle.lookups.proofs.locality_lookup.locality.Goals as goal
 
-pub returns-then-not-is_book : goal.returns-then-not-is_book
-returns-then-not-is_book c = search locality-no_book
-
-pub locality_in_book-requires : goal.locality_in_book-requires
-locality_in_book-requires c = search book-asked
+pub returns-in_err-of : goal.returns-in_err-of
+returns-in_err-of c =
+    let p = err_from_is_err_and c.from_residual.result c.from_residual.ensures.1 in
+    let none = c.in_err-of.ensures.err in
+    rw (p.1, p.2, none.0) (locality-no_book _ _ _ _ _ _ _ _ false (sym none.1) refl)

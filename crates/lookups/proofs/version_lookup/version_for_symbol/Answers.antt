@@ -1,10 +1,12 @@
 -- `version_for_symbol` meets its contract: the check, then `version_in_book`. Assumes nothing.
-use Rattle.lookups.proofs.Asked.{book-asked}
+use mathlib.Core.Path.{refl, sym}
+use mathlib.Core.Bool.{false}
+use Rattle.std.proofs.lemmas.Result.{err_from_is_err_and}
 use Rattle.lookups.proofs.AskedVersion.{version-no_book}
 use Rattle.lookups.proofs.version_lookup.version_for_symbol.Goals as goal
 
-pub returns-then-not-is_book : goal.returns-then-not-is_book
-returns-then-not-is_book c = search version-no_book
-
-pub version_in_book-requires : goal.version_in_book-requires
-version_in_book-requires c = search book-asked
+pub returns-in_err-of : goal.returns-in_err-of
+returns-in_err-of c =
+    let p = err_from_is_err_and c.from_residual.result c.from_residual.ensures.1 in
+    let none = c.in_err-of.ensures.err in
+    rw (p.1, p.2, none.0) (version-no_book _ _ _ _ _ _ _ _ _ false (sym none.1) refl)

@@ -3,7 +3,4 @@ use Rattle.lookups.proofs.LastNamed.{Backward}
 use Rattle.lookups.proofs.wanted.known_version.Given as goal
 
 abbrev pub invariant-loop-i : goal.invariant-loop-i
-invariant-loop-i l = Backward l.initial.i l.nodes l.names l.wanted l.i
-
-abbrev pub decreases-loop-i : goal.decreases-loop-i
-decreases-loop-i l = l.i
+invariant-loop-i l = Backward l.fn.c.nodes l.nodes l.names l.wanted l.i

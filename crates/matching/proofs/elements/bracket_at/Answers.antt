@@ -9,5 +9,5 @@ overflow_add-result c = search (rules, past-within _ _ _ _ c.bracket_takes-b.ens
 pub returns-then-b : goal.returns-then-b
 returns-then-b c = search bracket_takes
 
-pub returns : goal.returns
-returns c = search bracket-fails
+pub returns-else-b : goal.returns-else-b
+returns-else-b c = search bracket-fails

@@ -2,7 +2,7 @@
 use Prim.Native.Nat.{◌+◌, ◌≤◌}
 use native.Mathlib.Omega.{arith}
 use lib.ListN.{length}
-use Rattle.pattern.proofs.BracketExits.{bracket-negated, bracket-plain, bracket-fits}
+use Rattle.pattern.proofs.BracketExits.{bracket_tells, bracket-fits}
 use Rattle.pattern.proofs.bracket.bracket_takes.Goals as goal
 
 pub overflow_add-end : goal.overflow_add-end
@@ -13,18 +13,5 @@ overflow_add-end c =
 pub slice_bounds-has_member-end : goal.slice_bounds-has_member-end
 slice_bounds-has_member-end c = search bracket-fits
 
-pub overflow_add-result : goal.overflow_add-result
-overflow_add-result c =
-    let lies : c.mark_at-from.result + c.between_length.result ≤ length c.args.rest.now = search bracket-fits in
-    omega (arith, lies)
-
-pub returns-then-from-eq1 : goal.returns-then-from-eq1
-returns-then-from-eq1 c = search bracket-negated
-
-pub overflow_add-result-2 : goal.overflow_add-result-2
-overflow_add-result-2 c =
-    let lies : c.mark_at-from.result + c.between_length.result ≤ length c.args.rest.now = search bracket-fits in
-    omega (arith, lies)
-
 pub returns : goal.returns
-returns c = search bracket-plain
+returns c = search bracket_tells

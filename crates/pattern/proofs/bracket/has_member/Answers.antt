@@ -1,5 +1,4 @@
 -- `has_member` meets its contract. The loop's invariant: the members that are left decide. Assumes nothing.
-use Prim.Native.Nat.{◌-◌}
 use Rattle.pattern.proofs.BracketExits.{members_end, members_found, members_again}
 use Rattle.pattern.proofs.bracket.has_member.Goals as goal
 

@@ -1,10 +1,7 @@
--- `put_byte_numbers` meets its contract. The loop's invariant: the numbers before `i` stand. Assumes nothing.
-use Prim.Native.Nat.{◌-◌}
+-- The loop's invariant: the numbers before the next one stand. Assumes nothing.
+use lib.ListN.{length}
 use Rattle.printing_book.proofs.Numbers.{Numbered}
 use Rattle.printing_book.proofs.dump.put_byte_numbers.Given as goal
 
-abbrev pub invariant-loop-i : goal.invariant-loop-i
-invariant-loop-i l = Numbered l.initial.out l.at l.l l.n l.out l.end l.i
-
-abbrev pub decreases-loop-i : goal.decreases-loop-i
-decreases-loop-i l = l.n - l.i
+abbrev pub invariant-loop-n : goal.invariant-loop-n
+invariant-loop-n l = Numbered l.initial.out l.at l.l (length l.l) l.out l.end l.n-index

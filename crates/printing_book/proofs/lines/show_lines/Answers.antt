@@ -1,5 +1,4 @@
 -- `show_lines` meets its contract. The loop's invariant: the lines before `i` stand. Assumes nothing.
-use Prim.Native.Nat.{◌-◌}
 use Rattle.printing_book.proofs.ShownLines.{line-fits, line-lies, line-listed, lines_end, lines_start}
 use Rattle.printing_book.proofs.lines.show_lines.Goals as goal
 

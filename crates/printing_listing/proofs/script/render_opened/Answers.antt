@@ -8,22 +8,20 @@ pub returns-then-refusal-ne0 : goal.returns-then-refusal-ne0
 returns-then-refusal-ne0 c =
     let a = c.args in
     let p = c.put_refused_line in
-    opened-refused (view a.c (five a.nodes.now a.names.now a.lines.now a.pool.now a.journal.now)) a.symbols.now
+    opened-refused (view a.book.counts (five a.book.nodes.now a.book.names.now a.book.lines.now a.book.pool.now a.book.journal.now)) a.symbols.now
     a.out.now c.requires.0 c.if-refusal-ne0.true p.ensures
 
 pub render_symbols-requires : goal.render_symbols-requires
 render_symbols-requires c =
     let a = c.args in
-    let p = c.render_counts-from in (
-      symbols-room (view a.c (five a.nodes.now a.names.now a.lines.now a.pool.now a.journal.now)) a.symbols.now
-          a.out.now c.requires.0 c.requires.1 p.ensures,
-      c.requires.2 c.if-refusal-ne0.false,
-    )
+    let p = c.render_counts-from in
+    symbols-room (view a.book.counts (five a.book.nodes.now a.book.names.now a.book.lines.now a.book.pool.now a.book.journal.now)) a.symbols.now
+    a.out.now c.requires.0 c.requires.1 p.ensures
 
 pub returns : goal.returns
 returns c =
     let a = c.args in
     let p = c.render_counts-from in
     let q = c.render_symbols in
-    opened-listed (view a.c (five a.nodes.now a.names.now a.lines.now a.pool.now a.journal.now)) a.symbols.now
+    opened-listed (view a.book.counts (five a.book.nodes.now a.book.names.now a.book.lines.now a.book.pool.now a.book.journal.now)) a.symbols.now
     a.out.now c.requires.0 c.requires.1 p.ensures c.if-refusal-ne0.false q.ensures

@@ -10,8 +10,8 @@ overflow_add-result c =
     let z =
     (let a = c.args in
     let p = c.render_symbol_in_book-n in
-    answer_within (view a.c (five a.nodes.now a.names.now a.lines.now a.pool.now a.journal.now)) a.line.now
-    a.out.now a.at _ p.result c.requires.0 p.ensures) in
+    answer_within (view a.book.lent.counts (five a.book.lent.nodes.now a.book.lent.names.now a.book.lent.lines.now a.book.lent.pool.now a.book.lent.journal.now)) a.line.now
+    a.out.now a.at _ p.result c.requires p.ensures) in
     let g = c.well_formed in
     omega arith
 
@@ -19,5 +19,5 @@ pub returns : goal.returns
 returns c =
     let a = c.args in
     let p = c.render_symbol_in_book-n in
-    answer_put (view a.c (five a.nodes.now a.names.now a.lines.now a.pool.now a.journal.now))
-    a.line.now a.out.now a.at _ p.result c.requires.0 p.ensures
+    answer_put (view a.book.lent.counts (five a.book.lent.nodes.now a.book.lent.names.now a.book.lent.lines.now a.book.lent.pool.now a.book.lent.journal.now))
+    a.line.now a.out.now a.at _ p.result c.requires p.ensures

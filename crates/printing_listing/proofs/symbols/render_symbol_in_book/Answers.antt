@@ -16,21 +16,21 @@ slice_bounds-render_asked_in_book-count c = search version-starts
 pub slice_bounds-render_asked_in_book-start : goal.slice_bounds-render_asked_in_book-start
 slice_bounds-render_asked_in_book-start c = search version-starts
 
-pub render_asked_in_book-requires-in-Here : goal.render_asked_in_book-requires-in-Here
-render_asked_in_book-requires-in-Here c = search part_room
+pub render_asked_in_book-requires-in-Some : goal.render_asked_in_book-requires-in-Some
+render_asked_in_book-requires-in-Some c = search part_room
 
-pub returns-in-Nowhere : goal.returns-in-Nowhere
-returns-in-Nowhere c =
+pub returns-in-None : goal.returns-in-None
+returns-in-None c =
     let a = c.args in
     let p = c.render_asked_in_book in
     plain-put a.line.now a.out.now _ c.find_at.ensures
-    (view a.c (five a.nodes.now a.names.now a.lines.now a.pool.now a.journal.now)) _ p.result
-    c.in-Nowhere.is p.ensures
+    (view a.book.lent.counts (five a.book.lent.nodes.now a.book.lent.names.now a.book.lent.lines.now a.book.lent.pool.now a.book.lent.journal.now)) _ p.result
+    c.in-None.is p.ensures
 
-pub returns-in-Here : goal.returns-in-Here
-returns-in-Here c =
+pub returns-in-Some : goal.returns-in-Some
+returns-in-Some c =
     let a = c.args in
-    let p = c.render_asked_in_book-in-Here in
+    let p = c.render_asked_in_book-in-Some in
     split-put a.line.now a.out.now _ c.find_at.ensures
-    _ c.in-Here.is (view a.c (five a.nodes.now a.names.now a.lines.now a.pool.now a.journal.now))
+    _ c.in-Some.is (view a.book.lent.counts (five a.book.lent.nodes.now a.book.lent.names.now a.book.lent.lines.now a.book.lent.pool.now a.book.lent.journal.now))
     _ p.result p.ensures

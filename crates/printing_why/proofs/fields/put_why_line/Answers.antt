@@ -1,46 +1,18 @@
--- `put_why_line` meets its contract, answer by answer. Assumes nothing.
-use native.Mathlib.Omega.{arith}
-use Rattle.lists.specs.Texts.{codes}
+-- `put_why_line` meets its contract. Assumes nothing.
+use Rattle.std.proofs.Common.{ap, ◌∙◌, Ok}
 use Rattle.packing.specs.Tables.{things}
 use Rattle.book.specs.Layout.{node_form}
-use Rattle.printing_why.proofs.NamedNodes.{name-short, node-lies, node-named}
-use Rattle.printing_why.proofs.WhyExits.{line-put, none_put, refused-put, wanted-put}
+use Rattle.printing_why.proofs.WhyExits.{refused-put}
 use Rattle.printing_why.proofs.fields.put_why_line.Goals as goal
 
-pub node_name-requires : goal.node_name-requires
-node_name-requires c =
-    let a = c.args in
-    node-lies a.n a.m a.nodes.now a.names.now c.requires.0 _ (omega (arith, c.requires.2 _ c.in-Line.is))
+pub put_told-requires : goal.put_told-requires
+put_told-requires c = (c.requires.0, c.requires.1, λ r e. c.requires.2 r (c.in-Ok.is ∙ ap Ok e))
 
-pub put_line-requires : goal.put_line-requires
-put_line-requires c =
-    let a = c.args in
-    let k = c.requires.2 _ c.in-Line.is in
-    omega (arith, c.requires.1, name-short a.n a.m a.nodes.now a.names.now c.requires.0 _ k _ c.node_name.ensures)
+pub returns-in-Ok : goal.returns-in-Ok
+returns-in-Ok c = rw c.in-Ok.is c.put_told.ensures
 
-pub returns-in-Line : goal.returns-in-Line
-returns-in-Line c =
+pub returns-in-Err : goal.returns-in-Err
+returns-in-Err c =
     let a = c.args in
-    let k = c.requires.2 _ c.in-Line.is in
-    line-put a.out.now a.text.now (things node_form a.n a.nodes.now a.names.now) a.name.now c.in-Line.is _
-    (node-named a.n a.m a.nodes.now a.names.now c.requires.0 _ k _ c.node_name.ensures) c.put_line.ensures
-
-pub returns-in-NoLine : goal.returns-in-NoLine
-unfolding codes
-returns-in-NoLine c =
-    let a = c.args in
-    none_put a.out.now a.text.now (things node_form a.n a.nodes.now a.names.now) a.name.now c.in-NoLine.is
-    c.put_answer.ensures
-
-pub returns-in-Wanted : goal.returns-in-Wanted
-unfolding codes
-returns-in-Wanted c =
-    let a = c.args in
-    wanted-put a.out.now a.text.now (things node_form a.n a.nodes.now a.names.now) a.name.now c.in-Wanted.is
-    c.put_answer-in-Wanted.ensures
-
-pub returns-in-Refused : goal.returns-in-Refused
-returns-in-Refused c =
-    let a = c.args in
-    refused-put a.out.now a.text.now (things node_form a.n a.nodes.now a.names.now) a.name.now c.in-Refused.is
-    c.put_refused_name.ensures
+    refused-put a.out.now a.text.now (things node_form a.n a.nodes.now a.names.now) a.name.now c.in-Err.is
+    (rw c.number.ensures at c.put_refused_name.ensures)

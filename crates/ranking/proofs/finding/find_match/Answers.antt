@@ -1,9 +1,10 @@
 -- `find_match` meets its contract. The loop's invariant: `line` leads among the lines that are passed, and `best` is its rank. Assumes nothing.
-use Prim.Native.Nat.{◌-◌, ◌≤◌, ◌<◌}
+use Prim.Native.Nat.{◌≤◌, ◌<◌}
 use native.Mathlib.Omega.{arith}
 use borrow.Author.Rules.{rules}
 use Rattle.book.proofs.LineRows.{row-code, row-node}
-use Rattle.ranking.proofs.Leading.{seek_starts, seek_row, seek_lies, seek_short, seek_behind, seek_better, seek_other, seek_nothing, seek_line}
+use Rattle.ranking.proofs.Leading.{seek_starts, seek_row, seek_lies, seek_short, seek_behind, seek_better, seek_other, seek_ends}
+use Rattle.ranking.proofs.finding.find_match.Goals.{then-line_matches, else-line_matches}
 use Rattle.ranking.proofs.finding.find_match.Goals as goal
 
 pub loop-i-init : goal.loop-i-init
@@ -16,22 +17,20 @@ pub loop-i-preserved-then-best-rank : goal.loop-i-preserved-then-best-rank
 loop-i-preserved-then-best-rank c =
     let w : c.loop-i.best ≤ c.rank_of-rank.result = omega (arith, c.if-best-rank.true) in search (seek_behind, w)
 
-pub line_bytes-bytes-requires : goal.line_bytes-bytes-requires
-line_bytes-bytes-requires c = search seek_lies
+pub line_bytes-requires : goal.line_bytes-requires
+line_bytes-requires c = search seek_lies
 
 pub line_matches-requires : goal.line_matches-requires
 line_matches-requires c = (search seek_short, search rules, search rules)
 
-pub loop-i-preserved-then-line_matches : goal.loop-i-preserved-then-line_matches
-loop-i-preserved-then-line_matches c =
-    let ahead : c.rank_of-rank.result < c.loop-i.best = omega (arith, c.if-best-rank.false) in
-    search (seek_better, ahead)
-
 pub loop-i-preserved : goal.loop-i-preserved
-loop-i-preserved c = search seek_other
-
-pub returns-then-line-n : goal.returns-then-line-n
-returns-then-line-n c = search seek_nothing
+loop-i-preserved c = elim c.if-line_matches.branch [
+  | then-line_matches w ↦
+      let ahead : c.rank_of-rank.result < c.loop-i.best = omega (arith, c.if-best-rank.false) in
+      let m = w.if-line_matches.true in
+      rw (w.best-is, w.line-is) (search (seek_better, ahead, m))
+  | else-line_matches w ↦ let m = w.if-line_matches.false in rw (w.best-is, w.line-is) (search (seek_other, m))
+]
 
 pub returns : goal.returns
-returns c = search seek_line
+returns c = search seek_ends

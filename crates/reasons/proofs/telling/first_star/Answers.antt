@@ -1,6 +1,5 @@
 -- `first_star` meets its contract. The loop's invariant: the search goes on at line i. Assumes nothing.
-use Prim.Native.Nat.{◌-◌}
-use Rattle.reasons.proofs.Firsts.{firsts_starts, firsts_none, star_here, star_other}
+use Rattle.lookups.proofs.Firsts.{firsts_starts, firsts_none, star_here, star_other}
 use Rattle.reasons.proofs.telling.first_star.Goals as goal
 
 pub loop-i-init : goal.loop-i-init

@@ -11,10 +11,10 @@ find_match-requires c =
 pub line_reason-requires : goal.line_reason-requires
 line_reason-requires c =
     ranked-asks _ _ _ _ _ _ _ c.requires.0 _ c.frame_of.ensures
-    _ c.find_match.ensures _ c.in-Line.is c.requires.4
+    _ c.find_match.ensures _ c.in-Some.is c.requires.4
 
-pub returns-in-Nothing : goal.returns-in-Nothing
-returns-in-Nothing c = search ranked_none
+pub returns-in-None : goal.returns-in-None
+returns-in-None c = search ranked_none
 
-pub returns-in-Line : goal.returns-in-Line
-returns-in-Line c = search ranked-line
+pub returns-in-Some : goal.returns-in-Some
+returns-in-Some c = search ranked-line

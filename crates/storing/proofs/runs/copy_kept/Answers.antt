@@ -1,8 +1,8 @@
 -- `copy_kept` meets its contract. The loop's invariant: the buffer's front holds what is kept of the bytes passed. Assumes nothing.
-use Prim.Native.Nat.{◌-◌}
 use Rattle.storing.proofs.Squeezing.{copied_none, copied_less, copied_room, copied_more, copied_long, copied_all, copied_count}
 use Rattle.storing.proofs.Plain.{plain_fits, plain-count, plain_copied}
 use Rattle.storing.proofs.runs.copy_kept.Goals as goal
+use Rattle.storing.proofs.runs.copy_kept.Goals.{in-Some, in_default}
 
 pub copy-requires : goal.copy-requires
 copy-requires c = search plain_fits
@@ -13,14 +13,11 @@ returns-then-is_plain c = search (plain-count, plain_copied)
 pub loop-i-init : goal.loop-i-init
 loop-i-init c = search copied_none
 
-pub loop-i-preserved-then-s : goal.loop-i-preserved-then-s
-loop-i-preserved-then-s c = search copied_less
-
 pub bounds-out-n : goal.bounds-out-n
 bounds-out-n c = search copied_room
 
 pub loop-i-preserved : goal.loop-i-preserved
-loop-i-preserved c = copied_more c.loop-i.invariant _ c.step_at-s.ensures c.if-s.false c.requires
+loop-i-preserved c = elim c.match-s.branch [ in-Some w ↦ rw (w.out-is, w.n-is) (search copied_more) | in_default w ↦ rw (w.out-is, w.n-is) (search copied_less) ]
 
 pub shape_of-out : goal.shape_of-out
 shape_of-out c = search copied_long

@@ -1,7 +1,6 @@
 -- `is_as_stored` meets its contract. The loop's invariant: what is left from i on decides. Assumes nothing.
-use Prim.Native.Nat.{◌-◌}
 use Rattle.storing.proofs.Plain.{plain-unchanged}
-use Rattle.storing.proofs.Squeezing.{unchanged_none, unchanged_less, unchanged_other, unchanged_more, unchanged_all}
+use Rattle.storing.proofs.Squeezing.{unchanged_none, unchanged_other, unchanged_more, unchanged_all}
 use Rattle.storing.proofs.runs.is_as_stored.Goals as goal
 
 pub returns-then-is_plain : goal.returns-then-is_plain
@@ -10,11 +9,8 @@ returns-then-is_plain c = search plain-unchanged
 pub loop-i-init : goal.loop-i-init
 loop-i-init c = search unchanged_none
 
-pub returns-then-here : goal.returns-then-here
-returns-then-here c = search unchanged_less
-
-pub returns-then-here-glob : goal.returns-then-here-glob
-returns-then-here-glob c = search unchanged_other
+pub returns-then-ne : goal.returns-then-ne
+returns-then-ne c = search unchanged_other
 
 pub loop-i-preserved : goal.loop-i-preserved
 loop-i-preserved c = search unchanged_more

@@ -1,11 +1,6 @@
 -- `is_as_stored` meets its contract. The loop's invariant: what is left from i on decides. Assumes nothing.
-use Prim.Native.Nat.{◌-◌}
-use lib.ListN.{length}
 use Rattle.storing.proofs.Squeezing.{Unchanged}
 use Rattle.storing.proofs.runs.is_as_stored.Given as goal
 
 abbrev pub invariant-loop-i : goal.invariant-loop-i
 invariant-loop-i l = Unchanged l.edition l.glob l.w l.i
-
-abbrev pub decreases-loop-i : goal.decreases-loop-i
-decreases-loop-i l = length l.glob - l.i

@@ -1,16 +1,17 @@
 -- `is_pair` meets its contract. Assumes nothing.
-use borrow.Author.Tests.{eq-eqb, ne_eqb}
+use native.Mathlib.Omega.{arith}
+use borrow.Author.Tests.{ne_eqb}
 use Rattle.storing.specs.Post.{pair}
 use Rattle.storing.proofs.runs.is_pair.Goals as goal
 
-pub returns-then-c-eq42 : goal.returns-then-c-eq42
+pub returns-in-42 : goal.returns-in-42
 unfolding pair
-returns-then-c-eq42 c = search eq-eqb
+returns-in-42 c = rw c.in-42.is
 
-pub returns-then-c-eq94 : goal.returns-then-c-eq94
+pub returns-in-94 : goal.returns-in-94
 unfolding pair
-returns-then-c-eq94 c = search (eq-eqb, ne_eqb)
+returns-in-94 c = rw c.in-94.is
 
-pub returns : goal.returns
+pub returns-in_default : goal.returns-in_default
 unfolding pair
-returns c = search ne_eqb
+returns-in_default c = rw (ne_eqb c.args.c 42 (λ e. grind arith), ne_eqb c.args.c 94 (λ e. grind arith))

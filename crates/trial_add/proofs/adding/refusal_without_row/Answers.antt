@@ -2,14 +2,14 @@
 use Rattle.trial_add.proofs.Appending.{unplaced-refused, unplaced-stored}
 use Rattle.trial_add.proofs.adding.refusal_without_row.Goals as goal
 
-pub returns-in-Refused : goal.returns-in-Refused
-returns-in-Refused c =
+pub returns-in-Err : goal.returns-in-Err
+returns-in-Err c =
     let a = c.args in
     unplaced-refused c.edition_of.result a.frame a.token.now c.edition_of.ensures
-    c.store_token.result c.store_token.ensures.0 _ c.in-Refused.is
+    c.store_token.result c.store_token.ensures.0 _ c.in-Err.is _ c.number.ensures
 
-pub returns-in-As : goal.returns-in-As
-returns-in-As c =
+pub returns-in-Ok : goal.returns-in-Ok
+returns-in-Ok c =
     let a = c.args in
     unplaced-stored c.edition_of.result a.frame a.token.now c.edition_of.ensures
-    c.store_token.result c.store_token.ensures.0 _ _ c.in-As.is
+    c.store_token.result c.store_token.ensures.0 _ c.in-Ok.is

@@ -1,5 +1,4 @@
 -- `none_struck` meets its contract. The loop's invariant: the lines from number i on decide. Assumes nothing.
-use Prim.Native.Nat.{◌-◌}
 use Rattle.trial_settle.proofs.Unstruck.{none_starts, none_stops, none_more, none_ends}
 use Rattle.trial_settle.proofs.settling.none_struck.Goals as goal
 

@@ -1,5 +1,5 @@
 -- `pack_standing` meets its contract. The loop's invariant: the first i lines are read, and those of them that stand are packed. Assumes nothing.
-use Prim.Native.Nat.{◌+◌, ◌-◌, ◌*◌, ◌≤◌}
+use Prim.Native.Nat.{◌+◌, ◌*◌, ◌≤◌}
 use native.Mathlib.Omega.{arith}
 use lib.ListN.{get_or}
 use Rattle.book.specs.Layout.{line_width}

@@ -5,8 +5,8 @@ use lib.ListN.{length}
 use Rattle.trial_symbols.proofs.AddedTexts.{Going}
 use Rattle.trial_symbols.proofs.lines.add_lines.Given as goal
 
-abbrev pub invariant-loop-n : goal.invariant-loop-n
-invariant-loop-n l = Going l.c l.place l.s l.nodes l.names l.initial.lines l.initial.pool l.initial.journal l.lines l.pool l.journal l.at l.k
+abbrev pub invariant-loop-e : goal.invariant-loop-e
+invariant-loop-e l = Going l.c l.fn.place l.s l.nodes l.names l.initial.lines l.initial.pool l.initial.journal l.lines l.pool l.journal l.at l.k
 
-abbrev pub decreases-loop-n : goal.decreases-loop-n
-decreases-loop-n l = length l.s + 2 - l.at.at
+abbrev pub decreases-loop-e : goal.decreases-loop-e
+decreases-loop-e l = length l.s + 2 - l.at.at
