@@ -4,3 +4,4 @@ pub mod Packings
 pub mod Turns
 pub mod Windows
 pub mod Parts
+pub mod Alike

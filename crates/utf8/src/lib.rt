@@ -129,7 +129,8 @@ fn of_many(at: usize, a: u32, b: u32, c: u32, d: u32) -> Character
 }
 
 // The character at a place of s whose byte there, a, is no ASCII. It stands apart so that a caller's loop holds only the way of ASCII, which most names
-// are.
+// are; as its one caller would be inlined into no loop with it inside, it is never inlined.
+#[inline(never)]
 fn longer(s: &[u8], at: usize, a: u32) -> Character
     requires { (at < length s.now) × (a ≡ get_or s.now at 0) × (0x80 ≤ a) × (a < 256) }
     ensures { result ≡ character_at s.now at }
