@@ -1,8 +1,16 @@
 -- What checks a book, opens a text into one and asks it leaves one answer and one end state: book, book_check, book_building, book_opening, version_script,
 -- ranking, lookups, counting, export_list, reasons. Assumes nothing.
 use Prim.Native.Nat.{ℕ}
-use mathlib.Core.Path.{refl}
+use mathlib.Core.Path.{◌≡◌, refl, sym, ap, ◌∙◌}
 use mathlib.Core.List.{List}
+use mathlib.Core.Bool.{true, false, false≢true, Bool-set}
+use mathlib.Core.HLevel.{is_prop→PathP}
+use Rattle.std.specs.Prelude.{Result, Ok, Err, IfOk, IfErr}
+use Rattle.numbers.specs.declared.Refusal.{Refusal}
+use Rattle.numbers.specs.declared.Refusal.TheVariants.{NoBook}
+use Rattle.book.specs.declared.lent.Lent.{Lent}
+use Rattle.book.specs.Lending.{holds_book}
+use Rattle.book_check.specs.declared.Held.{Held}
 use Rattle.uniqueness.specs.Unique.{Unique, UniqueAs}
 use Rattle.uniqueness.proofs.Same.{◌▹◌, same}
 use Rattle.book.specs.contracts.codes.code_of
@@ -37,6 +45,8 @@ use Rattle.book_check.specs.contracts.nodes.nodes_good
 use Rattle.book_check.proofs.nodes.nodes_good.Reads as nodes_good_reads
 use Rattle.book_check.specs.contracts.lines.lines_packed
 use Rattle.book_check.proofs.lines.lines_packed.Reads as lines_packed_reads
+use Rattle.book_check.specs.contracts.lines.is_bare_star
+use Rattle.book_check.proofs.lines.is_bare_star.Reads as is_bare_star_reads
 use Rattle.book_check.specs.contracts.lines.has_star
 use Rattle.book_check.proofs.lines.has_star.Reads as has_star_reads
 use Rattle.book_check.specs.contracts.journal.edits_packed
@@ -45,6 +55,8 @@ use Rattle.book_check.specs.contracts.journal.journal_fits
 use Rattle.book_check.proofs.journal.journal_fits.Reads as journal_fits_reads
 use Rattle.book_check.specs.contracts.is_book
 use Rattle.book_check.proofs.is_book.Reads as is_book_reads
+use Rattle.book_check.specs.contracts.Held.of
+use Rattle.book_check.proofs.Held.of.Reads as of_reads
 use Rattle.book_building.specs.contracts.clear_book
 use Rattle.book_building.proofs.clear_book.Reads as clear_book_reads
 use Rattle.book_building.specs.contracts.take_extern
@@ -73,6 +85,8 @@ use Rattle.lookups.specs.contracts.index.VersionIndex.from_node
 use Rattle.lookups.proofs.index.VersionIndex.from_node.Reads as from_node_reads
 use Rattle.lookups.specs.contracts.index.VersionIndex.number
 use Rattle.lookups.proofs.index.VersionIndex.number.Reads as number_reads
+use Rattle.lookups.specs.contracts.listing.first_listed
+use Rattle.lookups.proofs.listing.first_listed.Reads as first_listed_reads
 use Rattle.lookups.specs.contracts.wanted.wanted_version
 use Rattle.lookups.proofs.wanted.wanted_version.Reads as wanted_version_reads
 use Rattle.version_script.specs.contracts.open as version_script_open
@@ -150,6 +164,9 @@ lines_packed_unique κs a x y v w p q = (same p q, refl)
 pub has_star_unique : Unique has_star.ended has_star_reads.Post
 has_star_unique κs a x y v w p q = (same p q, refl)
 
+pub is_bare_star_unique : Unique is_bare_star.ended is_bare_star_reads.Post
+is_bare_star_unique κs a x y v w p q = (same p q, refl)
+
 -- ---- book_check: the journal
 pub edits_packed_unique : Unique edits_packed.ended edits_packed_reads.Post
 edits_packed_unique κs a x y v w p q = (same p q, refl)
@@ -160,6 +177,22 @@ journal_fits_unique κs a x y v w p q = (same p q, refl)
 -- ---- book_check
 pub is_book_unique : Unique is_book.ended is_book_reads.Post
 is_book_unique κs a x y v w p q = (same p q, refl)
+
+-- a book that is held is what was lent: that it is one has one proof
+held-one : (h k : Held) → h.lent ≡ k.lent → h ≡ k
+held-one h k e i = record { lent = e i; holds = is_prop→PathP (λ j. holds_book (e j) ≡ true) (λ j. Bool-set (holds_book (e j)) true) h.holds k.holds i }
+
+-- it is held, or refused where there is none
+held-or : (b : Lent) (x y : Result Held Refusal)
+    → IfOk x (λ h. h.lent ≡ b) × IfErr x (λ e. (e ≡ NoBook) × (holds_book b ≡ false))
+    → IfOk y (λ h. h.lent ≡ b) × IfErr y (λ e. (e ≡ NoBook) × (holds_book b ≡ false)) → x ≡ y
+held-or b (Ok h) (Ok k) p q = ap Ok (held-one h k (same p.0 q.0))
+held-or b (Ok h) (Err f) p q = absurd (false≢true (sym q.1.1 ∙ ap holds_book (sym p.0) ∙ h.holds))
+held-or b (Err e) (Ok k) p q = absurd (false≢true (sym p.1.1 ∙ ap holds_book (sym q.0) ∙ k.holds))
+held-or b (Err e) (Err f) p q = ap Err (same p.1.0 q.1.0)
+
+pub of_unique : Unique of.ended of_reads.Post
+of_unique κs a x y v w p q = (held-or a.0 x y p q, refl)
 
 -- ---- book_building
 pub clear_book_unique : Unique clear_book.ended clear_book_reads.Post
@@ -198,6 +231,10 @@ number_unique κs a x y v w p q = (same p q, refl)
 
 pub wanted_version_unique : Unique wanted_version.ended wanted_version_reads.Post
 wanted_version_unique κs a x y v w p q = (same p q, refl)
+
+-- ---- lookups: listing
+pub first_listed_unique : Unique first_listed.ended first_listed_reads.Post
+first_listed_unique κs a x y v w p q = (same p q, refl)
 
 -- ---- lookups: version_lookup
 pub version_in_book_unique : Unique version_in_book.ended version_in_book_reads.Post

@@ -1,14 +1,30 @@
--- What reads a text leaves one answer and one end state: linker_script, utf8, reading_tokens, reading_cursors, reading_matchers, reading_bodies,
+-- What reads a text leaves one answer and one end state: numbers, linker_script, utf8, reading_tokens, reading_cursors, reading_matchers, reading_bodies,
 -- reading, reading_rows, input, desk_commands. Assumes nothing.
 use Prim.Native.Nat.{ℕ}
 use mathlib.Core.Path.{◌≡◌, refl, sym, ap, ◌∙◌}
 use mathlib.Core.List.{List}
+use mathlib.Core.Bool.{cond}
+use lib.Dec.{eqb}
+use Rattle.std.specs.Prelude.{Option, Some, None, Result, Ok, Err}
+use Rattle.std.proofs.lemmas.Option.{same_Some}
 use lib.ListN.{length}
 use lib.Seq.{length-take-le}
 use Rattle.linker_script.specs.Trim.{trim_end}
+use Rattle.numbers.specs.declared.NoRefusal.{NoRefusal}
+use Rattle.numbers.specs.declared.Refusal.{Refusal}
+use Rattle.numbers.specs.declared.Refusal.TheVariants as no
+use Rattle.numbers.specs.Refusals.{too_long, unreadable, unclosed, bad_extern, glob_not_utf8, bad_pattern, unknown_parent, no_room, name_not_utf8}
+use Rattle.numbers.specs.Refusals.{unknown_version, no_such, nothing_to_undo, wrong_kind, no_book}
+use Rattle.numbers.specs.Saying.{Tells, number as number_of}
 use Rattle.uniqueness.specs.Unique.{Unique, UniqueAs}
 use Rattle.uniqueness.specs.Promises.{Trimmed}
 use Rattle.uniqueness.proofs.Same.{◌▹◌, same}
+use Rattle.numbers.specs.contracts.Refusal.number
+use Rattle.numbers.proofs.Refusal.number.Reads as number_reads
+use Rattle.numbers.specs.contracts.RefusalTryFromU32.try_from
+use Rattle.numbers.proofs.RefusalTryFromU32.try_from.Reads as try_from_reads
+use Rattle.numbers.specs.contracts.EditionFromU32.from as edition_from
+use Rattle.numbers.proofs.EditionFromU32.from.Reads as edition_from_reads
 use Rattle.linker_script.specs.contracts.byte_at
 use Rattle.linker_script.proofs.byte_at.Reads as byte_at_reads
 use Rattle.linker_script.specs.contracts.last_close
@@ -43,6 +59,8 @@ use Rattle.reading_tokens.specs.contracts.bare_skip
 use Rattle.reading_tokens.proofs.bare_skip.Reads as bare_skip_reads
 use Rattle.reading_tokens.specs.contracts.names.is_named
 use Rattle.reading_tokens.proofs.names.is_named.Reads as is_named_reads
+use Rattle.reading_cursors.specs.contracts.places.PlaceFromU32.from as place_from
+use Rattle.reading_cursors.proofs.places.PlaceFromU32.from.Reads as place_from_reads
 use Rattle.reading_cursors.specs.contracts.start_at
 use Rattle.reading_cursors.proofs.start_at.Reads as start_at_reads
 use Rattle.reading_cursors.specs.contracts.move_to
@@ -95,6 +113,62 @@ use Rattle.desk_commands.specs.contracts.parts.tail
 use Rattle.desk_commands.proofs.parts.tail.Reads as tail_reads
 use Rattle.desk_commands.specs.contracts.command_of
 use Rattle.desk_commands.proofs.command_of.Reads as command_of_reads
+
+-- ---- numbers
+pub number_unique : Unique number.ended number_reads.Post
+number_unique κs a x y v w p q = (same p q, refl)
+
+-- the refusal of a number
+named : ℕ → Option Refusal
+named n =
+    cond (eqb n too_long) (Some no.TooLong)
+    (cond (eqb n unreadable) (Some no.Unreadable)
+    (cond (eqb n unclosed) (Some no.Unclosed)
+    (cond (eqb n bad_extern) (Some no.BadExtern)
+    (cond (eqb n glob_not_utf8) (Some no.GlobNotUtf8)
+    (cond (eqb n bad_pattern) (Some no.BadPattern)
+    (cond (eqb n unknown_parent) (Some no.UnknownParent)
+    (cond (eqb n no_room) (Some no.NoRoom)
+    (cond (eqb n name_not_utf8) (Some no.NameNotUtf8)
+    (cond (eqb n unknown_version) (Some no.UnknownVersion)
+    (cond (eqb n no_such) (Some no.NoSuch)
+    (cond (eqb n nothing_to_undo) (Some no.NothingToUndo)
+    (cond (eqb n wrong_kind) (Some no.WrongKind)
+    (cond (eqb n no_book) (Some no.NoBook) None)))))))))))))
+
+named_by : (e : Refusal) → named (number_of e) ≡ Some e
+unfolding named
+named_by no.TooLong = refl
+named_by no.Unreadable = refl
+named_by no.Unclosed = refl
+named_by no.BadExtern = refl
+named_by no.GlobNotUtf8 = refl
+named_by no.BadPattern = refl
+named_by no.UnknownParent = refl
+named_by no.NoRoom = refl
+named_by no.NameNotUtf8 = refl
+named_by no.UnknownVersion = refl
+named_by no.NoSuch = refl
+named_by no.NothingToUndo = refl
+named_by no.WrongKind = refl
+named_by no.NoBook = refl
+
+-- no two refusals have one number
+number-one : (e f : Refusal) → number_of e ≡ number_of f → e ≡ f
+number-one e f h = same_Some e f (sym (named_by e) ∙ ap named h ∙ named_by f)
+
+-- a number has one refusal, or none
+tells-one : (n : ℕ) (x y : Result Refusal NoRefusal) → Tells n x → Tells n y → x ≡ y
+tells-one n (Ok e) (Ok f) p q = ap Ok (number-one e f (same p q))
+tells-one n (Ok e) (Err g) p q = absurd (q.1 e p)
+tells-one n (Err g) (Ok e) p q = absurd (p.1 e q)
+tells-one n (Err g) (Err h) p q = ap Err (λ i. record { 0 = same p.0 q.0 i })
+
+pub try_from_unique : Unique try_from.ended try_from_reads.Post
+try_from_unique κs a x y v w p q = (tells-one a.0 x y p q, refl)
+
+pub edition_from_unique : Unique edition_from.ended edition_from_reads.Post
+edition_from_unique κs a x y v w p q = (same p q, refl)
 
 -- ---- linker_script
 pub byte_at_unique : Unique byte_at.ended byte_at_reads.Post
@@ -158,6 +232,9 @@ pub is_named_unique : Unique is_named.ended is_named_reads.Post
 is_named_unique κs a x y v w p q = (same p q, refl)
 
 -- ---- reading_cursors
+pub place_from_unique : Unique place_from.ended place_from_reads.Post
+place_from_unique κs a x y v w p q = (same p q, refl)
+
 pub start_at_unique : Unique start_at.ended start_at_reads.Post
 start_at_unique κs a x y v w p q = (same p q, refl)
 
