@@ -78,5 +78,8 @@ pub fn locality(book: Lent, raw: &[u8], demangled: &[u8]) -> Result<Option<Local
         (view_of book.entry)
         (name_of raw.now demangled.now) }
 {
-    locality_in_book(Held::of(book)?, raw, demangled)
+    match Held::of(book) {
+        Ok(held) => locality_in_book(held, raw, demangled),
+        Err(no) => Err(no),
+    }
 }

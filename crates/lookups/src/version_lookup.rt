@@ -44,7 +44,7 @@ fn decided_version(
     ensures { result ≡ version_among (frame_of c) (name_of raw.now demangled.now)
         (things line_form c.lines lines.now pool.now) }
 {
-    let i = find_match(
+    match find_match(
         frame_of(c),
         lines,
         pool,
@@ -52,8 +52,10 @@ fn decided_version(
         c.pool as usize,
         raw,
         demangled,
-    )?;
-    node_version(lines[LINE_WIDTH * i])
+    ) {
+        Some(i) => node_version(lines[LINE_WIDTH * i]),
+        None => None,
+    }
 }
 
 // Whether a version is wanted that is over its limit.
@@ -81,7 +83,10 @@ pub fn version_in_book(book: Held, raw: &[u8], demangled: &[u8], wanted: Option<
         return Ok(None);
     }
     match wanted {
-        Some(wanted) => Ok(Some(wanted_version(c, book.lent.nodes, book.lent.names, wanted)?)),
+        Some(wanted) => match wanted_version(c, book.lent.nodes, book.lent.names, wanted) {
+            Ok(index) => Ok(Some(index)),
+            Err(unknown) => Err(unknown),
+        },
         None => Ok(decided_version(c, book.lent.lines, book.lent.pool, raw, demangled)),
     }
 }
@@ -97,5 +102,8 @@ pub fn version_for_symbol(
         (view_of book.entry)
         (name_of raw.now demangled.now) (bytes_of wanted.entry) }
 {
-    version_in_book(Held::of(book)?, raw, demangled, wanted)
+    match Held::of(book) {
+        Ok(held) => version_in_book(held, raw, demangled, wanted),
+        Err(no) => Err(no),
+    }
 }

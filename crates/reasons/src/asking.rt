@@ -40,15 +40,17 @@ pub fn why_in_book(
     if is_barred(c.kind, wanted) {
         return Err(Refusal::WrongKind);
     }
-    name_refusal(raw, demangled, is_long(wanted))?;
+    if let Err(no) = name_refusal(raw, demangled, is_long(wanted)) {
+        return Err(no);
+    }
     if c.kind == RUST {
         return Ok(rust_why(c, book.lent.lines, book.lent.pool, raw));
     }
     match wanted {
-        Some(wanted) => {
-            wanted_version(c, book.lent.nodes, book.lent.names, wanted)?;
-            Ok(Why::Wanted)
-        }
+        Some(wanted) => match wanted_version(c, book.lent.nodes, book.lent.names, wanted) {
+            Ok(_) => Ok(Why::Wanted),
+            Err(unknown) => Err(unknown),
+        },
         None => Ok(ranked_why(c, book.lent.lines, book.lent.pool, raw, demangled)),
     }
 }
@@ -59,5 +61,8 @@ pub fn why(book: Lent, raw: &[u8], demangled: &[u8], wanted: Option<&[u8]>) -> R
         (view_of book.entry)
         (name_of raw.now demangled.now) (bytes_of wanted.entry) }
 {
-    why_in_book(Held::of(book)?, raw, demangled, wanted)
+    match Held::of(book) {
+        Ok(held) => why_in_book(held, raw, demangled, wanted),
+        Err(no) => Err(no),
+    }
 }

@@ -22,21 +22,20 @@ returns-then-c-eq-RUST c =
 pub wanted_version-requires : goal.wanted_version-requires
 wanted_version-requires c = asks-wanted _ _ _ _ _ _ c.args.book.holds
 
-pub returns-in_err-wanted_version-in-Some : goal.returns-in_err-wanted_version-in-Some
-returns-in_err-wanted_version-in-Some c =
-    let p = err_from_is_err_and c.from_residual-in_err-wanted_version-in-Some.result c.from_residual-in_err-wanted_version-in-Some.ensures.1 in
-    let w = version_wanted _ _ _ _ _ _ _ _ _ c.args.book.holds c.if-c-eq-EXPORT.false _ c.is_long.ensures _ c.name_refusal.ensures _ c.in_ok-name_refusal.was
-    c.if-c-eq-RUST.false _ (ap bytes_of c.in-Some.is) _ c.wanted_version.ensures in
-    rw (p.1, p.2) (rw c.in_err-wanted_version-in-Some.was at w)
-
 pub decided_version-requires : goal.decided_version-requires
 decided_version-requires c = asks_decider _ _ _ _ _ _ _ _ c.args.book.holds _ _ c.name_refusal.ensures _ c.in_ok-name_refusal.was
 
-pub returns-in_ok-wanted_version-in-Some : goal.returns-in_ok-wanted_version-in-Some
-returns-in_ok-wanted_version-in-Some c =
+pub returns-in-Ok : goal.returns-in-Ok
+returns-in-Ok c =
     let w = version_wanted _ _ _ _ _ _ _ _ _ c.args.book.holds c.if-c-eq-EXPORT.false _ c.is_long.ensures _ c.name_refusal.ensures _ c.in_ok-name_refusal.was
     c.if-c-eq-RUST.false _ (ap bytes_of c.in-Some.is) _ c.wanted_version.ensures in
-    rw c.in_ok-wanted_version-in-Some.was at w
+    rw c.in-Ok.is at w
+
+pub returns-in-Err : goal.returns-in-Err
+returns-in-Err c =
+    let w = version_wanted _ _ _ _ _ _ _ _ _ c.args.book.holds c.if-c-eq-EXPORT.false _ c.is_long.ensures _ c.name_refusal.ensures _ c.in_ok-name_refusal.was
+    c.if-c-eq-RUST.false _ (ap bytes_of c.in-Some.is) _ c.wanted_version.ensures in
+    rw c.in-Err.is at w
 
 pub returns-in-None : goal.returns-in-None
 returns-in-None c =
