@@ -91,7 +91,8 @@ fn sole_end(c: Cursor, s: &[u8], p: usize) -> Step
     refuse(Refusal::Unreadable, q)
 }
 
-// In a body, not at its `}`.
+// In a body, not at its `}`. Always inlined, for the reason that `reading_matchers` gives.
+#[inline(always)]
 fn inside_body(c: Cursor, s: &[u8], inner: Place, p: usize) -> Step
     ensures { result ≡ inside_body c s.now inner p }
 {

@@ -11,14 +11,14 @@ use numbers::{Edition, Refusal};
 
 pub mod places;
 
-// Where a reading stands: the place in the text, the place in the grammar, the section and language that a line there gets, and the edition in which it is
-// read.
+// Where a reading stands: the place in the text, the section and language that a line there gets, the place in the grammar, and the edition in which it is
+// read. Fields lie in this order: the two of one byte are last, as each gap between fields is copied in pieces of its own.
 #[derive(Clone, Copy)]
 pub struct Cursor {
     pub at: usize,
-    pub place: Place,
     pub section: u32,
     pub language: u32,
+    pub place: Place,
     pub edition: Edition,
 }
 

@@ -1,4 +1,5 @@
-// Matchers: tokens and extern blocks, the leaves of the reader's steps. Definitions: specs/Matchers.antt, from document 01, 'Reading'.
+// Matchers: tokens and extern blocks, the leaves of the reader's steps. Definitions: specs/Matchers.antt, from document 01, 'Reading'. What most steps of a
+// reading pass is always inlined, since a step that comes out of a call is copied once more.
 #![tactic(auto)]
 
 ghost use Rattle.std.specs.Prelude.{◌≡◌, ◌<◌, ◌≤◌, length};
@@ -59,6 +60,7 @@ fn token_end(end: Result<usize, Refusal>, p: usize) -> Result<usize, RefusedAt>
 }
 
 // A token from p to its end, a skip, a `;` if there.
+#[inline(always)]
 fn line_to(c: Cursor, s: &[u8], place: Place, p: usize, end: Result<usize, Refusal>) -> Step
     ensures { result ≡ line_to c s.now place p end }
 {
@@ -115,6 +117,7 @@ fn extern_inside(c: Cursor, s: &[u8], place: Place, p: usize, end: Result<usize,
 }
 
 // `last` is the place from which on the text has no `};`.
+#[inline(always)]
 pub fn in_extern(c: Cursor, last: usize, s: &[u8], place: Place) -> Step
     requires { last ≡ last_close s.now }
     ensures { result ≡ in_extern c s.now place }
@@ -135,6 +138,7 @@ pub fn in_bare(c: Cursor, last: usize, s: &[u8], place: Place) -> Step
 }
 
 // A matcher at p; an extern block of it is read at `inner`, and behind its token the reading stands at `place`.
+#[inline(always)]
 pub fn parse_matcher(c: Cursor, s: &[u8], inner: Place, place: Place, p: usize) -> Step
     ensures { result ≡ matcher c s.now inner place p }
 {
