@@ -147,10 +147,11 @@ pub fn copy_kept(edition: Edition, token: &[u8], out: &mut [u8]) -> usize
     for i in 0..token.len() {
         let s = step_at(edition, token, i, w);
         w = s.then;
-        if let Some(c) = s.put {
-            out[n] = c;
-            n += 1;
-        }
+        let Some(c) = s.put else {
+            continue;
+        };
+        out[n] = c;
+        n += 1;
     }
     n
 }

@@ -2,7 +2,6 @@
 use Rattle.storing.proofs.Squeezing.{copied_none, copied_less, copied_room, copied_more, copied_long, copied_all, copied_count}
 use Rattle.storing.proofs.Plain.{plain_fits, plain-count, plain_copied}
 use Rattle.storing.proofs.runs.copy_kept.Goals as goal
-use Rattle.storing.proofs.runs.copy_kept.Goals.{in-Some, in_default}
 
 pub copy-requires : goal.copy-requires
 copy-requires c = search plain_fits
@@ -17,7 +16,10 @@ pub bounds-out-n : goal.bounds-out-n
 bounds-out-n c = search copied_room
 
 pub loop-i-preserved : goal.loop-i-preserved
-loop-i-preserved c = elim c.match-s.branch [ in-Some w ↦ rw (w.out-is, w.n-is) (search copied_more) | in_default w ↦ rw (w.out-is, w.n-is) (search copied_less) ]
+loop-i-preserved c = search copied_more
+
+pub loop-i-preserved-in_default : goal.loop-i-preserved-in_default
+loop-i-preserved-in_default c = search copied_less
 
 pub shape_of-out : goal.shape_of-out
 shape_of-out c = search copied_long
